@@ -25,10 +25,7 @@ use Rattle.blk.specs.declared.advancing.Advanced.TheVariants.{Idle, Moved, Compl
 abbrev pub data_written : Kind → ℕ → ℕ
 data_written kind.In done = SECTOR_SIZE * done
 data_written kind.GetId done = ID_SIZE * done
-data_written kind.Out done = 0
-data_written kind.Flush done = 0
-data_written kind.Refused done = 0
-data_written kind.Zero done = 0
+data_written _ done = 0
 
 -- The used length: the bytes of data, and the verdict's byte too if it follows them directly, since only contiguous bytes
 -- from the first one on may be reported as written (VIRTIO 1.2, 2.7.8.2 and 2.8.4).

@@ -14,10 +14,7 @@ use Rattle.blk.specs.declared.request.Request.{Request}
 abbrev pub is_write : Kind → Bool
 is_write kinds.Out = true
 is_write kinds.Zero = true
-is_write kinds.In = false
-is_write kinds.Flush = false
-is_write kinds.GetId = false
-is_write kinds.Refused = false
+is_write _ = false
 
 -- All that such a request asks for was done, and its next step ends it. Where the driver did not accept FLUSH, bit 9, that end says that
 -- what was written is durable.
@@ -37,6 +34,5 @@ abbrev pub owed_at : ℕ → Block → ℕ → SyncOwed
 owed_at features b k = owed_if features (slice_get b.requests k)
 
 abbrev pub is_flush_owed : SyncOwed → Bool
-is_flush_owed Nothing = false
 is_flush_owed Flush = true
-is_flush_owed EndOfWrite = false
+is_flush_owed _ = false

@@ -5,16 +5,12 @@ use Rattle.blk.specs.Move.{move_flush}
 use Rattle.blk.specs.declared.block.Block.{Block}
 use Rattle.blk.specs.Request.{is_open}
 use Rattle.blk.specs.declared.request.Kind.{Kind}
-use Rattle.blk.specs.declared.request.Kind.TheVariants.{Refused, In, Out, Flush, GetId, Zero}
+use Rattle.blk.specs.declared.request.Kind.TheVariants.{Flush}
 use Rattle.blk.specs.declared.request.Request.{Request}
 
 abbrev pub is_flush : Kind → Bool
 is_flush Flush = true
-is_flush Refused = false
-is_flush In = false
-is_flush Out = false
-is_flush GetId = false
-is_flush Zero = false
+is_flush _ = false
 
 -- The next unit of the request flushes the disk.
 abbrev pub flushes : Request → Bool

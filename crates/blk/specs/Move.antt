@@ -15,7 +15,7 @@ use Rattle.blk.specs.declared.request.Kind.TheVariants as kind
 use Rattle.blk.specs.declared.request.Verdict.TheVariants.{IoError}
 use Rattle.blk.specs.declared.request.Request.{Request}
 use Rattle.blk.specs.declared.advancing.Advanced.{Advanced}
-use Rattle.blk.specs.declared.advancing.Advanced.TheVariants.{Idle, Moved, BadSector, DiskFailed, Completed}
+use Rattle.blk.specs.declared.advancing.Advanced.TheVariants.{Moved, BadSector, DiskFailed}
 
 -- A change of a sector: its new bytes, or None if it becomes bad.
 pub record SectorSet : Type 0 where
@@ -97,27 +97,20 @@ move_of kind.Zero base id ram content r is_fine = move_zero r is_fine
 
 -- Whether the disk failed, by the answer.
 abbrev pub is_disk_failed : Advanced → Bool
-is_disk_failed Idle = false
-is_disk_failed Moved = false
-is_disk_failed BadSector = false
 is_disk_failed DiskFailed = true
-is_disk_failed (Completed len is_due) = false
+is_disk_failed _ = false
 
 -- Whether the sector was bad, by the answer.
 abbrev pub is_bad_sector : Advanced → Bool
-is_bad_sector Idle = false
-is_bad_sector Moved = false
 is_bad_sector BadSector = true
-is_bad_sector DiskFailed = false
-is_bad_sector (Completed len is_due) = false
+is_bad_sector _ = false
 
 -- The request after one unit, by the answer.
 abbrev pub after_unit : Request → Advanced → Request
-after_unit r Idle = r
 after_unit r Moved = one_done r
 after_unit r BadSector = failed r
 after_unit r DiskFailed = failed r
-after_unit r (Completed len is_due) = r
+after_unit r _ = r
 
 -- Each of these changes makes its sector bad.
 abbrev pub AreMadeBad : List SectorSet → Type 0

@@ -12,8 +12,7 @@ verdict_byte Unsupported = 2
 
 abbrev pub is_good : Verdict → Bool
 is_good Good = true
-is_good IoError = false
-is_good Unsupported = false
+is_good _ = false
 
 -- A request with no error yet and units to do.
 abbrev pub is_open : Request → Bool

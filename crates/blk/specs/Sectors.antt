@@ -1,5 +1,5 @@
 -- The sectors of a disk, some of which may be bad.
-use Rattle.std.specs.Prelude.{All, ◌≡◌, ℕ, ◌+◌, ◌%◌, ◌^◌, List, [], ◌∷◌, length, map, Bool, true, false, IsTrue, Option, Some, None, slice_set, slice_index_or, if◌then◌else◌}
+use Rattle.std.specs.Prelude.{All, ◌≡◌, ℕ, ◌+◌, ◌%◌, ◌^◌, List, [], ◌∷◌, length, map, Bool, true, false, IsTrue, Option, Some, None, slice_index_or, if◌then◌else◌}
 use Rattle.blk.specs.Disk.{DiskState, IsSector}
 use Rattle.blk.specs.declared.sectors.Fetched.{Fetched}
 use Rattle.blk.specs.declared.sectors.Fetched.TheVariants.{Bad, Failed, Read}
@@ -61,10 +61,6 @@ seen_of d marks = record { content = sectors_of d.sectors marks; failures = d.fa
 abbrev pub called_seen_of : DiskState → ℕ → List Bool → SectorsState
 called_seen_of d calls marks = record (seen_of d marks) { calls = calls }
 
--- The same state, with sector n replaced.
-abbrev pub set_sector : SectorsState → ℕ → Sector → SectorsState
-set_sector s n sector = record s { content = slice_set s.content n sector }
-
 -- A count of failures, modulo 2^64, after a call that failed or did not.
 abbrev pub counted_if : Bool → ℕ → ℕ
 counted_if failed failures = if failed then (failures + 1) % 2 ^ 64 else failures
@@ -84,13 +80,11 @@ Calls called made old new = new.calls ≡ (if made then called old.calls else ol
 
 abbrev pub is_asked : Fetched → Bool
 is_asked Bad = false
-is_asked Failed = true
-is_asked Read = true
+is_asked _ = true
 
 abbrev pub is_failed : Fetched → Bool
-is_failed Bad = false
 is_failed Failed = true
-is_failed Read = false
+is_failed _ = false
 
 -- What the result of reading a sector says. Bad: the sector is bad, and is not read. Failed: it is not bad. Read: it is not
 -- bad, and an honest disk returned its bytes.

@@ -78,9 +78,9 @@ impl Block {
     {
         let limits = self.limits(features);
         self.requests.len() <= REQUESTS_MAX
-            && self
-                .requests
-                .are_sound(base, ram_len, is_packed, queue.size, limits)
+            && self.requests.as_slice().iter().all(|request| request.is_sound(
+                base, ram_len, is_packed, queue.size, limits,
+            ))
             && (queue.is_ready || self.requests.is_empty())
     }
 

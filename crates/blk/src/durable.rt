@@ -4,7 +4,7 @@
 //! and an end cannot fail. So a host flushes before that step, and does not make the step where that failed.
 
 ghost use Rattle.std.specs.Prelude.{◌≡◌};
-ghost use Rattle.blk.specs.Durable.{ends_write, is_flush_owed, is_write, owed_at, owed_by};
+ghost use Rattle.blk.specs.Durable.{ends_write, is_flush_owed, owed_at, owed_by};
 ghost use Rattle.blk.specs.Flush.{flushes, flushes_at};
 
 use crate::block::Block;
@@ -59,14 +59,6 @@ fn ends_write(request: &Request, features: u64) -> bool
     let Verdict::Good = request.verdict else {
         return false;
     };
-    request.done == request.units && is_write(request.kind) && features & FLUSH != FLUSH
-}
-
-fn is_write(kind: Kind) -> bool
-    ensures { result ≡ is_write kind }
-{
-    match kind {
-        Kind::Out | Kind::Zero => true,
-        Kind::In | Kind::Flush | Kind::GetId | Kind::Refused => false,
-    }
+    let is_write = matches!(&request.kind, Kind::Out | Kind::Zero);
+    request.done == request.units && is_write && features & FLUSH != FLUSH
 }

@@ -134,30 +134,6 @@ fn seek_to<F: Seek>(file: &mut F, n: u64, next: Option<u64>) -> io::Result<()>
     Err(io::Error::from(ErrorKind::Other))
 }
 
-fn read_sector<F: Read + Seek>(
-    file: &mut F,
-    n: u64,
-    next: Option<u64>,
-    buf: &mut [u8; SECTOR_SIZE],
-) -> io::Result<()>
-    requires { 512 * n < 2 ^ 64 }
-{
-    seek_to(file, n, next)?;
-    file.read_exact(buf)
-}
-
-fn write_sector<F: Write + Seek>(
-    file: &mut F,
-    n: u64,
-    next: Option<u64>,
-    bytes: &[u8; SECTOR_SIZE],
-) -> io::Result<()>
-    requires { 512 * n < 2 ^ 64 }
-{
-    seek_to(file, n, next)?;
-    file.write_all(bytes)
-}
-
 impl<F: Read + Write + Seek + OpenFile + Drop> Disk for FileDisk<F> {
     ghost state = { λ d. d };
 
@@ -166,13 +142,19 @@ impl<F: Read + Write + Seek + OpenFile + Drop> Disk for FileDisk<F> {
     }
 
     fn read(&mut self, n: u64, buf: &mut [u8; 512]) -> Result<(), DiskFault> {
-        let outcome = read_sector(&mut self.file, n, self.next, buf);
+        let outcome = match seek_to(&mut self.file, n, self.next) {
+            Ok(()) => self.file.read_exact(buf),
+            Err(error) => Err(error),
+        };
         self.moved(n, outcome)
     }
 
     fn write(&mut self, n: u64, bytes: &[u8; 512]) -> Result<(), DiskFault> {
         self.is_flushed = false;
-        let outcome = write_sector(&mut self.file, n, self.next, bytes);
+        let outcome = match seek_to(&mut self.file, n, self.next) {
+            Ok(()) => self.file.write_all(bytes),
+            Err(error) => Err(error),
+        };
         self.moved(n, outcome)
     }
 

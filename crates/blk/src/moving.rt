@@ -1,16 +1,14 @@
 //! One unit of a request.
 
 ghost use Rattle.std.specs.Prelude.{◌≡◌, ◌≤◌, ◌<◌, ◌+◌, ◌^◌, ◌*◌, IsTrue, length, not, true};
-ghost use Rattle.guestmem.specs.Item.{MayPages, after_all, sector};
+ghost use Rattle.guestmem.specs.Item.{MayPages, sector};
 ghost use Rattle.guestmem.specs.Memory.{Memory};
-ghost use Rattle.guestmem.specs.Writes.{set_all, touched};
-ghost use Rattle.guestmem.specs.Rises.{Rises};
 ghost use Rattle.chains.specs.Frame.{HasServed};
 ghost use Rattle.chains.specs.Places.{places, AreSegmentsInside};
 ghost use Rattle.blk.specs.Request.{is_open, next_sector};
 ghost use Rattle.blk.specs.Advance.{asks};
 ghost use Rattle.blk.specs.Sectors.{AreWhole, Calls, IsKept};
-ghost use Rattle.blk.specs.Move.{HasMoved, MaySectors, unit_scene, move_in, move_out, move_zero, move_flush, move_id, move_of, write_unit, after_unit, is_disk_failed};
+ghost use Rattle.blk.specs.Move.{HasMoved, MaySectors, unit_scene, move_in, move_flush, move_of, unit_bytes, write_unit, after_unit, is_disk_failed};
 ghost use Rattle.blk.specs.Block.{widest};
 ghost use Rattle.blk.specs.Sound.{HasSoundWork};
 ghost use Rattle.blk.specs.declared.advancing.Advanced.TheVariants.{Moved};
@@ -73,58 +71,21 @@ fn move_in<D: Disk, L: TouchLog>(
     }
 }
 
-/// Writes the readable bytes of one unit into a sector.
-fn move_out<D: Disk, L: TouchLog>(
-    job: Job,
-    request: &mut Request,
-    sectors: &mut Sectors<D>,
-    ram: &mut Ram,
-    log: &mut L,
-) -> Advanced
-    requires inside { AreSegmentsInside job.base (length ram.old.bytes) request.old.readable }
-    requires places { HEADER_SIZE + SECTOR_SIZE * request.old.done + SECTOR_SIZE ≤ length (places request.old.readable) }
-    requires sector { request.old.first + request.old.done < length sectors.old.content }
-    requires open { request.old.done < request.old.units }
-    requires small { length sectors.old.content < 2 ^ 64 }
-    requires whole { AreWhole sectors.old.content }
-    requires may { MayPages L.may log.old (length ram.old.bytes) }
-    requires may_sectors { MaySectors L.may log.old job.device (length sectors.old.content) }
-    ensures moved { HasMoved L.after job.device (unit_scene ram.old log.old sectors.old request.old) (unit_scene ram.new log.new sectors.new request.new) (λ given. move_out job.base ram.old.bytes) result }
-    ensures request { request.new ≡ after_unit request.old result }
-    ensures kept { IsKept sectors.old (is_disk_failed result) sectors.new }
-    ensures calls { Calls D.called true sectors.old sectors.new }
-    ensures after { HasServed L.may ram.old ram.new log.new }
+/// The readable bytes of the next unit of a request.
+fn unit_bytes(base: u64, request: &Request, ram: &Ram) -> [u8; SECTOR_SIZE]
+    requires inside { AreSegmentsInside base (length ram.now.bytes) request.now.readable }
+    requires places { HEADER_SIZE + SECTOR_SIZE * request.now.done + SECTOR_SIZE ≤ length (places request.now.readable) }
+    ensures { result ≡ unit_bytes base ram.now.bytes request.now }
 {
     let mut buffer = [0; SECTOR_SIZE];
     copy_out_with_base(
         ram,
-        job.base,
+        base,
         request.readable.as_slice(),
         HEADER_SIZE as u64 + SECTOR_SIZE as u64 * request.done as u64,
         &mut buffer,
     );
-    write_unit(job.device, &buffer, request, sectors, log)
-}
-
-/// Clears the sector of one unit.
-fn move_zero<D: Disk, L: TouchLog>(
-    device: u8,
-    request: &mut Request,
-    sectors: &mut Sectors<D>,
-    log: &mut L,
-) -> Advanced
-    requires sector { request.old.first + request.old.done < length sectors.old.content }
-    requires open { request.old.done < request.old.units }
-    requires small { length sectors.old.content < 2 ^ 64 }
-    requires whole { AreWhole sectors.old.content }
-    requires may_sectors { MaySectors L.may log.old device (length sectors.old.content) }
-    ensures moved { (ram : Memory) → HasMoved L.after device (unit_scene ram log.old sectors.old request.old) (unit_scene ram log.new sectors.new request.new) (λ given. move_zero) result }
-    ensures request { request.new ≡ after_unit request.old result }
-    ensures kept { IsKept sectors.old (is_disk_failed result) sectors.new }
-    ensures calls { Calls D.called true sectors.old sectors.new }
-    ensures log { log.new ≡ L.after log.old (sector device (next_sector request.old)) }
-{
-    write_unit(device, &[0; SECTOR_SIZE], request, sectors, log)
+    buffer
 }
 
 /// Writes these bytes into the sector of one unit.
@@ -176,30 +137,6 @@ fn move_flush<D: Disk>(request: &mut Request, sectors: &mut Sectors<D>) -> Advan
     Advanced::Moved
 }
 
-/// Writes the id of the device into the first writable bytes of a request.
-fn move_id<L: TouchLog>(
-    base: u64,
-    id: &[u8; ID_SIZE],
-    request: &mut Request,
-    ram: &mut Ram,
-    log: &mut L,
-) -> Advanced
-    requires inside { AreSegmentsInside base (length ram.old.bytes) request.old.writable }
-    requires places { ID_SIZE ≤ length (places request.old.writable) }
-    requires open { request.old.done < request.old.units }
-    requires may { MayPages L.may log.old (length ram.old.bytes) }
-    ensures answer { result ≡ Moved }
-    ensures request { request.new ≡ (move_id base id.now request.old).request }
-    ensures bytes { ram.new.bytes ≡ set_all ram.old.bytes (move_id base id.now request.old).writes }
-    ensures log { log.new ≡ after_all L.after log.old (touched (move_id base id.now request.old).writes) }
-    ensures rises { Rises (touched (move_id base id.now request.old).writes) ram.old ram.new }
-    ensures after { HasServed L.may ram.old ram.new log.new }
-{
-    copy_in_with_base(ram, base, request.writable.as_slice(), 0, id, log);
-    request.done += 1;
-    Advanced::Moved
-}
-
 /// Does one unit of a request of a device with this id.
 pub(crate) fn move_unit<D: Disk, L: TouchLog>(
     job: Job,
@@ -227,10 +164,20 @@ pub(crate) fn move_unit<D: Disk, L: TouchLog>(
 {
     match request.kind {
         Kind::In => move_in(job, request, sectors, ram, log),
-        Kind::Out => move_out(job, request, sectors, ram, log),
+        Kind::Out => {
+            let bytes = unit_bytes(job.base, request, ram);
+            write_unit(job.device, &bytes, request, sectors, log)
+        }
         Kind::Flush => move_flush(request, sectors),
-        Kind::GetId => move_id(job.base, id, request, ram, log),
-        Kind::Zero => move_zero(job.device, request, sectors, log),
+        Kind::GetId => {
+            copy_in_with_base(ram, job.base, request.writable.as_slice(), 0, id, log);
+            request.done += 1;
+            Advanced::Moved
+        }
+        Kind::Zero => {
+            let bytes = [0; SECTOR_SIZE];
+            write_unit(job.device, &bytes, request, sectors, log)
+        }
         Kind::Refused => Advanced::Idle,
     }
 }

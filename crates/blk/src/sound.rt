@@ -1,6 +1,6 @@
 //! Whether requests that are given to a device may be outstanding.
 
-ghost use Rattle.std.specs.Prelude.{◌≡◌, ◌≤◌, ◌<◌, ◌+◌, ◌^◌, ◌↔◌, IsTrue, All, length, true, false};
+ghost use Rattle.std.specs.Prelude.{◌≡◌, ◌≤◌, ◌<◌, ◌+◌, ◌^◌, ◌↔◌, IsTrue, length, true, false};
 ghost use Rattle.std.specs.Bool.{MatchBool};
 ghost use Rattle.chains.specs.Places.{places, AreSegmentsInside};
 ghost use Rattle.blk.specs.Request.{is_good};
@@ -8,26 +8,9 @@ ghost use Rattle.blk.specs.Sound.{HasSoundWork, IsSoundRequest, IsSoundWork, May
 
 use crate::disk::SECTOR_SIZE;
 use crate::request::{HEADER_SIZE, Kind, Request, SEGMENT_SIZE, Verdict};
-use crate::requests::Requests;
 use crate::shape::{ID_SIZE, Limits, ZEROES_MAX};
 use chains::Seg;
 use guestmem::is_within;
-
-impl Requests {
-    /// Whether each of them may be outstanding, where the driver may ask for this (see `Request::is_sound`).
-    pub(crate) fn are_sound(
-        &self,
-        base: u64,
-        ram_len: u64,
-        is_packed: bool,
-        size: u32,
-        limits: Limits,
-    ) -> bool
-        ensures { IsTrue result ↔ All (IsSoundRequest base ram_len is_packed size limits) self.now }
-    {
-        self.list.iter().all(|request| request.is_sound(base, ram_len, is_packed, size, limits))
-    }
-}
 
 impl Request {
     /// Whether it may be outstanding, in a RAM of `ram_len` bytes with this base, on a ring of this layout with `size` slots,

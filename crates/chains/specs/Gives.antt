@@ -20,10 +20,8 @@ Gives ram q kinds.NoMemory c = IsLongQueue ram q
 
 -- A chain that was filled in keeps the bounds.
 abbrev pub GivesBounded : ℕ → RingState → NextKind → Chain → Type 0
-GivesBounded len q kinds.Empty c = Unit {0}
-GivesBounded len q kinds.Malformed c = Unit {0}
 GivesBounded len q kinds.Chain c = IsBounded len q c
-GivesBounded len q kinds.NoMemory c = Unit {0}
+GivesBounded len q _ c = Unit {0}
 
 -- What a search for the chain of a queue that is not empty gives, by the chain that it has filled in.
 abbrev pub ChainGives : List ℕ → RingState → Chain → Result (Unit {0}) NoChain → Type 0

@@ -45,13 +45,9 @@ LookGives wanted ram q (Ok done) c = Sees wanted ram q (Found c) × (fits wanted
 -- What a look writes: the event note if the queue is empty.
 abbrev pub look_writes : RingState → Result (Unit {0}) Unserved → List Write
 look_writes q (Err why.Empty) = event_note q
-look_writes q (Err why.Malformed) = []
-look_writes q (Err why.NoMemory) = []
-look_writes q (Ok done) = []
+look_writes q _ = []
 
 -- `P`, unless the queue is empty.
 abbrev pub UnlessEmpty : Result (Unit {0}) Unserved → Type 0 → Type 0
 UnlessEmpty (Err why.Empty) P = Unit {0}
-UnlessEmpty (Err why.Malformed) P = P
-UnlessEmpty (Err why.NoMemory) P = P
-UnlessEmpty (Ok done) P = P
+UnlessEmpty _ P = P

@@ -37,6 +37,5 @@ pub record IsBounded (len : ℕ) (q : RingState) (c : Chain) : Type 0 where
 
 -- If this is a chain, it keeps these bounds.
 abbrev pub IsBoundedNext : ℕ → RingState → Next → Type 0
-IsBoundedNext len q Empty = Unit {0}
-IsBoundedNext len q Malformed = Unit {0}
 IsBoundedNext len q (Found c) = IsBounded len q c
+IsBoundedNext len q _ = Unit {0}

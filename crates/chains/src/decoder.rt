@@ -84,7 +84,7 @@ impl Decoder {
     /// descriptors may be kept; the caller's part is then that what is kept fits RAM, and that the table is aligned, so
     /// that no descriptor lies in two pages.
     #[inline(always)]
-    #[tactic(auto, unfolding(crate::specs::Descriptor::descriptor_at))]
+    #[tactic(auto, unfolding(crate::specs::Descriptor::descriptor_at, crate::specs::Descriptor::descriptor_in))]
     pub fn read(
         &mut self,
         ram: &Ram,
@@ -106,7 +106,7 @@ impl Decoder {
         if is_own {
             self.read_own(ram, is_packed, index, entry as usize % KEPT_MAX)
         } else {
-            self.read_anew(ram, is_packed, index)
+            decode(is_packed, self.read_words(ram, index))
         }
     }
 
@@ -136,18 +136,6 @@ impl Decoder {
             words,
         });
         decode(is_packed, words)
-    }
-
-    /// The descriptor at an index of RAM, read without a look at what is kept.
-    #[tactic(auto, unfolding(crate::specs::Descriptor::descriptor_in))]
-    fn read_anew(&mut self, ram: &Ram, is_packed: bool, index: u64) -> Descriptor
-        requires inside { index + DESCRIPTOR_SIZE ≤ length ram.now.bytes }
-        ensures descriptor { result ≡ descriptor_in is_packed ram.now.bytes index }
-        ensures count { self.new.decoded ≡ raised self.old.decoded }
-        ensures kept { self.new.kept ≡ self.old.kept }
-    {
-        ram.recall();
-        decode(is_packed, self.read_words(ram, index))
     }
 
     /// Reads the bytes of a descriptor and counts it: each one that is decoded from RAM is read here.

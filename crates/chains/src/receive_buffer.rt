@@ -39,8 +39,7 @@ pub fn fill<R: Ring, L: TouchLog>(
     ring.publish(chain.id, chain.slots, count, count > 0, ram, log)
 }
 
-/// Gives the bytes of two slices, one after the other, as `fill` gives those of one. The back slice is empty more often than
-/// not, so the code for two is a call of its own.
+/// Gives the bytes of two slices, one after the other, as `fill` gives those of one. The back slice is empty more often than not.
 #[inline(always)]
 pub fn fill_in_parts<R: Ring, L: TouchLog>(
     ring: &mut R,
@@ -62,28 +61,6 @@ pub fn fill_in_parts<R: Ring, L: TouchLog>(
     if back.is_empty() {
         return fill(ring, base, chain, front, ram, log);
     }
-    fill_both(ring, base, chain, front, back, ram, log)
-}
-
-/// Does what `fill_in_parts` does, with a copy for each slice.
-#[inline(never)]
-fn fill_both<R: Ring, L: TouchLog>(
-    ring: &mut R,
-    base: u64,
-    chain: &Chain,
-    front: &[u8],
-    back: &[u8],
-    ram: &mut Ram,
-    log: &mut L,
-) -> bool
-    requires base { base ≡ (R.state ring.old).base }
-    requires ready { MayServe L.may (length ram.old.bytes) (R.state ring.old) log.old }
-    requires bounded { IsBounded (length ram.old.bytes) (R.state ring.old) chain.now }
-    requires room { length front.now + length back.now ≤ length (places chain.now.writable) }
-    ensures filled { IsFilled (Touches L.after log.old log.new ram.old ram.new) ram.old.bytes (R.state ring.old) chain.now (front.now ++ back.now) result ram.new.bytes (R.state ring.new) }
-    ensures after { HasServed L.may ram.old ram.new log.new }
-    ensures decoder { R.decoder ring.new ≡ R.decoder ring.old }
-{
     let segs = chain.writable.as_slice();
     copy_in_with_base(ram, base, segs, 0, front, log);
     copy_in_with_base(ram, base, segs, front.len() as u64, back, log);

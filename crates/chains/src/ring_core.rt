@@ -60,7 +60,8 @@ impl RingCore {
     ) -> RingCore
         requires may { MayRing (state_of queue.now features base positions) }
         requires above { AreAbove base queue.now }
-        ensures { core_state (has features RING_PACKED) result ≡ state_of queue.now features base positions }
+        ensures state { core_state (has features RING_PACKED) result ≡ state_of queue.now features base positions }
+        ensures features { result.features ≡ features }
     {
         RingCore {
             alloc,

@@ -1,5 +1,6 @@
 -- New machines, and machines as they were saved.
 use Rattle.std.specs.Prelude.{◌≡◌, ℕ, ◌+◌, ◌*◌, ◌%◌, ◌^◌, ◌||◌, ◌&&◌, ◌==◌, not, nat_le, nat_lt, if◌then◌else◌, Bool, true, false, List, [], ◌∷◌, length, map, replicate, Option, Some, None}
+use Rattle.std.specs.List.{list_any}
 use Rattle.guestmem.specs.declared.limits.TheConstants.{PAGE_SIZE, PAGES_MAX}
 use Rattle.guestmem.specs.Number.{IsBytes}
 use Rattle.blk.specs.Disk.{DiskState}
@@ -58,8 +59,7 @@ first_machine pages shapes disks = made_machine 0 (zero_pages pages) shapes disk
 
 -- Some device is beyond its limits.
 abbrev pub are_beyond : List Shape → Bool
-are_beyond [] = false
-are_beyond (shape ∷ shapes) = is_beyond shape || are_beyond shapes
+are_beyond shapes = list_any is_beyond shapes
 
 abbrev pub are_same : List ℕ → List ℕ → Bool
 are_same [] [] = true

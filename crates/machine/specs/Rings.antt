@@ -38,9 +38,7 @@ abbrev pub empties : Effect → ℕ → Bool
 empties effects.Reset queue = true
 empties (effects.Enabled number) queue = number == queue
 empties (effects.Disabled number) queue = number == queue
-empties effects.None queue = false
-empties (effects.Notified number) queue = false
-empties effects.ConfigWrite queue = false
+empties _ queue = false
 
 -- The rings of which the one at this place was emptied, if that is so.
 abbrev pub emptied_at : Bool → ℕ → AnyRing → List AnyRing → List AnyRing

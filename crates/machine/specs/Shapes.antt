@@ -60,10 +60,8 @@ configuration_of (kinds.Entropy pool) = []
 
 -- How many sectors its disk has, if it has one.
 abbrev pub disk_size_of : Shape → Option ℕ
-disk_size_of (Net mac) = None
 disk_size_of (Block sectors read_only id) = Some sectors
-disk_size_of Console = None
-disk_size_of Entropy = None
+disk_size_of _ = None
 
 abbrev pub or_zero : Option ℕ → ℕ
 or_zero None = 0

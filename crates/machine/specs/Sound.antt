@@ -20,14 +20,13 @@ use Rattle.machine.specs.declared.machine.TheConstants.{DEVICES_MAX}
 use Rattle.machine.specs.declared.kind.Kind.{Kind}
 use Rattle.machine.specs.declared.kind.Kind.TheVariants as kinds
 use Rattle.machine.specs.declared.shape.Shape.{Shape}
-use Rattle.machine.specs.declared.shape.Shape.TheVariants.{Net, Block, Console, Entropy}
+use Rattle.machine.specs.declared.shape.Shape.TheVariants.{Net, Block}
 
 -- What a device may be made as.
 abbrev pub IsSoundShape : Shape → Type 0
 IsSoundShape (Net mac) = IsMac mac
 IsSoundShape (Block sectors read_only id) = IsBlockShape sectors id
-IsSoundShape Console = Unit {0}
-IsSoundShape Entropy = Unit {0}
+IsSoundShape _ = Unit {0}
 
 -- The outstanding requests of a block device can be so with these registers: they are those of its queue 0.
 abbrev pub AreRequests : ℕ → Registers → blocks.Block → Type 0

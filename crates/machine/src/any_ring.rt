@@ -7,7 +7,7 @@ ghost use Rattle.std.specs.Prelude.{◌≡◌, ◌<◌, true, false};
 ghost use Rattle.chains.specs.RingCore.{core_state};
 ghost use Rattle.guestmem.specs.Memory.{Memory};
 ghost use Rattle.chains.specs.Decoder.{Fits};
-ghost use Rattle.chains.specs.State.{state_of, AreAbove, MayRing};
+ghost use Rattle.chains.specs.State.{MayRing};
 ghost use Rattle.mmio.specs.Bits.{has};
 ghost use Rattle.mmio.specs.declared.constants.TheConstants.{RING_PACKED};
 ghost use Rattle.machine.specs.Rings.{emptied};
@@ -42,45 +42,32 @@ impl AnyRing {
         AnyRing::Split(SplitRing::new(alloc, &queue, 0, Positions::FIRST))
     }
 
-    /// Makes it the ring of a queue at these positions, under the features that the driver accepted, in a RAM with this base:
-    /// RING_PACKED names the packed layout (VIRTIO 1.2, 6). What it keeps of descriptors stays, unless the layout is another one.
-    pub fn renew(
-        &mut self,
-        alloc: Global,
-        queue: &Queue,
-        features: u64,
-        base: u64,
-        positions: Positions,
-    )
-        requires may { MayRing (state_of queue.now features base positions) }
-        requires above { AreAbove base queue.now }
-        ensures ring { ring_in self.new ≡ state_of queue.now features base positions }
-        ensures kept { is_packed_in self.old ≡ has features RING_PACKED → decoder_in self.new ≡ decoder_in self.old }
+    /// Makes it the ring of this core, in the layout that its features name: RING_PACKED names the packed one (VIRTIO 1.2, 6). What it keeps
+    /// of descriptors stays, unless the layout is another one.
+    #[inline(always)]
+    pub fn renew(&mut self, core: RingCore)
+        requires { MayRing (core_state (has core.features RING_PACKED) core) }
+        ensures ring { ring_in self.new ≡ core_state (has core.features RING_PACKED) core }
+        ensures kept { is_packed_in self.old ≡ has core.features RING_PACKED → decoder_in self.new ≡ decoder_in self.old }
         ensures fits { (ram : Memory) → Fits (decoder_in self.old) ram → Fits (decoder_in self.new) ram }
     {
-        let is_packed = features & RING_PACKED == RING_PACKED;
+        let is_packed = core.features & RING_PACKED == RING_PACKED;
         match self {
-            AnyRing::Split(ring) if !is_packed => {
-                ring.renew(RingCore::new(alloc, queue, features, base, positions));
-            }
-            AnyRing::Packed(ring) if is_packed => {
-                ring.renew(RingCore::new(alloc, queue, features, base, positions));
-            }
-            _ => self.turn(alloc, queue, features, base, positions),
+            AnyRing::Split(ring) if !is_packed => ring.renew(core),
+            AnyRing::Packed(ring) if is_packed => ring.renew(core),
+            _ => self.turn(core),
         }
     }
 
     /// Makes it a ring that keeps nothing, of the layout that the features name. That is seldom: a driver chooses its layout once.
     #[cold]
     #[inline(never)]
-    fn turn(&mut self, alloc: Global, queue: &Queue, features: u64, base: u64, positions: Positions)
-        requires may { MayRing (state_of queue.now features base positions) }
-        requires above { AreAbove base queue.now }
-        ensures ring { ring_in self.new ≡ state_of queue.now features base positions }
+    fn turn(&mut self, core: RingCore)
+        requires { MayRing (core_state (has core.features RING_PACKED) core) }
+        ensures ring { ring_in self.new ≡ core_state (has core.features RING_PACKED) core }
         ensures fits { (ram : Memory) → Fits (decoder_in self.new) ram }
     {
-        let core = RingCore::new(alloc, queue, features, base, positions);
-        if features & RING_PACKED == RING_PACKED {
+        if core.features & RING_PACKED == RING_PACKED {
             *self = AnyRing::Packed(PackedRing::of(core));
         } else {
             *self = AnyRing::Split(SplitRing::of(core));

@@ -1,11 +1,12 @@
 //! A device and its disk.
 
-ghost use Rattle.std.specs.Prelude.{◌≡◌, ◌<◌, ◌≤◌, ℕ, IsTrue, OnErr, OnOk, count_by, is_ok, map, not, true, false, length};
+ghost use Rattle.std.specs.Prelude.{◌≡◌, ◌<◌, ◌≤◌, ◌+◌, ◌*◌, ℕ, IsTrue, OnErr, OnOk, count_by, is_ok, map, not, true, false, length};
 ghost use Rattle.guestmem.specs.Rises.{Touches};
 ghost use Rattle.dirtylog.specs.Members.{IsLeastFrom};
 ghost use Rattle.machine.specs.Seen.{DeviceSeen, calls_of, called_if, flushed_of, sectors_of, marks_of};
 
 use crate::any_ring::AnyRing;
+use crate::forgetting::forget;
 use crate::reply::Refusal;
 use crate::state::DeviceState;
 use crate::stepped::Stepped;
@@ -13,7 +14,7 @@ use crate::work::Work;
 use blk::{Disk, DiskFault, Fetched, Sectors};
 use console::ConsoleSize;
 use guestmem::{NoMemory, Ram, TouchLog};
-use mmio::Effect;
+use mmio::QUEUE_COUNT_MAX;
 use std::alloc::Global;
 use std::marker::Model;
 
@@ -36,6 +37,9 @@ impl<D: Disk> Device<D> {
     ghost use Rattle.machine.specs.DeviceWork.{IsDeviceStep};
     ghost use Rattle.chains.specs.Decoder.{Fits};
     ghost use Rattle.machine.specs.AnyRing.{decoder_in};
+    ghost use Rattle.machine.specs.Rings.{FitAll, forgotten};
+    ghost use Rattle.machine.specs.declared.any_ring.AnyRing.{AnyRing};
+    ghost use Rattle.guestmem.specs.Memory.{Memory};
     ghost use Rattle.mmio.specs.RegisterWrite.{register_write};
     ghost use Rattle.guestmem.specs.Item.{MayPages};
     ghost use Rattle.guestmem.specs.Later.{IsLater};
@@ -68,8 +72,7 @@ impl<D: Disk> Device<D> {
         ensures marks { self.marks ≡ marks_of result }
         ensures calls { self.calls ≡ calls_of result }
     {
-        let Device { state: _, disk } = self;
-        disk
+        self.disk
     }
 
     pub(crate) fn read_register(&self, offset: u32, width: u8) -> u32
@@ -78,17 +81,26 @@ impl<D: Disk> Device<D> {
         self.state.read_register(offset, width)
     }
 
+    /// The driver writes a register of the device, which has this number. What its rings keep of descriptors is emptied where the effect is
+    /// so. The result is the byte that is written into the emergency register of a console, if one is.
     pub(crate) fn write_register(
         &mut self,
+        number: u8,
+        rings: &mut Vec<AnyRing>,
         offset: u32,
         width: u8,
         value: u32,
-    ) -> (Option<u8>, Effect)
+    ) -> Option<u8>
+        requires there { QUEUE_COUNT_MAX * number + QUEUE_COUNT_MAX ≤ length rings.old.items }
         ensures device { self.new ≡ record self.old { state = register_set self.old.state offset width value } }
-        ensures out { result.0 ≡ written_out self.old.state.kind offset width value }
-        ensures effect { result.1 ≡ (register_write self.old.state.registers offset width value).0 }
+        ensures out { result ≡ written_out self.old.state.kind offset width value }
+        ensures rings { (any : AnyRing) → rings.new.items ≡ forgotten number (register_write self.old.state.registers offset width value).0 any rings.old.items }
+        ensures fit { (ram : Memory) → FitAll rings.old.items ram → FitAll rings.new.items ram }
+        ensures each { length rings.new.items ≡ length rings.old.items }
     {
-        self.state.write_register(offset, width, value)
+        let (out, effect) = self.state.write_register(offset, width, value);
+        forget(rings, number, effect);
+        out
     }
 
     pub(crate) fn resize(&mut self, size: ConsoleSize) -> Result<(), Refusal>

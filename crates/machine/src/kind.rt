@@ -13,7 +13,7 @@ ghost use Rattle.blk.specs.Durable.{is_flush_owed};
 ghost use Rattle.machine.specs.DeviceStep.{has_work, serve, wanted_of, requests_of};
 ghost use Rattle.machine.specs.Shapes.{configuration_of, first_kind, made_as};
 ghost use Rattle.machine.specs.Sound.{AreSoundBeside};
-ghost use Rattle.machine.specs.Step.{IsResized, input_of, is_first_ready, dropped_unready, kind_with_input, written_out};
+ghost use Rattle.machine.specs.Step.{IsResized, input_of, dropped_unready, kind_with_input, written_out};
 ghost use Rattle.machine.specs.Unsynced.{kind_flush_failed, kind_flushes, kind_owed};
 ghost use Rattle.mmio.specs.RegisterRead.{register_read};
 
@@ -147,7 +147,9 @@ impl Kind {
         ensures { self.new ≡ dropped_unready queues.now self.old }
     {
         match self {
-            Kind::Block(block) => block.drop_requests_unless(is_first_ready(queues)),
+            Kind::Block(block) => {
+                block.drop_requests_unless(matches!(queues, [first, ..] if first.is_ready));
+            }
             Kind::Network { .. } | Kind::Console { .. } | Kind::Entropy(_) => {}
         }
     }
@@ -248,15 +250,5 @@ impl Kind {
             Kind::Block(block) => block.fail_flush(k),
             Kind::Network { .. } | Kind::Console { .. } | Kind::Entropy(_) => false,
         }
-    }
-}
-
-/// Whether queue 0 is ready.
-fn is_first_ready(queues: &[Queue]) -> bool
-    ensures { result ≡ is_first_ready queues.now }
-{
-    match queues {
-        [] => false,
-        [first, ..] => first.is_ready,
     }
 }

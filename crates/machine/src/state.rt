@@ -24,7 +24,7 @@ use crate::shape::Shape;
 use crate::stepped::Stepped;
 use crate::work::Work;
 use blk::{Advanced, Disk, Job, Sectors};
-use chains::{Positions, Ring, Served, Site, Unserved};
+use chains::{Positions, Ring, RingCore, Served, Site, Unserved};
 use console::{ConsoleSize, entropy};
 use guestmem::{NoMemory, Ram, TouchLog};
 use mmio::{Common, Effect, QUEUE_COUNT_MAX, Queue, Regs};
@@ -283,7 +283,7 @@ impl DeviceState {
         };
         let features = self.registers.features();
         let base = self.registers.ram_base();
-        ring.renew(alloc, queue, features, base, self.positions[0]);
+        ring.renew(RingCore::new(alloc, queue, features, base, self.positions[0]));
         true
     }
 
@@ -314,7 +314,7 @@ impl DeviceState {
         }
         let features = self.registers.features();
         let base = self.registers.ram_base();
-        ring.renew(alloc, queue, features, base, self.positions[number]);
+        ring.renew(RingCore::new(alloc, queue, features, base, self.positions[number]));
         true
     }
 

@@ -1,7 +1,7 @@
 //! The event suppression areas of a packed ring (VIRTIO 1.2, 2.8.14), by which each side says when it wants to be
 //! notified: an offset and a wrap counter in two bytes, and the flags in two more.
 
-ghost use Rattle.std.specs.Prelude.{◌≡◌, ◌+◌, ◌%◌, ◌<◌, ◌≤◌, ◌==◌, ◌&&◌, ◌++◌, not, if◌then◌else◌};
+ghost use Rattle.std.specs.Prelude.{◌≡◌, ◌+◌, ◌%◌, ◌<◌, ◌≤◌, ◌++◌};
 ghost use Rattle.mmio.specs.Bits.{has};
 ghost use Rattle.chains.specs.Publish.{positions_from, is_among, bit_if};
 ghost use Rattle.byteorder.specs.Endian.{little_bytes};
@@ -39,18 +39,12 @@ pub(crate) fn is_covered(event: u16, from: Position, slots: u16, size: u16) -> b
     let wrap = event & WRAP == WRAP;
     let mut position = from;
     for _step in 0..slots {
-        if is_at(position, offset, wrap) {
+        if position.place == offset && position.wrap == wrap {
             return true;
         }
         position = going_on(position, 1, size);
     }
     false
-}
-
-fn is_at(position: Position, offset: u16, wrap: bool) -> bool
-    ensures { result ≡ (position.place == offset && (if position.wrap then wrap else not wrap)) }
-{
-    position.place == offset && position.wrap == wrap
 }
 
 /// The area that asks for a notification at a position.

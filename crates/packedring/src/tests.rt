@@ -1,8 +1,6 @@
 //! What a ring decodes again, and what it has kept.
 
-ghost use Rattle.std.specs.Prelude.{◌≡◌, ◌≤◌, length};
-ghost use Rattle.chains.specs.Decoder.{Fits};
-ghost use Rattle.chains.specs.State.{HasAreas};
+ghost use Rattle.std.specs.Prelude.{◌≤◌};
 
 use crate::PackedRing;
 use chains::laws::fits_later;
@@ -10,6 +8,7 @@ use chains::{Next, Positions, Ring};
 use guestmem::{NoMemory, Ram};
 use mmio::Queue;
 use std::alloc::Global;
+use std::marker::Model;
 use std::test::Fail;
 
 /// The features VERSION_1, INDIRECT_DESC and RING_PACKED.
@@ -18,108 +17,85 @@ const FEATURES: u64 = 0x5_1000_0000;
 /// The base of a RAM that does not begin at the address 0.
 const BASE: u64 = 0x8000_0000;
 
-/// A new ring of some slots, whose three areas are in page 0 of a RAM with this base.
-fn ring_of(alloc: Global, ram: &Ram, base: u64, size: u32) -> PackedRing
-    requires low { base ≤ BASE }
-    requires some { 1 ≤ size }
-    requires few { size ≤ 16 }
-    ensures areas { HasAreas (length ram.now.bytes) result.state }
-    ensures fits { Fits result.decoder ram.now }
-{
-    ram.recall();
-    let queue = Queue {
-        size,
-        descriptors: base,
-        driver: base + 0x200,
-        device: base + 0x300,
-        is_ready: true,
-        is_notified: true,
-    };
-    PackedRing::new_at(alloc, &queue, FEATURES, base, Positions::FIRST)
+/// A ring, and the RAM that it looks at.
+#[derive(Drop)]
+struct Bench {
+    ring: PackedRing,
+    ram: Ram,
 }
 
-/// Writes where a test says. The RAM is a later one, so what the ring keeps fits it.
-fn store(ring: &PackedRing, ram: &mut Ram, addr: u64, bytes: &[u8])
-    requires areas { HasAreas (length ram.old.bytes) ring.now.state }
-    requires fits { Fits ring.now.decoder ram.old }
-    ensures areas { HasAreas (length ram.new.bytes) ring.now.state }
-    ensures fits { Fits ring.now.decoder ram.new }
-{
-    fits_later();
-    let _touched = ram.write(addr, bytes);
+impl Model for Bench {
+    ghost use Rattle.std.specs.Prelude.{length};
+    ghost use Rattle.guestmem.specs.Memory.{Memory};
+    ghost use Rattle.chains.specs.Decoder.{Fits};
+    ghost use Rattle.chains.specs.RingSeen.{RingSeen};
+    ghost use Rattle.chains.specs.State.{HasAreas};
+
+    ghost Value = { RingSeen × Memory };
+
+    ghost view = { λ b. (b.ring, b.ram) };
+
+    ghost invariant = { λ b. HasAreas (length b.ram.bytes) b.ring.state × Fits b.ring.decoder b.ram };
 }
 
-/// What a look finds: how many segments may be written, and the first one's address and length; and how many descriptors were
-/// decoded by then.
-fn look(ring: &mut PackedRing, ram: &Ram) -> Result<(usize, u64, u32, u64), NoMemory>
-    requires areas { HasAreas (length ram.now.bytes) ring.old.state }
-    requires fits { Fits ring.old.decoder ram.now }
-    ensures areas { HasAreas (length ram.now.bytes) ring.new.state }
-    ensures fits { Fits ring.new.decoder ram.now }
-{
-    let next = ring.next(ram)?;
-    let decoded = ring.decoded();
-    let Next::Chain(chain) = next else {
-        return Ok((0, 0, 0, decoded));
-    };
-    match chain.writable.as_slice() {
-        [] => Ok((0, 0, 0, decoded)),
-        [seg, ..] => Ok((chain.writable.len(), seg.addr, seg.len, decoded)),
+impl Bench {
+    /// A new ring of some slots, whose three areas are in page 0 of a RAM with this base.
+    fn new(alloc: Global, ram: Ram, base: u64, size: u32) -> Bench
+        requires low { base ≤ BASE }
+        requires some { 1 ≤ size }
+        requires few { size ≤ 16 }
+    {
+        ram.recall();
+        let queue = Queue {
+            size,
+            descriptors: base,
+            driver: base + 0x200,
+            device: base + 0x300,
+            is_ready: true,
+            is_notified: true,
+        };
+        let ring = PackedRing::new_at(alloc, &queue, FEATURES, base, Positions::FIRST);
+        Bench { ring, ram }
     }
-}
 
-/// Whether a look finds that the driver broke a rule.
-fn is_malformed(ring: &mut PackedRing, ram: &Ram) -> Result<bool, NoMemory>
-    requires areas { HasAreas (length ram.now.bytes) ring.old.state }
-    requires fits { Fits ring.old.decoder ram.now }
-    ensures areas { HasAreas (length ram.now.bytes) ring.new.state }
-    ensures fits { Fits ring.new.decoder ram.now }
-{
-    let next = ring.next(ram)?;
-    Ok(matches!(&next, Next::Malformed))
-}
+    /// Writes where a test says. The RAM is a later one, so what the ring keeps fits it.
+    fn store(&mut self, addr: u64, bytes: &[u8]) {
+        fits_later();
+        let _touched = self.ram.write(addr, bytes);
+    }
 
-/// Descriptor 0 is one byte to be written at 0x800, and available.
-fn one_buffer(ring: &PackedRing, ram: &mut Ram)
-    requires areas { HasAreas (length ram.old.bytes) ring.now.state }
-    requires fits { Fits ring.now.decoder ram.old }
-    ensures areas { HasAreas (length ram.new.bytes) ring.now.state }
-    ensures fits { Fits ring.now.decoder ram.new }
-{
-    store(
-        ring,
-        ram,
-        0,
-        &[0, 8, 0, 0, 0, 0, 0, 0, 1, 0, 0, 0, 7, 0, 0x82, 0],
-    );
-}
+    /// What a look finds: how many segments may be written, and the first one's address and length; and how many descriptors were
+    /// decoded by then.
+    fn look(&mut self) -> Result<(usize, u64, u32, u64), NoMemory> {
+        let next = self.ring.next(&self.ram)?;
+        let decoded = self.ring.decoded();
+        let Next::Chain(chain) = next else {
+            return Ok((0, 0, 0, decoded));
+        };
+        match chain.writable.as_slice() {
+            [] => Ok((0, 0, 0, decoded)),
+            [seg, ..] => Ok((chain.writable.len(), seg.addr, seg.len, decoded)),
+        }
+    }
 
-/// Descriptor 0 names a table at index 0x900 of RAM, and is available. The entries of the table are a byte each to be written, at
-/// the indexes 0x800 and 0xa00. `high` is the fourth byte of each address: that of the base of RAM.
-fn one_table(ring: &PackedRing, ram: &mut Ram, high: u8)
-    requires areas { HasAreas (length ram.old.bytes) ring.now.state }
-    requires fits { Fits ring.now.decoder ram.old }
-    ensures areas { HasAreas (length ram.new.bytes) ring.now.state }
-    ensures fits { Fits ring.now.decoder ram.new }
-{
-    store(
-        ring,
-        ram,
-        0,
-        &[0, 9, 0, high, 0, 0, 0, 0, 32, 0, 0, 0, 7, 0, 0x84, 0],
-    );
-    store(
-        ring,
-        ram,
-        0x900,
-        &[0, 8, 0, high, 0, 0, 0, 0, 1, 0, 0, 0, 0, 0, 2, 0],
-    );
-    store(
-        ring,
-        ram,
-        0x910,
-        &[0, 10, 0, high, 0, 0, 0, 0, 1, 0, 0, 0, 0, 0, 2, 0],
-    );
+    /// Whether a look finds that the driver broke a rule.
+    fn is_malformed(&mut self) -> Result<bool, NoMemory> {
+        let next = self.ring.next(&self.ram)?;
+        Ok(matches!(&next, Next::Malformed))
+    }
+
+    /// Descriptor 0 is one byte to be written at 0x800, and available.
+    fn one_buffer(&mut self) {
+        self.store(0, &[0, 8, 0, 0, 0, 0, 0, 0, 1, 0, 0, 0, 7, 0, 0x82, 0]);
+    }
+
+    /// Descriptor 0 names a table at index 0x900 of RAM, and is available. The entries of the table are a byte each to be written, at
+    /// the indexes 0x800 and 0xa00. `high` is the fourth byte of each address: that of the base of RAM.
+    fn one_table(&mut self, high: u8) {
+        self.store(0, &[0, 9, 0, high, 0, 0, 0, 0, 32, 0, 0, 0, 7, 0, 0x84, 0]);
+        self.store(0x900, &[0, 8, 0, high, 0, 0, 0, 0, 1, 0, 0, 0, 0, 0, 2, 0]);
+        self.store(0x910, &[0, 10, 0, high, 0, 0, 0, 0, 1, 0, 0, 0, 0, 0, 2, 0]);
+    }
 }
 
 /// The bytes of sixteen descriptors of one byte each at 0x800, each but the last followed by another.
@@ -138,99 +114,90 @@ fn sixteen() -> [u8; 256] {
 /// A kept descriptor is used until its page is written, whatever is written there.
 #[test]
 fn kept_until_the_page_is_written(rt: HostRuntime) -> Result<(), Fail> {
-    let mut ram = Ram::new(rt.alloc(), 2)?;
-    let mut ring = ring_of(rt.alloc(), &ram, 0, 1);
-    one_buffer(&ring, &mut ram);
-    assert_eq!(rt; look(&mut ring, &ram)?, (1, 0x800, 1, 1));
-    assert_eq!(rt; look(&mut ring, &ram)?, (1, 0x800, 1, 1));
-    store(&ring, &mut ram, 0x1000, &[1]);
-    assert_eq!(rt; look(&mut ring, &ram)?, (1, 0x800, 1, 1));
-    store(&ring, &mut ram, 0x900, &[1]);
-    assert_eq!(rt; look(&mut ring, &ram)?, (1, 0x800, 1, 2));
-    store(&ring, &mut ram, 8, &[2, 0, 0, 0]);
-    assert_eq!(rt; look(&mut ring, &ram)?, (1, 0x800, 2, 3));
+    let mut bench = Bench::new(rt.alloc(), Ram::new(rt.alloc(), 2)?, 0, 1);
+    bench.one_buffer();
+    assert_eq!(rt; bench.look()?, (1, 0x800, 1, 1));
+    assert_eq!(rt; bench.look()?, (1, 0x800, 1, 1));
+    bench.store(0x1000, &[1]);
+    assert_eq!(rt; bench.look()?, (1, 0x800, 1, 1));
+    bench.store(0x900, &[1]);
+    assert_eq!(rt; bench.look()?, (1, 0x800, 1, 2));
+    bench.store(8, &[2, 0, 0, 0]);
+    assert_eq!(rt; bench.look()?, (1, 0x800, 2, 3));
     Ok(())
 }
 
 /// The greatest version says nothing of the page: it stays when the page is written.
 #[test]
 fn never_used_at_the_greatest_version(rt: HostRuntime) -> Result<(), Fail> {
-    let mut ram = Ram::with_version(rt.alloc(), 1, u64::MAX - 2)?;
-    let mut ring = ring_of(rt.alloc(), &ram, 0, 1);
-    one_buffer(&ring, &mut ram);
-    assert_eq!(rt; look(&mut ring, &ram)?, (1, 0x800, 1, 1));
-    assert_eq!(rt; look(&mut ring, &ram)?, (1, 0x800, 1, 1));
-    store(&ring, &mut ram, 8, &[2, 0, 0, 0]);
-    assert_eq!(rt; look(&mut ring, &ram)?, (1, 0x800, 2, 2));
-    assert_eq!(rt; look(&mut ring, &ram)?, (1, 0x800, 2, 3));
+    let ram = Ram::with_version(rt.alloc(), 1, u64::MAX - 2)?;
+    let mut bench = Bench::new(rt.alloc(), ram, 0, 1);
+    bench.one_buffer();
+    assert_eq!(rt; bench.look()?, (1, 0x800, 1, 1));
+    assert_eq!(rt; bench.look()?, (1, 0x800, 1, 1));
+    bench.store(8, &[2, 0, 0, 0]);
+    assert_eq!(rt; bench.look()?, (1, 0x800, 2, 2));
+    assert_eq!(rt; bench.look()?, (1, 0x800, 2, 3));
     Ok(())
 }
 
 /// Sixteen descriptors have a place each, also where none of them is the last.
 #[test]
 fn sixteen_are_kept(rt: HostRuntime) -> Result<(), Fail> {
-    let mut ram = Ram::new(rt.alloc(), 2)?;
-    let mut ring = ring_of(rt.alloc(), &ram, 0, 16);
-    store(&ring, &mut ram, 0, &sixteen());
-    assert_eq!(rt; look(&mut ring, &ram)?, (16, 0x800, 1, 16));
-    assert_eq!(rt; look(&mut ring, &ram)?, (16, 0x800, 1, 16));
-    store(&ring, &mut ram, 0xfe, &[0x83]);
-    assert_eq!(rt; look(&mut ring, &ram)?, (0, 0, 0, 32));
-    assert_eq!(rt; look(&mut ring, &ram)?, (0, 0, 0, 32));
+    let mut bench = Bench::new(rt.alloc(), Ram::new(rt.alloc(), 2)?, 0, 16);
+    bench.store(0, &sixteen());
+    assert_eq!(rt; bench.look()?, (16, 0x800, 1, 16));
+    assert_eq!(rt; bench.look()?, (16, 0x800, 1, 16));
+    bench.store(0xfe, &[0x83]);
+    assert_eq!(rt; bench.look()?, (0, 0, 0, 32));
+    assert_eq!(rt; bench.look()?, (0, 0, 0, 32));
     Ok(())
 }
 
 /// The entries of an indirect table are decoded at each look.
 #[test]
 fn tables_are_decoded_again(rt: HostRuntime) -> Result<(), Fail> {
-    let mut ram = Ram::new(rt.alloc(), 2)?;
-    let mut ring = ring_of(rt.alloc(), &ram, 0, 2);
-    one_table(&ring, &mut ram, 0);
-    assert_eq!(rt; look(&mut ring, &ram)?, (2, 0x800, 1, 3));
-    assert_eq!(rt; look(&mut ring, &ram)?, (2, 0x800, 1, 5));
+    let mut bench = Bench::new(rt.alloc(), Ram::new(rt.alloc(), 2)?, 0, 2);
+    bench.one_table(0);
+    assert_eq!(rt; bench.look()?, (2, 0x800, 1, 3));
+    assert_eq!(rt; bench.look()?, (2, 0x800, 1, 5));
     Ok(())
 }
 
 /// Where every version is the greatest, nothing is kept. A ring of which no descriptor is the last costs as many as there are slots.
 #[test]
 fn no_slot_is_read_twice(rt: HostRuntime) -> Result<(), Fail> {
-    let mut ram = Ram::with_version(rt.alloc(), 1, u64::MAX)?;
-    let mut ring = ring_of(rt.alloc(), &ram, 0, 4);
-    store(&ring, &mut ram, 0, &sixteen());
-    assert_eq!(rt; look(&mut ring, &ram)?, (0, 0, 0, 4));
-    assert_eq!(rt; look(&mut ring, &ram)?, (0, 0, 0, 8));
+    let ram = Ram::with_version(rt.alloc(), 1, u64::MAX)?;
+    let mut bench = Bench::new(rt.alloc(), ram, 0, 4);
+    bench.store(0, &sixteen());
+    assert_eq!(rt; bench.look()?, (0, 0, 0, 4));
+    assert_eq!(rt; bench.look()?, (0, 0, 0, 8));
     Ok(())
 }
 
 /// Over a RAM that begins at a base the addresses are as much greater, and all else is as over one that begins at 0.
 #[test]
 fn a_base_moves_addresses_alone(rt: HostRuntime) -> Result<(), Fail> {
-    let mut ram = Ram::new(rt.alloc(), 2)?;
-    let mut ring = ring_of(rt.alloc(), &ram, BASE, 2);
-    one_table(&ring, &mut ram, 0x80);
-    assert_eq!(rt; look(&mut ring, &ram)?, (2, 0x8000_0800, 1, 3));
-    assert_eq!(rt; look(&mut ring, &ram)?, (2, 0x8000_0800, 1, 5));
+    let mut bench = Bench::new(rt.alloc(), Ram::new(rt.alloc(), 2)?, BASE, 2);
+    bench.one_table(0x80);
+    assert_eq!(rt; bench.look()?, (2, 0x8000_0800, 1, 3));
+    assert_eq!(rt; bench.look()?, (2, 0x8000_0800, 1, 5));
     // Addresses without the base lie outside RAM.
-    one_table(&ring, &mut ram, 0);
-    assert!(rt; is_malformed(&mut ring, &ram)?);
+    bench.one_table(0);
+    assert!(rt; bench.is_malformed()?);
     Ok(())
 }
 
 /// A buffer whose first byte lies below the base is outside RAM, though its second one is the first of RAM.
 #[test]
 fn below_the_base_is_malformed(rt: HostRuntime) -> Result<(), Fail> {
-    let mut ram = Ram::new(rt.alloc(), 1)?;
-    let mut ring = ring_of(rt.alloc(), &ram, BASE, 1);
-    store(
-        &ring,
-        &mut ram,
-        0,
-        &[
-            0xff, 0xff, 0xff, 0x7f, 0, 0, 0, 0, 2, 0, 0, 0, 7, 0, 0x82, 0,
-        ],
-    );
-    assert!(rt; is_malformed(&mut ring, &ram)?);
-    store(&ring, &mut ram, 0, &[0, 0, 0, 0x80]);
-    assert_eq!(rt; look(&mut ring, &ram)?, (1, BASE, 2, 2));
+    let mut bench = Bench::new(rt.alloc(), Ram::new(rt.alloc(), 1)?, BASE, 1);
+    let below = [
+        0xff, 0xff, 0xff, 0x7f, 0, 0, 0, 0, 2, 0, 0, 0, 7, 0, 0x82, 0,
+    ];
+    bench.store(0, &below);
+    assert!(rt; bench.is_malformed()?);
+    bench.store(0, &[0, 0, 0, 0x80]);
+    assert_eq!(rt; bench.look()?, (1, BASE, 2, 2));
     Ok(())
 }

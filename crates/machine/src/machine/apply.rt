@@ -8,7 +8,6 @@ ghost use Rattle.std.specs.Prelude.{◌≡◌, map, length, IfOk, OnErr};
 ghost use Rattle.guestmem.specs.Later.{IsLater};
 ghost use Rattle.machine.specs.Applied.{AreApplied, FailOnlyUnsteady, IsApplied, IsAppliedLogged, MayItems, marks_run};
 ghost use Rattle.machine.specs.Calls.{HasCalled, HaveCalled};
-ghost use Rattle.machine.specs.Direct.{value_reply, written_result};
 ghost use Rattle.machine.specs.Outcome.{outcome_of};
 ghost use Rattle.machine.specs.Run.{IsRun};
 ghost use Rattle.machine.specs.Seen.{AreHonest, state_of, all_marks};
@@ -38,13 +37,15 @@ impl<D: Disk> Machine<D> {
         ensures calls { HasCalled D.called self.old event.now result self.new }
     {
         match event {
-            Event::RegRead { dev, off, width } => value(self.read_register(*dev, *off, *width)),
+            Event::RegRead { dev, off, width } => Reply::from_value(self.read_register(
+                *dev, *off, *width,
+            )),
             Event::RegWrite {
                 dev,
                 off,
                 width,
                 value,
-            } => written(self.write_register(*dev, *off, *width, *value)),
+            } => Reply::from_written(self.write_register(*dev, *off, *width, *value)),
             Event::MemRead { addr, len } => self.read_bytes(*addr, *len),
             Event::MemWrite { addr, bytes } => {
                 Reply::from_done(self.write_ram_logged(*addr, bytes.as_slice(), log))
@@ -93,24 +94,5 @@ impl<D: Disk> Machine<D> {
         };
         self.ram.get(addr - base, &mut bytes);
         Reply::Bytes(Bytes::from_vec(bytes))
-    }
-}
-
-fn value(answer: Result<u32, Refusal>) -> Reply
-    ensures { result ≡ value_reply answer }
-{
-    match answer {
-        Ok(value) => Reply::Value(value),
-        Err(refusal) => Reply::Refused(refusal),
-    }
-}
-
-fn written(answer: Result<Option<u8>, Refusal>) -> Reply
-    ensures { result ≡ written_result answer }
-{
-    match answer {
-        Ok(Some(byte)) => Reply::OutByte(byte),
-        Ok(None) => Reply::Done,
-        Err(refusal) => Reply::Refused(refusal),
     }
 }

@@ -4,23 +4,14 @@
 //! A host on an exit has numbers, and needs no event: it matches no reply that cannot come, and copies no bytes into an event.
 //! `Live` has the same calls, with a reply as their result, so a host may keep its machine in a `Live` from the start.
 
-ghost use Rattle.std.specs.Prelude.{◌≡◌, ◌≤◌, ◌+◌, ◌*◌, ◌==◌, if◌then◌else◌, length, OnErr};
-ghost use Rattle.guestmem.specs.Item.{MayPages};
-ghost use Rattle.guestmem.specs.Memory.{Memory};
-ghost use Rattle.mmio.specs.RegisterWrite.{register_write};
+ghost use Rattle.std.specs.Prelude.{◌≡◌, ◌+◌, ◌*◌, ◌==◌, if◌then◌else◌, length, OnErr};
 ghost use Rattle.machine.specs.Applied.{IsApplied, IsAppliedLogged, MayItems};
 ghost use Rattle.machine.specs.Calls.{HasCalled};
 ghost use Rattle.machine.specs.Direct.{value_reply, done_reply, bytes_reply, accepted_reply, written_result};
-ghost use Rattle.machine.specs.Rings.{FitAll, forgotten};
 ghost use Rattle.machine.specs.Seen.{state_of};
-ghost use Rattle.machine.specs.Step.{register_set, written_out};
 ghost use Rattle.machine.specs.Stepped.{reply_in};
-ghost use Rattle.machine.specs.declared.any_ring.AnyRing.{AnyRing};
 ghost use Rattle.machine.specs.declared.event.Event.TheVariants as events;
 
-use crate::any_ring::AnyRing;
-use crate::device::Device;
-use crate::forgetting::forget;
 use crate::machine::Machine;
 use crate::reply::{Refusal, Reply};
 use crate::stepped::Stepped;
@@ -60,7 +51,7 @@ impl<D: Disk> Machine<D> {
             return Err(Refusal::NoDevice);
         }
         let device = &mut self.devices[number];
-        Ok(write_one(device, &mut self.rings, dev, offset, width, value))
+        Ok(device.write_register(dev, &mut self.rings, offset, width, value))
     }
 
     /// The host sets the size of a console, in characters.
@@ -119,9 +110,7 @@ impl<D: Disk> Machine<D> {
         ensures applied { IsApplied self.old (events.Step dev pick) result self.new }
         ensures calls { HasCalled D.called self.old (events.Step dev pick) result self.new }
     {
-        let mut sent = Vec::new(self.alloc);
-        let stepped = self.step_into(dev, pick, &mut sent);
-        stepped.reply(sent)
+        self.step_logged(dev, pick, &mut NoLog)
     }
 
     /// Does what `step` does. The bytes of a message go into the buffer, which is cut or grows to them; where none is sent it may hold
@@ -196,25 +185,4 @@ fn ring_of(dev: u8, pick: u8) -> usize
 {
     let first = QUEUE_COUNT_MAX * dev as usize;
     if pick == 0 { first } else { first + 1 }
-}
-
-/// Writes a register of the device of a number, and empties what its rings keep where the effect is so.
-fn write_one<D: Disk>(
-    device: &mut Device<D>,
-    rings: &mut Vec<AnyRing>,
-    number: u8,
-    offset: u32,
-    width: u8,
-    value: u32,
-) -> Option<u8>
-    requires there { QUEUE_COUNT_MAX * number + QUEUE_COUNT_MAX ≤ length rings.old.items }
-    ensures device { device.new ≡ record device.old { state = register_set device.old.state offset width value } }
-    ensures out { result ≡ written_out device.old.state.kind offset width value }
-    ensures rings { (any : AnyRing) → rings.new.items ≡ forgotten number (register_write device.old.state.registers offset width value).0 any rings.old.items }
-    ensures fit { (ram : Memory) → FitAll rings.old.items ram → FitAll rings.new.items ram }
-    ensures each { length rings.new.items ≡ length rings.old.items }
-{
-    let (out, effect) = device.write_register(offset, width, value);
-    forget(rings, number, effect);
-    out
 }

@@ -89,14 +89,7 @@ impl<D: Disk> Machine<D> {
     pub fn into_devices(self) -> Vec<Device<D>>
         ensures { result.items ≡ self.devices }
     {
-        let Machine {
-            alloc: _,
-            ram: _,
-            shapes: _,
-            devices,
-            rings: _,
-        } = self;
-        devices
+        self.devices
     }
 
     /// The guest-physical address at which RAM begins.

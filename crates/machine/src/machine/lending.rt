@@ -58,34 +58,20 @@ impl<D: Disk> Machine<D> {
         ensures same { IfErr result (λ m. m ≡ self) }
     {
         self.ram.recall();
-        let Machine {
-            alloc,
-            ram,
-            shapes,
-            devices,
-            mut rings,
-        } = self;
-        match ram.lend() {
+        match self.ram.lend() {
             Ok((region, ram)) => {
+                let mut rings = self.rings;
                 forget_all(&mut rings);
-                Ok((
-                    region,
-                    Parked {
-                        alloc,
-                        ram,
-                        shapes,
-                        devices,
-                        rings,
-                    },
-                ))
+                let parked = Parked {
+                    alloc: self.alloc,
+                    ram,
+                    shapes: self.shapes,
+                    devices: self.devices,
+                    rings,
+                };
+                Ok((region, parked))
             }
-            Err(ram) => Err(Machine {
-                alloc,
-                ram,
-                shapes,
-                devices,
-                rings,
-            }),
+            Err(ram) => Err(Machine { ram, ..self }),
         }
     }
 }
@@ -135,21 +121,14 @@ impl<D: Disk> Parked<D> {
         ensures log { log.new ≡ after_all L.after log.old (page_items pages.now) }
         ensures may { MayPages L.may log.new (length region.content) }
     {
-        let Parked {
-            alloc,
-            ram,
-            shapes,
-            devices,
-            rings,
-        } = self;
-        let ram = ram.give_back(region, pages, log);
+        let ram = self.ram.give_back(region, pages, log);
         ram.recall();
         Machine {
-            alloc,
+            alloc: self.alloc,
             ram,
-            shapes,
-            devices,
-            rings,
+            shapes: self.shapes,
+            devices: self.devices,
+            rings: self.rings,
         }
     }
 }

@@ -265,12 +265,7 @@ fn new_states(
 fn are_beyond(shapes: &[Shape]) -> bool
     ensures { result ≡ are_beyond shapes.now }
 {
-    for shape in shapes {
-        if is_beyond(*shape) {
-            return true;
-        }
-    }
-    false
+    shapes.iter().any(|shape| is_beyond(*shape))
 }
 
 fn is_beyond(shape: Shape) -> bool

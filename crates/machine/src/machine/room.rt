@@ -70,16 +70,12 @@ impl<D: Disk + Drop> Room<D> {
         ensures devices { result.1.items ≡ seen_devices states.items (counted (map D.calls disks.items) (marked (map D.state disks.items) bad.items)) }
         ensures rings { AreNewRings result.2.items (length states.items) }
     {
-        let Room {
-            alloc,
-            device_count: _,
-            disk_count: _,
-            sectors,
-            devices,
-            rings,
-        } = self;
-        let sectors = all_marked(disks, bad, sectors);
-        (alloc, with_sectors(states, sectors, devices), rings)
+        let sectors = all_marked(disks, bad, self.sectors);
+        (
+            self.alloc,
+            with_sectors(states, sectors, self.devices),
+            self.rings,
+        )
     }
 }
 

@@ -1,6 +1,7 @@
-use Rattle.std.proofs.Common.{not, refl}
+use Rattle.std.proofs.Common.{not, refl, rules, true}
 use Rattle.guestmem.proofs.RisesLaws.{touches_none}
 use Rattle.blk.specs.Move.{is_disk_failed}
+use Rattle.blk.specs.declared.advancing.Advanced.TheVariants.{Moved}
 use Rattle.blk.proofs.Given.{flushed, id_read}
 use Rattle.blk.proofs.moving.move_unit.Goals as goal
 
@@ -14,5 +15,5 @@ returns-in-Flush-clause-moved g c =
 pub returns-in-GetId-clause-moved : goal.returns-in-GetId-clause-moved
 returns-in-GetId-clause-moved g c =
     let r = c.args.request.now in
-    id_read _ c.args.sectors.now.honest c.args.job.device r.kind c.args.job.base c.args.id.now c.args.ram.now.bytes c.args.sectors.now.content r (not (is_disk_failed c.move_id.result)) c.move_id.result c.move_id.new.request c.move_id.new.ram.bytes
-    c.in-GetId.is c.requires.whole c.move_id.ensures.answer c.move_id.ensures.request c.move_id.ensures.bytes (record { log_is = c.move_id.ensures.log; rises = c.move_id.ensures.rises })
+    id_read _ c.args.sectors.now.honest c.args.job.device r.kind c.args.job.base c.args.id.now c.args.ram.now.bytes c.args.sectors.now.content r true Moved _ c.copy_in_with_base.new.ram.bytes
+    c.in-GetId.is c.requires.whole refl refl (search rules) (record { log_is = search rules; rises = search rules })

@@ -2,10 +2,10 @@ use Rattle.machine.proofs.Quiet.{unlogged}
 use Rattle.machine.proofs.machine.Machine.apply_logged.Goals as goal
 
 pub returns-in-RegRead-clause-applied : goal.returns-in-RegRead-clause-applied
-returns-in-RegRead-clause-applied g c = rw (c.in-RegRead.is, c.value.ensures) (unlogged g.L.TouchLog.after c.args.self.now c.args.self.now c.args.log.now _ _ tt c.read_register.ensures)
+returns-in-RegRead-clause-applied g c = rw (c.in-RegRead.is, c.from_value.ensures) (unlogged g.L.TouchLog.after c.args.self.now c.args.self.now c.args.log.now _ _ tt c.read_register.ensures)
 
 pub returns-in-RegWrite-clause-applied : goal.returns-in-RegWrite-clause-applied
-returns-in-RegWrite-clause-applied g c = rw (c.in-RegWrite.is, c.written.ensures) (unlogged g.L.TouchLog.after c.args.self.now c.write_register.new.self c.args.log.now _ _ tt c.write_register.ensures.applied)
+returns-in-RegWrite-clause-applied g c = rw (c.in-RegWrite.is, c.from_written.ensures) (unlogged g.L.TouchLog.after c.args.self.now c.write_register.new.self c.args.log.now _ _ tt c.write_register.ensures.applied)
 
 pub returns-in-MemRead-clause-applied : goal.returns-in-MemRead-clause-applied
 returns-in-MemRead-clause-applied g c = rw c.in-MemRead.is (unlogged g.L.TouchLog.after c.args.self.now c.args.self.now c.args.log.now _ _ tt c.read_bytes.ensures)

@@ -2,7 +2,7 @@ use Rattle.std.proofs.Common.{◌+◌, length, take, drop, nat_lt, arith, rules,
 use Rattle.chains.specs.Places.{places, place_writes}
 use Rattle.chains.specs.Publish.{published, after_take}
 use Rattle.chains.proofs.Filling.{parts_then, set_three, told_three, rises_three}
-use Rattle.chains.proofs.receive_buffer.fill_both.Goals as goal
+use Rattle.chains.proofs.receive_buffer.fill_in_parts.Goals as goal
 
 pub returns-clause-filled : goal.returns-clause-filled
 returns-clause-filled g c =
