@@ -100,8 +100,8 @@ pub applying_stays_reliable : ApplyingStaysReliable
 applying_stays_reliable m next e reply all applied = subst AreReliable (sym applied.marks) (after_event (all_marks m) e reply all applied.unsteady)
 
 -- After a call of a migration, which leaves the machine as it is, or says that a disk failed.
-kept : (m next : Seen) → next ≡ m → AreReliable (all_marks m) → AreReliable (all_marks next)
-kept m next same all = subst (λ (x : Seen). AreReliable (all_marks x)) (sym same) all
+kept : (m next : Seen) → all_marks next ≡ all_marks m → AreReliable (all_marks m) → AreReliable (all_marks next)
+kept m next same all = subst AreReliable (sym same) all
 
 same : (l next : LiveSeen) → next ≡ l → AreReliable (all_marks l.machine) → AreReliable (all_marks next.machine)
 same l next is all = subst (λ (x : LiveSeen). AreReliable (all_marks x.machine)) (sym is) all
@@ -111,28 +111,28 @@ after_guest l next e (r.Guest reply) all after = applying_stays_reliable l.machi
 after_guest l next e _ all after = absurd after
 
 after_begin : (l next : LiveSeen) (reply : LiveReply) → AreReliable (all_marks l.machine) → AfterBegin l reply next → AreReliable (all_marks next.machine)
-after_begin l next (r.Begun k) all after = kept l.machine next.machine after.1.machine all
-after_begin l next (r.Mig errors.StreamFailed) all after = kept l.machine next.machine after.machine all
+after_begin l next (r.Begun k) all after = kept l.machine next.machine (ap all_marks after.1.machine) all
+after_begin l next (r.Mig errors.StreamFailed) all after = kept l.machine next.machine after.machine.marks all
 after_begin l next _ all after = absurd after
 
 after_copy : (l next : LiveSeen) (reply : LiveReply) → AreReliable (all_marks l.machine) → AfterCopy l reply next → AreReliable (all_marks next.machine)
-after_copy l next (r.Copied item) all after = kept l.machine next.machine after.sent.machine all
+after_copy l next (r.Copied item) all after = kept l.machine next.machine after.sent.machine.marks all
 after_copy l next r.RoundDone all after = same l next after.1 all
 after_copy l next (r.Mig (errors.DiskFailed dev n)) all after = absurd (never (all_marks l.machine) dev all after.unread.unsteady)
-after_copy l next (r.Mig errors.StreamFailed) all after = kept l.machine next.machine after.machine all
+after_copy l next (r.Mig errors.StreamFailed) all after = kept l.machine next.machine after.machine.marks all
 after_copy l next _ all after = absurd after
 
 after_round : (l next : LiveSeen) (reply : LiveReply) → AreReliable (all_marks l.machine) → AfterRound l reply next → AreReliable (all_marks next.machine)
-after_round l next (r.Begun k) all after = kept l.machine next.machine after.1.machine all
+after_round l next (r.Begun k) all after = kept l.machine next.machine (ap all_marks after.1.machine) all
 after_round l next r.RoundOpen all after = same l next after.1 all
-after_round l next (r.Mig errors.StreamFailed) all after = kept l.machine next.machine after.machine all
+after_round l next (r.Mig errors.StreamFailed) all after = kept l.machine next.machine after.machine.marks all
 after_round l next _ all after = absurd after
 
 after_stop : (l next : LiveSeen) (reply : LiveReply) → AreReliable (all_marks l.machine) → AfterStop l reply next → AreReliable (all_marks next.machine)
-after_stop l next (r.Stopped pages sectors) all after = kept l.machine next.machine after.machine all
+after_stop l next (r.Stopped pages sectors) all after = kept l.machine next.machine after.machine.marks all
 after_stop l next (r.Mig (errors.DiskFailed dev n)) all after =
-    absurd (never (all_marks after.between.machine) dev (kept l.machine after.between.machine after.are_sent.machine all) after.unread.unsteady)
-after_stop l next (r.Mig errors.StreamFailed) all after = kept l.machine next.machine after.machine all
+    absurd (never (all_marks after.between.machine) dev (kept l.machine after.between.machine after.are_sent.machine.marks all) after.unread.unsteady)
+after_stop l next (r.Mig errors.StreamFailed) all after = kept l.machine next.machine after.machine.marks all
 after_stop l next _ all after = absurd after
 
 after_call : (l next : LiveSeen) (e : LiveEvent) (reply : LiveReply) → AreReliable (all_marks l.machine) → Does l e reply next → AreReliable (all_marks next.machine)

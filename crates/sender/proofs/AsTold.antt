@@ -360,7 +360,7 @@ copy_telling : (old new : LiveSeen) (t : List ℕ) (k i : ℕ) → HasPlaces old
 copy_telling old new t k i places below s g =
     let are : AreTold old.machine (chosen (λ j. eqb j i) (i + 1)) (s.entry ∷ []) = rw (chosen_one i) (s.told, tt) in
     let P : List ℕ → Type 0 = λ x. IsTelling new (t ++ x) k in
-    subst P (one_text s.entry) (telling_on old new t k (i + 1) (λ j. eqb j i) (s.entry ∷ []) places (ap state_of s.machine) (omega (arith, below)) are (copied_either old new i s) g)
+    subst P (one_text s.entry) (telling_on old new t k (i + 1) (λ j. eqb j i) (s.entry ∷ []) places s.machine.state (omega (arith, below)) are (copied_either old new i s) g)
 
 -- A round ends.
 round_telling : (old new : LiveSeen) (t : List ℕ) (k n : ℕ) → HasPlaces old → HasNone old.due → (s : EndsRound old n new) → s.round ≡ k → k + 1 ≤ last_round → IsTelling old t k → IsTelling new (t ++ spelled_record (round_end s.round)) n
@@ -537,7 +537,7 @@ module _ (out : SinkState) (old new : LiveSeen) (g : IsWriting out old) (places 
   stop_on : (reply : LiveReply) (k : ℕ) → old.phase ≡ phases.Open k → AfterStop old reply new → IsWriting out new
   stop_on (r.Stopped pages sectors) k is s =
       let n = size_of (layout_of (now old)) in
-      let still : now new ≡ now old = ap state_of s.machine in
+      let still : now new ≡ now old = s.machine.state in
       let free = is_open old.phase k is in
       let xs = texts s.entries in
       let telling = telling_on old new g.text k n (in_either old) s.entries places still (omega arith) s.told (cleared_either old new n s.sets) (telling_in k is) in
@@ -555,7 +555,7 @@ module _ (out : SinkState) (old new : LiveSeen) (g : IsWriting out old) (places 
   stop_on (r.Mig (errors.DiskFailed dev n)) k is s =
       let a = s.are_sent in
       let free = is_open old.phase k is in
-      let mid = telling_on old s.between g.text k s.number (in_either old) a.entries places (ap state_of a.machine) (omega (arith, s.below)) a.told (cleared_either old s.between s.number a.sets) (telling_in k is) in
+      let mid = telling_on old s.between g.text k s.number (in_either old) a.entries places a.machine.state (omega (arith, s.below)) a.told (cleared_either old s.between s.number a.sets) (telling_in k is) in
       let telling = still_telling s.between new (g.text ++ texts a.entries) k s.unread.state (λ i none. sym (ap (λ (x : LiveSeen). in_either x i) s.unread.rest) ∙ none) mid in
       let w = wrote_stays old s.between new (texts a.entries) (ap (λ (x : LiveSeen). x.out) s.unread.rest) (ap (λ (x : LiveSeen). x.digest) s.unread.rest) a.wrote in
       wrote_on out old new (texts a.entries) k g free.0 free.1 (ap (λ (x : LiveSeen). x.phase) s.unread.rest ∙ a.phase ∙ is) w telling
@@ -653,26 +653,26 @@ guest_shape old new e _ d = absurd d
 
 begin_shape : (old new : LiveSeen) (reply : LiveReply) → AfterBegin old reply new → IsSameShape (now old) (now new)
 begin_shape old new (r.Begun k) d = kept_shape old new (ap state_of d.1.machine)
-begin_shape old new (r.Mig errors.StreamFailed) d = kept_shape old new (ap state_of d.machine)
+begin_shape old new (r.Mig errors.StreamFailed) d = kept_shape old new d.machine.state
 begin_shape old new _ d = absurd d
 
 copy_shape : (old new : LiveSeen) (reply : LiveReply) → AfterCopy old reply new → IsSameShape (now old) (now new)
-copy_shape old new (r.Copied item) d = kept_shape old new (ap state_of d.sent.machine)
+copy_shape old new (r.Copied item) d = kept_shape old new d.sent.machine.state
 copy_shape old new r.RoundDone d = kept_shape old new (ap now d.1)
 copy_shape old new (r.Mig (errors.DiskFailed dev n)) d = kept_shape old new d.unread.state
-copy_shape old new (r.Mig errors.StreamFailed) d = kept_shape old new (ap state_of d.machine)
+copy_shape old new (r.Mig errors.StreamFailed) d = kept_shape old new d.machine.state
 copy_shape old new _ d = absurd d
 
 round_shape : (old new : LiveSeen) (reply : LiveReply) → AfterRound old reply new → IsSameShape (now old) (now new)
 round_shape old new (r.Begun k) d = kept_shape old new (ap state_of d.1.machine)
 round_shape old new r.RoundOpen d = kept_shape old new (ap now d.1)
-round_shape old new (r.Mig errors.StreamFailed) d = kept_shape old new (ap state_of d.machine)
+round_shape old new (r.Mig errors.StreamFailed) d = kept_shape old new d.machine.state
 round_shape old new _ d = absurd d
 
 stop_shape : (old new : LiveSeen) (reply : LiveReply) → AfterStop old reply new → IsSameShape (now old) (now new)
-stop_shape old new (r.Stopped pages sectors) d = kept_shape old new (ap state_of d.machine)
-stop_shape old new (r.Mig (errors.DiskFailed dev n)) d = kept_shape old new (d.unread.state ∙ ap state_of d.are_sent.machine)
-stop_shape old new (r.Mig errors.StreamFailed) d = kept_shape old new (ap state_of d.machine)
+stop_shape old new (r.Stopped pages sectors) d = kept_shape old new d.machine.state
+stop_shape old new (r.Mig (errors.DiskFailed dev n)) d = kept_shape old new (d.unread.state ∙ d.are_sent.machine.state)
+stop_shape old new (r.Mig errors.StreamFailed) d = kept_shape old new d.machine.state
 stop_shape old new _ d = absurd d
 
 does_shape : (old new : LiveSeen) (e : LiveEvent) (reply : LiveReply) → Does old e reply new → IsSameShape (now old) (now new)

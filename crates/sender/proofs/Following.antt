@@ -11,7 +11,7 @@ use Rattle.machine.specs.Effect.{Effect, applied, items_of}
 use Rattle.machine.specs.EffectLaws.{IsSameShape}
 use Rattle.machine.specs.Layout.{Layout, firsts_of, item_at, layout_of, number_of, size_of}
 use Rattle.machine.specs.Outcome.{outcome_of}
-use Rattle.machine.specs.Seen.{Seen, state_of}
+use Rattle.machine.specs.Seen.{state_of}
 use Rattle.machine.specs.State.{MachineState}
 use Rattle.machine.specs.Step.{HasEffect}
 use Rattle.machine.specs.declared.event.Event.{Event}
@@ -208,8 +208,8 @@ fresh_if (phases.Open k) free = cc
 fresh_if phases.Stopped free = cc
 fresh_if phases.Failed free = cc
 
-still_shape : (m : MachineState) (old new : LiveSeen) → new.machine ≡ old.machine → IsSameShape m (now old) → IsSameShape m (now new)
-still_shape m old new same shape = let P : Seen → Type 0 = λ x. IsSameShape m (state_of x) in subst P (sym same) shape
+still_shape : (m : MachineState) (old new : LiveSeen) → now new ≡ now old → IsSameShape m (now old) → IsSameShape m (now new)
+still_shape m old new same shape = subst (IsSameShape m) (sym same) shape
 
 same_size : (m s : MachineState) → IsSameShape m s → size_of (layout_of s) ≡ size_of (layout_of m)
 same_size m s h = ap size_of (same_layout m s h)
@@ -222,7 +222,7 @@ begin_follows m h k c old new f free one b =
     let size = same_size m (now old) f.shape in
     record {
       machine = ap state_of b.machine ∙ f.machine;
-      shape = still_shape m old new b.machine f.shape;
+      shape = still_shape m old new (ap state_of b.machine) f.shape;
       phase = b.phase ∙ ap phases.Open (sym one);
       sets = record {
         due = λ i below. let low : i < size_of (layout_of (now old)) = omega (arith, below, size) in rw (b.due, all i) (get_or-replicate (size_of (layout_of (now old))) i true false low);
@@ -283,8 +283,8 @@ copied_follows m h item c k old new f places is s =
     let here : phase_of h ≡ phases.Open k = sym f.phase ∙ is in
     let in_dirty : s.number < length old.dirty = omega (arith, member_below old.due s.number s.least.member, places.due_size, places.dirty_size) in
     record {
-      machine = ap state_of s.sent.machine ∙ f.machine;
-      shape = still_shape m old new s.sent.machine f.shape;
+      machine = s.sent.machine.state ∙ f.machine;
+      shape = still_shape m old new s.sent.machine.state f.shape;
       phase = s.sent.phase ∙ f.phase;
       sets = subst P (sym here) (copied_agrees m h item c s.number old new (copied_number m old new item f.shape places s).0 (member_below old.due s.number s.least.member) in_dirty s.sent (agree_open m h old k f is));
     }
@@ -309,7 +309,7 @@ round_agrees m h k c old new places shape none s a =
 pub round_follows : (m : MachineState) (h : History) (k : ℕ) (c : Effect) (old new : LiveSeen) → Follows m h old → HasPlaces old → HasNone old.due → EndsRound old k new → Follows m (then_came h EndRound (r.Begun k) c) new
 round_follows m h k c old new f places none s = record {
   machine = ap state_of s.machine ∙ f.machine;
-  shape = still_shape m old new s.machine f.shape;
+  shape = still_shape m old new (ap state_of s.machine) f.shape;
   phase = s.phase;
   sets = round_agrees m h k c old new places f.shape none s (agree_open m h old s.round f s.was);
 }
@@ -318,8 +318,8 @@ round_follows m h k c old new f places none s = record {
 
 pub failed_follows : (m : MachineState) (h : History) (e : LiveEvent) (c : Effect) (old new : LiveSeen) → Follows m h old → Fails old new → Follows m (then_came h e (r.Mig errors.StreamFailed) c) new
 failed_follows m h e c old new f s = record {
-  machine = ap state_of s.machine ∙ f.machine ∙ sym ((quiet_mig e errors.StreamFailed tt).same (machine_after m h) c);
-  shape = still_shape m old new s.machine f.shape;
+  machine = s.machine.state ∙ f.machine ∙ sym ((quiet_mig e errors.StreamFailed tt).same (machine_after m h) c);
+  shape = still_shape m old new s.machine.state f.shape;
   phase = s.phase;
   sets = tt;
 }
@@ -328,8 +328,8 @@ failed_follows m h e c old new f s = record {
 
 pub stopped_follows : (m : MachineState) (h : History) (pages sectors : ℕ) (c : Effect) (old new : LiveSeen) → Follows m h old → Stops old pages sectors new → Follows m (then_came h Stop (r.Stopped pages sectors) c) new
 stopped_follows m h pages sectors c old new f s = record {
-  machine = ap state_of s.machine ∙ f.machine;
-  shape = still_shape m old new s.machine f.shape;
+  machine = s.machine.state ∙ f.machine;
+  shape = still_shape m old new s.machine.state f.shape;
   phase = s.phase;
   sets = tt;
 }
@@ -379,7 +379,7 @@ pub short_follows : (m : MachineState) (h : History) (dev n k : ℕ) (c : Effect
 short_follows m h dev n k c old new f is s =
     let P : Phase → Type 0 = λ p. AgreesIn p m (then_came h Stop (r.Mig (errors.DiskFailed dev n)) c) new in
     let here : phase_of h ≡ phases.Open k = sym f.phase ∙ is in
-    let state : now new ≡ now old = s.unread.state ∙ ap state_of s.are_sent.machine in
+    let state : now new ≡ now old = s.unread.state ∙ s.are_sent.machine.state in
     record {
       machine = state ∙ f.machine;
       shape = subst (λ x. IsSameShape m x) (sym state) f.shape;

@@ -6,7 +6,7 @@ use Rattle.machine.specs.Applied.{IsHonestFor}
 use Rattle.machine.specs.Effect.{Effect, no_effect, applied}
 use Rattle.machine.specs.Layout.{Layout, item_at, layout_of, size_of}
 use Rattle.machine.specs.Outcome.{outcome_of}
-use Rattle.machine.specs.Seen.{AreHonest, Marks, all_marks, state_of}
+use Rattle.machine.specs.Seen.{AreHonest, Marks, all_marks}
 use Rattle.machine.specs.Sound.{IsSound}
 use Rattle.machine.specs.State.{MachineState}
 use Rattle.machine.specs.Step.{HasEffect}
@@ -157,7 +157,7 @@ module _ (m : MachineState) (h : History) (old new : LiveSeen) (f : Follows m h 
   does_stop (r.Stopped pages sectors) c k is d = (stopped_follows m h pages sectors c old new f d, stopped_now k pages sectors is d)
   does_stop (r.Mig (errors.DiskFailed dev n)) c k is d = (
     short_follows m h dev n k c old new f is d,
-    (stale_item dev n k is d, subst (λ x. IsGoodIn x dev n) (ap state_of d.are_sent.machine ∙ f.machine) d.unread.good),
+    (stale_item dev n k is d, subst (λ x. IsGoodIn x dev n) (d.are_sent.machine.state ∙ f.machine) d.unread.good),
   )
   does_stop (r.Mig errors.StreamFailed) c k is d = (failed_follows m h Stop c old new f d, tt)
   does_stop _ c k is d = absurd d

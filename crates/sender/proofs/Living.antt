@@ -4,14 +4,13 @@ use Rattle.std.proofs.lemmas.Bool.{eq-eqb}
 use Rattle.std.proofs.lemmas.List.{get_or-set_same, length-set, length-replicate}
 use Rattle.dirtylog.specs.Members.{HasNone, IsLeast, has}
 use Rattle.sha2.specs.declared.Sha256.{Sha256}
-use Rattle.guestmem.specs.Memory.{Memory}
 use Rattle.guestmem.specs.Item.{Item, after_all, page, sector}
 use Rattle.machine.specs.Applied.{IsAppliedLogged, MayItems}
 use Rattle.machine.specs.Effect.{items_of}
 use Rattle.machine.specs.Layout.{IsItemIn, firsts_of, layout_of, number_in, number_of, size_of}
-use Rattle.machine.specs.Seen.{DeviceSeen, Marks, Seen, all_marks, state_of, all_flushed}
+use Rattle.machine.specs.Seen.{Seen, state_of}
 use Rattle.machine.specs.Sound.{IsSound}
-use Rattle.machine.specs.State.{DeviceState, MachineState}
+use Rattle.machine.specs.State.{MachineState}
 use Rattle.machine.specs.declared.event.Event.{Event}
 use Rattle.machine.specs.declared.reply.Reply.{Reply}
 use Rattle.machine.proofs.Numbering.{in_layout, number_below, same_layout}
@@ -204,34 +203,3 @@ round_fits phase round open_is fits free =
     let below : round ≤ last_round = rw open_is at fits in
     let some : round ≢ last_round = not_last phase round open_is free in
     omega (arith, below, some)
-
--- A machine whose parts are the same is the same.
-parts_of : (s t : DeviceState) (x y : List (Option (List ℕ))) (a b : Marks) (f g : Bool) → s ≡ t → x ≡ y → a ≡ b → f ≡ g → ◌≡◌ {A = DeviceSeen} (record { state = s; sectors = x; marks = a; is_flushed = f }) (record { state = t; sectors = y; marks = b; is_flushed = g })
-parts_of s t x y a b f g states sectors marks flushed = rw (states, sectors, marks, flushed) refl
-
-device_same : (e d : DeviceSeen) → e.state ≡ d.state → e.sectors ≡ d.sectors → e.marks ≡ d.marks → e.is_flushed ≡ d.is_flushed → e ≡ d
-device_same e d state sectors marks flushed = parts_of e.state d.state e.sectors d.sectors e.marks d.marks e.is_flushed d.is_flushed state sectors marks flushed
-
-both_of : (m n : Memory) (ds es : List DeviceSeen) → m ≡ n → ds ≡ es → ◌≡◌ {A = Seen} (record { memory = m; devices = ds }) (record { memory = n; devices = es })
-both_of m n ds es e f = rw (e, f) refl
-
-seen_devices : (ds es : List DeviceSeen) → map (λ (d : DeviceSeen). d.state) es ≡ map (λ (d : DeviceSeen). d.state) ds → map (λ (d : DeviceSeen). d.sectors) es ≡ map (λ (d : DeviceSeen). d.sectors) ds → map (λ (d : DeviceSeen). d.marks) es ≡ map (λ (d : DeviceSeen). d.marks) ds → map (λ (d : DeviceSeen). d.is_flushed) es ≡ map (λ (d : DeviceSeen). d.is_flushed) ds → es ≡ ds
-seen_devices [] [] a b c f = refl
-seen_devices [] (e ∷ es) a b c f = absurd (omega (arith, ap length a))
-seen_devices (d ∷ ds) [] a b c f = absurd (omega (arith, ap length a))
-seen_devices (d ∷ ds) (e ∷ es) a b c f =
-    let states : map (λ (x : DeviceSeen). x.state) es ≡ map (λ (x : DeviceSeen). x.state) ds = cc in
-    let disks : map (λ (x : DeviceSeen). x.sectors) es ≡ map (λ (x : DeviceSeen). x.sectors) ds = cc in
-    let others : map (λ (x : DeviceSeen). x.marks) es ≡ map (λ (x : DeviceSeen). x.marks) ds = cc in
-    let others_flushed : map (λ (x : DeviceSeen). x.is_flushed) es ≡ map (λ (x : DeviceSeen). x.is_flushed) ds = cc in
-    let rest : es ≡ ds = seen_devices ds es states disks others others_flushed in
-    let state : e.state ≡ d.state = cc in
-    let sectors : e.sectors ≡ d.sectors = cc in
-    let marks : e.marks ≡ d.marks = cc in
-    let flushed : e.is_flushed ≡ d.is_flushed = cc in
-    let same : e ≡ d = device_same e d state sectors marks flushed in
-    rw (same, rest) refl
-
-pub seen_same : (old new : Seen) → new.memory ≡ old.memory → state_of new ≡ state_of old → all_marks new ≡ all_marks old → all_flushed new ≡ all_flushed old → new ≡ old
-seen_same old new memory state marks flushed =
-    both_of new.memory old.memory new.devices old.devices memory (seen_devices old.devices new.devices (ap (λ (m : MachineState). m.devices) state) (ap (λ (m : MachineState). m.disks) state) marks flushed)

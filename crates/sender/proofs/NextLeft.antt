@@ -1,18 +1,21 @@
 -- The next item of two sets that are gone over side by side.
 use Rattle.std.proofs.Common.{◌≡◌, ◌≢◌, ℕ, ◌+◌, ◌-◌, ◌<◌, ◌≤◌, List, length, set, Bool, true, false, Option, Some, None, min, nat_lt, refl, ap, sym, subst, ◌∙◌, ◌⊎◌, inl, inr, arith}
-use Rattle.std.specs.Prelude.{◌||◌}
+use Rattle.std.specs.Prelude.{◌||◌, Err}
 use Rattle.std.proofs.lemmas.Bool.{or_parts, true≢false}
 use Rattle.std.proofs.lemmas.List.{get_or-set_other}
 use Rattle.dirtylog.specs.Members.{IsLeastFrom, has}
-use Rattle.machine.specs.Layout.{pages_of}
+use Rattle.machine.specs.Layout.{item_at, layout_of, pages_of}
 use Rattle.machine.proofs.Numbering.{either_way}
-use Rattle.sender.specs.Calls.{in_either}
+use Rattle.sender.specs.Calls.{AreCleared, in_either}
 use Rattle.sender.specs.LiveState.{HasPlaces, LiveSeen, now}
-use Rattle.sender.specs.Stopping.{HasNoneUpTo, SendsOk, lesser, one_more}
+use Rattle.sender.specs.Reads.{FailedCalls, ReadsBelow, ReadsItem}
+use Rattle.sender.specs.Stopping.{HasNoneUpTo, SendsItem, SendsOk, lesser, one_more}
 use Rattle.sender.specs.declared.event.Item.{Item}
 use Rattle.sender.specs.declared.event.Stopped.{Stopped}
+use Rattle.sender.specs.declared.mig_error.MigError.{MigError}
 use Rattle.sender.proofs.Living.{member_below, still_none}
-use Rattle.sender.proofs.Stopping.{Along, along_first, along_more, along_to, lt_or_le}
+use Rattle.sender.proofs.ItemReads.{failed_at_item, reads_more, reads_to}
+use Rattle.sender.proofs.Stopping.{Along, along_first, along_more, along_to, either_same, lt_or_le}
 
 -- The next item, or the end.
 abbrev pub reached : Option ℕ → ℕ → ℕ
@@ -81,6 +84,11 @@ onward_first old due dirty pages places is h i = record {
   dirty_next = i;
 }
 
+pub reads_first : (called : ℕ → ℕ) (old : LiveSeen) (due dirty : Option ℕ) → IsLeastFrom old.due 0 due → IsLeastFrom old.dirty 0 dirty → ReadsBelow called old (reached (lesser due dirty) (length old.due)) old
+reads_first called old due dirty h i =
+    let none : AreCleared old 0 old = record { gone = λ k below. absurd (omega (arith, below)); due = λ k le. refl; dirty = λ k le. refl } in
+    reads_to called old old 0 (reached (lesser due dirty) (length old.due)) none (omega arith) (λ k _ below. passed old.due old.dirty due dirty (length old.due) k h i below) refl
+
 module _ (old mid : LiveSeen) (due dirty : Option ℕ) (n pages : ℕ) (sent : Stopped) (h : Onward old due dirty pages sent mid) (is : lesser due dirty ≡ Some n) where
   pub along_here : Along old n pages sent mid
   along_here = let P : Option ℕ → Type 0 = λ x. Along old (reached x (length old.due)) pages sent mid in subst P is h.along
@@ -96,6 +104,17 @@ module _ (old mid : LiveSeen) (due dirty : Option ℕ) (n pages : ℕ) (sent : S
 
   pub along_next : (new : LiveSeen) (item : Item) (after : Stopped) → SendsOk mid n item new → after ≡ one_more sent (nat_lt n pages) → Along old (n + 1) pages after new
   along_next new item after s e = along_more old mid new n pages item sent after along_here next_inside next_member s e
+
+  pub reads_next : (called : ℕ → ℕ) (new : LiveSeen) → ReadsBelow called old (reached (lesser due dirty) (length old.due)) mid → ReadsItem called mid.machine (item_at (layout_of (now mid)) n) new.machine → ReadsBelow called old (n + 1) new
+  reads_next called new before one =
+      let P : Option ℕ → Type 0 = λ x. ReadsBelow called old (reached x (length old.due)) mid in
+      let member : in_either old n ≡ true = sym (either_same old mid n n along_here.are_sent.sets (omega arith)) ∙ next_member in
+      reads_more called old mid new n member along_here.are_sent.machine.state (subst P is before) one
+
+  pub reads_failed : (called : ℕ → ℕ) (new : LiveSeen) (e : MigError) → ReadsBelow called old (reached (lesser due dirty) (length old.due)) mid → ReadsItem called mid.machine (item_at (layout_of (now mid)) n) new.machine → SendsItem mid n (Err e) new
+      → FailedCalls called old e new
+  reads_failed called new e before one s =
+      failed_at_item called old mid new n e (omega (arith, next_inside, along_here.places.due_size)) along_here.are_sent.machine.state s (reads_next called new before one)
 
 -- After an item was sent.
 pub gone_due : (old new : LiveSeen) (n pages : ℕ) (sent : Stopped) → Along old (n + 1) pages sent new → HasNoneUpTo new.due n
@@ -125,6 +144,10 @@ module _ (old new : LiveSeen) (due dirty : Option ℕ) (n pages : ℕ) (sent : S
     due_next = h;
     dirty_next = i;
   }
+
+  pub reads_onward : (called : ℕ → ℕ) → ReadsBelow called old (n + 1) new → ReadsBelow called old (reached (lesser due dirty) (length old.due)) new
+  reads_onward called reads =
+      reads_to called old new (n + 1) (reached (lesser due dirty) (length old.due)) along.are_sent.sets later (λ k _ below. passed new.due new.dirty due dirty (length old.due) k h i below) reads
 
 pub shorter : (a b : Option ℕ) (n end : ℕ) → a ≡ Some n → n < end → n + 1 ≤ reached b end → end - reached b end < end - reached a end
 shorter a b n end is inside past = rw is (omega (arith, inside, past))

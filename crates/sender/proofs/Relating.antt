@@ -54,8 +54,8 @@ marks_honest marks (events.MemWrite addr bytes) reply are = are
 marks_honest marks (events.Input dev bytes) reply are = are
 marks_honest marks (events.Resize dev cols rows) reply are = are
 
-same_honest : (old new : LiveSeen) → new.machine ≡ old.machine → AreHonest old.machine → AreHonest new.machine
-same_honest old new same are = subst AreHonest (sym same) are
+same_honest : (old new : LiveSeen) → all_marks new.machine ≡ all_marks old.machine → AreHonest old.machine → AreHonest new.machine
+same_honest old new same are = subst Honest (sym same) are
 
 unread_honest : (old new : LiveSeen) (dev n : ℕ) → IsUnread old dev n new → AreHonest old.machine → AreHonest new.machine
 unread_honest old new dev n u are = subst Honest (sym u.marks) (honest_once (all_marks old.machine) dev are)
@@ -65,27 +65,27 @@ guest_honest old new e (r.Guest reply) are d = subst Honest (sym d.is_applied.ma
 guest_honest old new e _ are d = absurd d
 
 begin_honest : (old new : LiveSeen) (reply : LiveReply) → AreHonest old.machine → AfterBegin old reply new → AreHonest new.machine
-begin_honest old new (r.Begun k) are d = same_honest old new d.1.machine are
-begin_honest old new (r.Mig errors.StreamFailed) are d = same_honest old new d.machine are
+begin_honest old new (r.Begun k) are d = same_honest old new (ap all_marks d.1.machine) are
+begin_honest old new (r.Mig errors.StreamFailed) are d = same_honest old new d.machine.marks are
 begin_honest old new _ are d = absurd d
 
 copy_honest : (old new : LiveSeen) (reply : LiveReply) → AreHonest old.machine → AfterCopy old reply new → AreHonest new.machine
-copy_honest old new (r.Copied item) are d = same_honest old new d.sent.machine are
-copy_honest old new r.RoundDone are d = same_honest old new (ap (λ (s : LiveSeen). s.machine) d.1) are
+copy_honest old new (r.Copied item) are d = same_honest old new d.sent.machine.marks are
+copy_honest old new r.RoundDone are d = same_honest old new (ap (λ (s : LiveSeen). all_marks s.machine) d.1) are
 copy_honest old new (r.Mig (errors.DiskFailed dev n)) are d = unread_honest old new dev n d.unread are
-copy_honest old new (r.Mig errors.StreamFailed) are d = same_honest old new d.machine are
+copy_honest old new (r.Mig errors.StreamFailed) are d = same_honest old new d.machine.marks are
 copy_honest old new _ are d = absurd d
 
 round_honest : (old new : LiveSeen) (reply : LiveReply) → AreHonest old.machine → AfterRound old reply new → AreHonest new.machine
-round_honest old new (r.Begun k) are d = same_honest old new d.1.machine are
-round_honest old new r.RoundOpen are d = same_honest old new (ap (λ (s : LiveSeen). s.machine) d.1) are
-round_honest old new (r.Mig errors.StreamFailed) are d = same_honest old new d.machine are
+round_honest old new (r.Begun k) are d = same_honest old new (ap all_marks d.1.machine) are
+round_honest old new r.RoundOpen are d = same_honest old new (ap (λ (s : LiveSeen). all_marks s.machine) d.1) are
+round_honest old new (r.Mig errors.StreamFailed) are d = same_honest old new d.machine.marks are
 round_honest old new _ are d = absurd d
 
 stop_honest : (old new : LiveSeen) (reply : LiveReply) → AreHonest old.machine → AfterStop old reply new → AreHonest new.machine
-stop_honest old new (r.Stopped pages sectors) are d = same_honest old new d.machine are
-stop_honest old new (r.Mig (errors.DiskFailed dev n)) are d = unread_honest d.between new dev n d.unread (same_honest old d.between d.are_sent.machine are)
-stop_honest old new (r.Mig errors.StreamFailed) are d = same_honest old new d.machine are
+stop_honest old new (r.Stopped pages sectors) are d = same_honest old new d.machine.marks are
+stop_honest old new (r.Mig (errors.DiskFailed dev n)) are d = unread_honest d.between new dev n d.unread (same_honest old d.between d.are_sent.machine.marks are)
+stop_honest old new (r.Mig errors.StreamFailed) are d = same_honest old new d.machine.marks are
 stop_honest old new _ are d = absurd d
 
 does_honest : (old new : LiveSeen) (e : LiveEvent) (reply : LiveReply) → AreHonest old.machine → Does old e reply new → AreHonest new.machine
@@ -97,7 +97,7 @@ does_honest old new Stop reply are d = stop_honest old new reply are d
 
 honest_on : (old new : LiveSeen) (e : LiveEvent) (reply : LiveReply) → AreHonest old.machine → Serves old e reply new → AreHonest new.machine
 honest_on old new e reply are s = elim (told (refusal_for old.phase e) (Does old e reply new) (λ x. (reply ≡ r.Mig x) × (new ≡ old)) s) as (λ _. AreHonest new.machine)
-    [ inl a ↦ does_honest old new e reply are a.1 | inr b ↦ same_honest old new (ap (λ (x : LiveSeen). x.machine) b.2.1) are ]
+    [ inl a ↦ does_honest old new e reply are a.1 | inr b ↦ same_honest old new (ap (λ (x : LiveSeen). all_marks x.machine) b.2.1) are ]
 
 fault_is : (x : MigError) → is_fault (r.Mig x) ≡ true → x ≡ errors.StreamFailed
 fault_is errors.StreamFailed e = refl

@@ -25,7 +25,6 @@ use Rattle.sender.specs.declared.mig_error.MigError.TheVariants as errors
 use Rattle.sender.specs.declared.phase.Phase.{Phase}
 use Rattle.sender.specs.declared.event.LiveEvent.TheVariants as events
 use Rattle.sender.specs.declared.event.LiveReply.TheVariants as r
-use Rattle.sender.proofs.Living.{seen_same}
 
 -- What was written.
 pub wrote_by : {A E : Type 0} (old new : LiveSeen) (x y : List ℕ) (done : A) → x ≡ y → Appends {E = E} old.out x (Ok done) new.out → Takes (λ b. Holds256 old.digest b) x (λ b. Holds256 new.digest b) → Wrote old new y
@@ -44,7 +43,7 @@ pub item_sent : {A : Type 0} (old new : LiveSeen) (i : ℕ) (item : Item) (done 
 item_sent old new i item done is sends adds phase due dirty = record {
   item_is = is;
   sent = record {
-    machine = seen_same old.machine new.machine sends.memory sends.state sends.marks sends.flushed;
+    machine = record { memory = sends.memory; state = sends.state; marks = sends.marks; flushed = sends.flushed };
     phase = phase;
     due = due;
     dirty = dirty;
@@ -60,7 +59,7 @@ rest_parts m p q due new_due dirty new_dirty digest new_digest out new_out a b c
 
 pub item_not_sent : {A : Type 0} (old new : LiveSeen) (i : ℕ) (item : Item) (e : MigError) (x : List ℕ) → item_of item ≡ item_at (layout_of (now old)) i → Sends {A = A} old.machine old.out x (Err e) new.machine new.out
     → NamesItem (item_of item) e old.out new.out old.digest new.digest → new.phase ≡ phase_after old.phase e → new.due ≡ old.due → new.dirty ≡ old.dirty → SendsItem old i (Err e) new
-item_not_sent old new i item errors.StreamFailed x is sends names phase due dirty = record { machine = seen_same old.machine new.machine sends.memory sends.state sends.marks sends.flushed; phase = phase; count = sends.count }
+item_not_sent old new i item errors.StreamFailed x is sends names phase due dirty = record { machine = record { memory = sends.memory; state = sends.state; marks = sends.marks; flushed = sends.flushed }; phase = phase; count = sends.count }
 item_not_sent old new i item (errors.DiskFailed dev n) x is sends names phase due dirty = record {
   item_is = names.names ∙ is;
   unread = record {

@@ -2,7 +2,7 @@
 use Rattle.std.proofs.Common.{◌≡◌, ℕ, zero, suc, List, [], ◌∷◌, ◌++◌, length, Bool, true, false, cond, refl, ap, sym, ◌∙◌, subst, inl, inr, arith}
 use Rattle.machine.specs.Applied.{FailsOnlyUnsteady, marks_after}
 use Rattle.machine.specs.Outcome.{is_failure}
-use Rattle.machine.specs.Seen.{Marks, Seen, all_marks, failed_at, marks_at}
+use Rattle.machine.specs.Seen.{Marks, all_marks, failed_at, marks_at}
 use Rattle.machine.specs.declared.event.Event.{Event}
 use Rattle.machine.specs.declared.event.Event.TheVariants as events
 use Rattle.machine.specs.declared.reply.Reply.{Reply}
@@ -50,9 +50,9 @@ pub record Keeps (old : LiveSeen) (e : LiveEvent) (reply : LiveReply) (new : Liv
   pub alike : AreAlike (all_marks old.machine) (all_marks new.machine)
   pub names : NamesUnsteady (all_marks old.machine) e reply
 
-same_alike : (old new : LiveSeen) → new.machine ≡ old.machine → AreAlike (all_marks old.machine) (all_marks new.machine)
+same_alike : (old new : LiveSeen) → all_marks new.machine ≡ all_marks old.machine → AreAlike (all_marks old.machine) (all_marks new.machine)
 unfolding AreAlike
-same_alike old new same = λ dev. ap (λ (x : Seen). (marks_at (all_marks x) dev).steady) same
+same_alike old new same = λ dev. ap (λ (marks : List Marks). (marks_at marks dev).steady) same
 
 unread_keeps : (old new : LiveSeen) (e : LiveEvent) (dev n : ℕ) → IsUnread old dev n new → NamesUnsteady (all_marks old.machine) e (r.Mig (errors.DiskFailed dev n)) → Keeps old e (r.Mig (errors.DiskFailed dev n)) new
 unread_keeps old new e dev n u names = record { alike = rw u.marks (fails_alike (all_marks old.machine) dev); names = names }
@@ -62,32 +62,32 @@ guest_keeps old new e (r.Guest reply) d = record { alike = rw d.is_applied.marks
 guest_keeps old new e _ d = absurd d
 
 begin_keeps : (old new : LiveSeen) (reply : LiveReply) → AfterBegin old reply new → Keeps old Begin reply new
-begin_keeps old new (r.Begun k) d = record { alike = same_alike old new d.1.machine; names = tt }
-begin_keeps old new (r.Mig errors.StreamFailed) d = record { alike = same_alike old new d.machine; names = tt }
+begin_keeps old new (r.Begun k) d = record { alike = same_alike old new (ap all_marks d.1.machine); names = tt }
+begin_keeps old new (r.Mig errors.StreamFailed) d = record { alike = same_alike old new d.machine.marks; names = tt }
 begin_keeps old new _ d = absurd d
 
 copy_keeps : (old new : LiveSeen) (reply : LiveReply) → AfterCopy old reply new → Keeps old Copy reply new
-copy_keeps old new (r.Copied item) d = record { alike = same_alike old new d.sent.machine; names = tt }
-copy_keeps old new r.RoundDone d = record { alike = same_alike old new (ap (λ (x : LiveSeen). x.machine) d.1); names = tt }
+copy_keeps old new (r.Copied item) d = record { alike = same_alike old new d.sent.machine.marks; names = tt }
+copy_keeps old new r.RoundDone d = record { alike = same_alike old new (ap (λ (x : LiveSeen). all_marks x.machine) d.1); names = tt }
 copy_keeps old new (r.Mig (errors.DiskFailed dev n)) d = unread_keeps old new Copy dev n d.unread d.unread.unsteady
-copy_keeps old new (r.Mig errors.StreamFailed) d = record { alike = same_alike old new d.machine; names = tt }
+copy_keeps old new (r.Mig errors.StreamFailed) d = record { alike = same_alike old new d.machine.marks; names = tt }
 copy_keeps old new _ d = absurd d
 
 round_keeps : (old new : LiveSeen) (reply : LiveReply) → AfterRound old reply new → Keeps old EndRound reply new
-round_keeps old new (r.Begun k) d = record { alike = same_alike old new d.1.machine; names = tt }
-round_keeps old new r.RoundOpen d = record { alike = same_alike old new (ap (λ (x : LiveSeen). x.machine) d.1); names = tt }
-round_keeps old new (r.Mig errors.StreamFailed) d = record { alike = same_alike old new d.machine; names = tt }
+round_keeps old new (r.Begun k) d = record { alike = same_alike old new (ap all_marks d.1.machine); names = tt }
+round_keeps old new r.RoundOpen d = record { alike = same_alike old new (ap (λ (x : LiveSeen). all_marks x.machine) d.1); names = tt }
+round_keeps old new (r.Mig errors.StreamFailed) d = record { alike = same_alike old new d.machine.marks; names = tt }
 round_keeps old new _ d = absurd d
 
 stop_keeps : (old new : LiveSeen) (reply : LiveReply) → AfterStop old reply new → Keeps old Stop reply new
-stop_keeps old new (r.Stopped pages sectors) d = record { alike = same_alike old new d.machine; names = tt }
+stop_keeps old new (r.Stopped pages sectors) d = record { alike = same_alike old new d.machine.marks; names = tt }
 stop_keeps old new (r.Mig (errors.DiskFailed dev n)) d =
-    let same : d.between.machine ≡ old.machine = d.are_sent.machine in
+    let same : all_marks d.between.machine ≡ all_marks old.machine = d.are_sent.machine.marks in
     record {
       alike = rw (d.unread.marks, same) (fails_alike (all_marks old.machine) dev);
-      names = subst (λ (x : Seen). (marks_at (all_marks x) dev).steady ≡ false) same d.unread.unsteady;
+      names = subst (λ (marks : List Marks). (marks_at marks dev).steady ≡ false) same d.unread.unsteady;
     }
-stop_keeps old new (r.Mig errors.StreamFailed) d = record { alike = same_alike old new d.machine; names = tt }
+stop_keeps old new (r.Mig errors.StreamFailed) d = record { alike = same_alike old new d.machine.marks; names = tt }
 stop_keeps old new _ d = absurd d
 
 does_keeps : (old new : LiveSeen) (e : LiveEvent) (reply : LiveReply) → Does old e reply new → Keeps old e reply new
@@ -108,7 +108,7 @@ no_name marks (errors.DiskFailed dev n) none = absurd none
 pub keeps : (old new : LiveSeen) (e : LiveEvent) (reply : LiveReply) → Serves old e reply new → Keeps old e reply new
 keeps old new e reply s = elim (told (refusal_for old.phase e) (Does old e reply new) (λ x. (reply ≡ r.Mig x) × (new ≡ old)) s) as (λ _. Keeps old e reply new) [
   | inl a ↦ does_keeps old new e reply a.1
-  | inr b ↦ record { alike = same_alike old new (ap (λ (x : LiveSeen). x.machine) b.2.1); names = rw b.2.0 (no_name (all_marks old.machine) b.0 (no_disk old.phase e b.0 b.1)) }
+  | inr b ↦ record { alike = same_alike old new (ap (λ (x : LiveSeen). all_marks x.machine) b.2.1); names = rw b.2.0 (no_name (all_marks old.machine) b.0 (no_disk old.phase e b.0 b.1)) }
 ]
 
 alike_mig : (old now : List Marks) (x : MigError) → AreAlike old now → MigNames now x → MigNames old x

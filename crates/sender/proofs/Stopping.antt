@@ -6,10 +6,11 @@ use Rattle.dirtylog.specs.Members.{HasNone, IsLeast}
 use Rattle.sha2.specs.Hashers.{Holds256}
 use Rattle.guestmem.specs.Item as items
 use Rattle.machine.specs.Layout.{item_at, layout_of, pages_of, size_of}
-use Rattle.machine.specs.Seen.{Seen, state_of}
+use Rattle.machine.specs.Seen.{Seen}
+use Rattle.machine.specs.State.{MachineState}
 use Rattle.wire.specs.Stream.{texts}
 use Rattle.wire.specs.Records.{Record, spelled_record}
-use Rattle.sender.specs.Calls.{AreCleared, AreSent, Fails, IsSent, Serves, Took, Wrote, in_either}
+use Rattle.sender.specs.Calls.{AreCleared, AreSent, Fails, IsSameButCalls, IsSent, Serves, Took, Wrote, in_either}
 use Rattle.sender.specs.LiveState.{HasPlaces, LiveSeen, chosen, closing, how_many, now, pages_among, refusal_for, sectors_among}
 use Rattle.sender.specs.Stopping.{AllSent, Closes, IsClosed, SendsAll, SendsItem, SendsOk, one_more}
 use Rattle.sender.specs.Told.{IsTold}
@@ -19,7 +20,7 @@ use Rattle.sender.specs.declared.mig_error.MigError.{MigError}
 use Rattle.sender.specs.declared.mig_error.MigError.TheVariants as errors
 use Rattle.sender.specs.declared.event.LiveEvent.TheVariants as events
 use Rattle.sender.specs.declared.event.LiveReply.TheVariants as r
-use Rattle.sender.proofs.Told.{told_more}
+use Rattle.sender.proofs.Told.{told_before, told_more}
 
 or_equal : (m n : ℕ) → m ≤ suc n → (m ≤ n) ⊎ (m ≡ suc n)
 or_equal zero n h = inl (omega arith)
@@ -69,6 +70,10 @@ wrote_more old mid new xs ys h k = record {
   taken = λ b held. let P : List ℕ → Type 0 = λ x. Holds256 new.digest x in subst P (append_assoc b xs ys) (k.taken (b ++ xs) (h.taken b held));
 }
 
+-- A machine that stays unchanged but for the calls of its disks.
+same_still : (old mid new : Seen) → IsSameButCalls old mid → IsSameButCalls mid new → IsSameButCalls old new
+same_still old mid new h k = record { memory = k.memory ∙ h.memory; state = k.state ∙ h.state; marks = k.marks ∙ h.marks; flushed = k.flushed ∙ h.flushed }
+
 -- Sets that lose their first items.
 pub either_same : (old mid : LiveSeen) (at k : ℕ) → AreCleared old at mid → at ≤ k → in_either mid k ≡ in_either old k
 either_same old mid at k h le = rw (h.due k le, h.dirty k le) refl
@@ -105,9 +110,9 @@ sent_one : (old mid new : LiveSeen) (i : ℕ) → AreSent old i mid → i < leng
 sent_one old mid new i h due_in dirty_in member sent =
     let is : in_either old i ≡ true = sym (either_same old mid i i h.sets (omega arith)) ∙ member in
     let all : texts (h.entries ++ sent.entry ∷ []) ≡ texts h.entries ++ spelled_record sent.entry = texts-append h.entries (sent.entry ∷ []) ∙ ap (λ (t : List ℕ). texts h.entries ++ t) (one_text sent.entry) in
-    let last : IsTold old.machine (item_at (layout_of (now old)) i) sent.entry = let P : Seen → Type 0 = λ x. IsTold x (item_at (layout_of (state_of x)) i) sent.entry in subst P h.machine sent.told in
+    let last : IsTold old.machine (item_at (layout_of (now old)) i) sent.entry = told_before old.machine mid.machine i sent.entry h.machine sent.told in
     record {
-      machine = sent.machine ∙ h.machine;
+      machine = same_still old.machine mid.machine new.machine h.machine sent.machine;
       phase = sent.phase ∙ h.phase;
       sets = cleared_more old mid new i h.sets due_in dirty_in sent;
       entries = h.entries ++ sent.entry ∷ [];
@@ -128,7 +133,7 @@ none_counted p q at (suc i) h none =
     ]
 
 fails_after : (old mid new : LiveSeen) (at : ℕ) → AreSent old at mid → Fails mid new → Fails old new
-fails_after old mid new at h f = record { machine = f.machine ∙ h.machine; phase = f.phase; count = rw h.wrote.took.count at f.count }
+fails_after old mid new at h f = record { machine = same_still old.machine mid.machine new.machine h.machine f.machine; phase = f.phase; count = rw h.wrote.took.count at f.count }
 
 -- What holds of the items sent so far and of their numbers.
 pub record Along (old : LiveSeen) (at pages : ℕ) (sent : Stopped) (mid : LiveSeen) : Type 0 where
@@ -146,13 +151,12 @@ few_counted old mid p count at pages sent h below e = omega (arith, e, below, h.
 -- The items are those of the machine before.
 pub inside : (old mid : LiveSeen) (at pages : ℕ) (sent : Stopped) → Along old at pages sent mid → at < length old.due → at < size_of (layout_of (now mid))
 inside old mid at pages sent h below =
-    let P : Seen → Type 0 = λ x. at < size_of (layout_of (state_of x)) in
-    subst P (sym h.are_sent.machine) (omega (arith, below, h.places.due_size))
+    subst (λ (m : MachineState). at < size_of (layout_of m)) (sym h.are_sent.machine.state) (omega (arith, below, h.places.due_size))
 
 nothing_sent : (old : LiveSeen) → AreSent old 0 old
 unfolding texts
 nothing_sent old = record {
-  machine = refl;
+  machine = record { memory = refl; state = refl; marks = refl; flushed = refl };
   phase = refl;
   sets = record { gone = λ i below. absurd (omega (arith, below)); due = λ i le. refl; dirty = λ i le. refl };
   entries = [];
@@ -217,7 +221,7 @@ short_of old mid new at pages sent (errors.DiskFailed dev n) h below member s = 
   number = at;
   below = omega (arith, below, h.places.due_size);
   member = sym (either_same old mid at at h.are_sent.sets (omega arith)) ∙ member;
-  item_is = (let P : Seen → Type 0 = λ x. items.sector dev n ≡ item_at (layout_of (state_of x)) at in subst P h.are_sent.machine s.item_is);
+  item_is = subst (λ (m : MachineState). items.sector dev n ≡ item_at (layout_of m) at) h.are_sent.machine.state s.item_is;
   between = mid;
   are_sent = h.are_sent;
   unread = s.unread;
@@ -286,7 +290,7 @@ stops old mid new pages sectors free s c =
     let n = size_of (layout_of (now old)) in
     let sent = texts s.are_sent.entries in
     rw free (record {
-      machine = c.machine ∙ s.are_sent.machine;
+      machine = subst (IsSameButCalls old.machine) (sym c.machine) s.are_sent.machine;
       phase = c.phase;
       sets = cleared_on old mid new n s.are_sent.sets c.due c.dirty;
       count = c.count ∙ s.are_sent.wrote.took.count;
@@ -294,8 +298,8 @@ stops old mid new pages sectors free s c =
       entries = s.are_sent.entries;
       told = s.are_sent.told;
       took = λ b held.
-          let P : Seen → Type 0 = λ x. Took mid new (closing (state_of x) (b ++ sent)) in
-          took_more old mid new sent (closing (now old) (b ++ sent)) s.are_sent.wrote.took (subst P s.are_sent.machine (c.took (b ++ sent) (s.are_sent.wrote.taken b held)));
+          let P : MachineState → Type 0 = λ m. Took mid new (closing m (b ++ sent)) in
+          took_more old mid new sent (closing (now old) (b ++ sent)) s.are_sent.wrote.took (subst P s.are_sent.machine.state (c.took (b ++ sent) (s.are_sent.wrote.taken b held)));
       pages_are = s.pages_are;
       sectors_are = s.sectors_are;
     })

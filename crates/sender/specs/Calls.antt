@@ -9,7 +9,7 @@ use Rattle.machine.specs.Applied.{IsApplied, IsGood}
 use Rattle.machine.specs.Effect.{items_of}
 use Rattle.machine.specs.EffectLaws.{sector_on, sectors_on}
 use Rattle.machine.specs.Layout.{firsts_of, item_at, layout_of, number_in, size_of}
-use Rattle.machine.specs.Seen.{all_marks, failed_at, marks_at, all_flushed}
+use Rattle.machine.specs.Seen.{Seen, all_flushed, all_marks, failed_at, marks_at, state_of}
 use Rattle.machine.specs.Stepped.{reply_in}
 use Rattle.machine.specs.declared.event.Event.{Event}
 use Rattle.machine.specs.declared.reply.Reply.{Reply}
@@ -42,9 +42,16 @@ pub record Wrote (old new : LiveSeen) (bytes : List ℕ) : Type 0 where
   pub took : Took old new bytes
   pub taken : (b : List ℕ) → Holds256 old.digest b → Holds256 new.digest (b ++ bytes)
 
--- The writer failed in this call. The machine is unchanged.
+-- The machine is unchanged, but for how often its disks were called: that is in `Reads`.
+pub record IsSameButCalls (old new : Seen) : Type 0 where
+  pub memory : new.memory ≡ old.memory
+  pub state : state_of new ≡ state_of old
+  pub marks : all_marks new ≡ all_marks old
+  pub flushed : all_flushed new ≡ all_flushed old
+
+-- The writer failed in this call. The machine is unchanged, but for the calls of its disks.
 pub record Fails (old new : LiveSeen) : Type 0 where
-  pub machine : new.machine ≡ old.machine
+  pub machine : IsSameButCalls old.machine new.machine
   pub phase : new.phase ≡ phases.Failed
   pub count : new.out.failures ≡ (old.out.failures + 1) % 2 ^ 64
 
@@ -69,7 +76,7 @@ pub record Begins (old new : LiveSeen) : Type 0 where
 
 -- The item of this number was sent: a page with its current content, and a sector with what its disk returned in this call.
 pub record IsSent (old : LiveSeen) (i : ℕ) (new : LiveSeen) : Type 0 where
-  pub machine : new.machine ≡ old.machine
+  pub machine : IsSameButCalls old.machine new.machine
   pub phase : new.phase ≡ old.phase
   pub due : new.due ≡ slice_set old.due i false
   pub dirty : new.dirty ≡ slice_set old.dirty i false
@@ -125,7 +132,7 @@ pub record AreCleared (old : LiveSeen) (to : ℕ) (new : LiveSeen) : Type 0 wher
 -- The items of the two sets were sent, each once and in order, then the devices and the digest of all, and the writer was
 -- flushed after its last byte.
 pub record Stops (old : LiveSeen) (pages sectors : ℕ) (new : LiveSeen) : Type 0 where
-  pub machine : new.machine ≡ old.machine
+  pub machine : IsSameButCalls old.machine new.machine
   pub phase : new.phase ≡ phases.Stopped
   pub sets : AreCleared old (size_of (layout_of (now old))) new
   pub count : new.out.failures ≡ old.out.failures
@@ -138,7 +145,7 @@ pub record Stops (old : LiveSeen) (pages sectors : ℕ) (new : LiveSeen) : Type 
 
 -- The items of the two sets below a number were sent.
 pub record AreSent (old : LiveSeen) (to : ℕ) (new : LiveSeen) : Type 0 where
-  pub machine : new.machine ≡ old.machine
+  pub machine : IsSameButCalls old.machine new.machine
   pub phase : new.phase ≡ old.phase
   pub sets : AreCleared old to new
   pub entries : List Record

@@ -3,6 +3,7 @@
 ghost use Rattle.sender.specs.Follows.{CallsFollow};
 ghost use Rattle.sender.specs.HistoryLaws.{AfterIsRun, FreshIsLast, OneHistory, StaleIsNotFresh, StoppedIsStream};
 ghost use Rattle.sender.specs.Parked.{LiveBackFollows, LiveBackIsServed};
+ghost use Rattle.sender.specs.Reads.{UncalledIsSame};
 ghost use Rattle.sender.specs.Taking.{CallsIgnoreTaken, TakenAreWhole, TakenFollow};
 ghost use Rattle.sender.specs.Told.{HonestDisksTellContents};
 ghost use Rattle.sender.specs.Unsynced.{FailureFollows, FlushFollows, TakenFailureFollows};
@@ -83,4 +84,9 @@ pub fn taken_failed_flush_follows_the_history()
 /// A flush by `Live::flush_disk` is no part of the history, which stays as it was.
 pub fn flush_keeps_the_history()
     ensures { FlushFollows }
+{}
+
+/// A machine that a call leaves unchanged but for the calls of its disks is unchanged where that call made none.
+pub fn uncalled_is_same()
+    ensures { UncalledIsSame }
 {}

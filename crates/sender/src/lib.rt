@@ -20,10 +20,14 @@
 //!     become due;
 //!   - `stop` writes each item of the two sets once, in order, then the devices and the digest, counts what it wrote, and
 //!     flushes the writer after its last byte;
-//!   - all but the events of the guest leave the machine equal, whatever they return. `StreamFailed` is returned
+//!   - all but the events of the guest leave the machine equal but for the calls of its disks, whatever they return. `StreamFailed` is returned
 //!     exactly if the writer's count rose, or the phase was failed; `DiskFailed` exactly if the disk's count rose: a
 //!     copy then changes neither set, and a stop has sent the items before the sector that it names, and no other left
 //!     a set.
+//! - A second clause of each call, `HasLiveCalled` (`specs/Reads`), counts the calls of disks, with any disks: an event of the guest makes
+//!   those of its step; `begin` and `end_round` none; a copy one of the disk of a good sector, also where that fails or the writer does,
+//!   and none for a bad one or for a page; a stop one for each good sector of the two sets, in order, and no other, up to where it
+//!   failed. Where none was made, the machine is equal (`laws::uncalled_is_same`).
 //! - `fail_flush` makes a step that flushes a disk as one whose disk failed, and calls no disk (`specs/Unsynced`). The history
 //!   continues with that step, and nothing becomes dirty: the stop sends the devices whole.
 //! - `flush_disk` is one flush of the disk of a device, in each phase: the machine stays equal, and the history as it was
@@ -50,8 +54,8 @@
 //!   call, that a disk that is reported as failed is not steady, and that once a stop returned Ok a stream was written, of a machine
 //!   with this one's RAM and devices.
 //!
-//! Not proved, since no contract counts calls: a bad sector is sent with no call of its disk, and each other one with one (tested
-//! for `Live`); and `save` asks the marks of a disk once for each bad sector, not once for each sector.
+//! Not proved: how often `save` calls a disk (tested: once for each good sector); and that it asks the marks of a disk once for each bad
+//! sector, not once for each sector.
 //!
 //! It uses `machine`, `dirtylog`, and `wire`, which encodes each record.
 #![tactic(auto)]

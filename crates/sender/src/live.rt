@@ -6,14 +6,16 @@
 //! A stop goes over its two sets side by side, and searches each on only from the member that it has just sent: a search of
 //! both from each item on would go over the rest of a set that has one late member for each item of the other.
 
-ghost use Rattle.std.specs.Prelude.{◌≡◌, ◌≢◌, ◌<◌, ◌^◌, ◌-◌, IfOk, IfErr, None, Some, [], length};
+ghost use Rattle.std.specs.Prelude.{◌≡◌, ◌≢◌, ◌<◌, ◌^◌, ◌-◌, IfOk, IfErr, None, Some, [], true, length};
 ghost use Rattle.dirtylog.specs.Members.{HasNone, IsLeastFrom, member_count};
 ghost use Rattle.sha2.specs.Hashers.{Holds256};
 ghost use Rattle.machine.specs.declared.event.Event.TheVariants as events;
-ghost use Rattle.machine.specs.Layout.{layout_of, size_of};
+ghost use Rattle.machine.specs.Calls.{CallsDisk};
+ghost use Rattle.machine.specs.Layout.{item_at, layout_of, size_of};
 ghost use Rattle.sender.specs.LiveState.{HasPlaces, now, refusal_for};
 ghost use Rattle.sender.specs.Calls.{Serves, begun_reply, copied_reply, ended_reply, guest_reply, stepped_result, stopped_reply};
 ghost use Rattle.sender.specs.Parked.{IsLiveParked};
+ghost use Rattle.sender.specs.Reads.{CallsNone, HasLiveCalled, ReadsItem, SendCalls};
 ghost use Rattle.sender.specs.Unsynced.{FlushesLiveDisk, TriesFlush};
 ghost use Rattle.sender.specs.Stopping.{Closes, HasNoneUpTo, SendsAll, SendsItem, lesser, one_more, phase_after};
 
@@ -227,7 +229,8 @@ impl<D: Disk, W: Sink> Live<D, W> {
 
     /// Applies the guest's event, and marks as dirty what it writes.
     pub fn apply(&mut self, event: &Event) -> Result<Reply, MigError>
-        ensures { Serves self.old (LiveEvent.Guest event.now) (guest_reply result) self.new }
+        ensures served { Serves self.old (LiveEvent.Guest event.now) (guest_reply result) self.new }
+        ensures calls { HasLiveCalled D.called self.old (LiveEvent.Guest event.now) (guest_reply result) self.new }
     {
         if let Phase::Stopped = self.stage {
             return Err(MigError::AlreadyStopped);
@@ -237,7 +240,8 @@ impl<D: Disk, W: Sink> Live<D, W> {
 
     /// The driver reads a register. As `apply` of that event.
     pub fn read_register(&mut self, dev: u8, offset: u32, width: u8) -> Result<Reply, MigError>
-        ensures { Serves self.old (LiveEvent.Guest (events.RegRead dev offset width)) (guest_reply result) self.new }
+        ensures served { Serves self.old (LiveEvent.Guest (events.RegRead dev offset width)) (guest_reply result) self.new }
+        ensures calls { HasLiveCalled D.called self.old (LiveEvent.Guest (events.RegRead dev offset width)) (guest_reply result) self.new }
     {
         if let Phase::Stopped = self.stage {
             return Err(MigError::AlreadyStopped);
@@ -254,7 +258,8 @@ impl<D: Disk, W: Sink> Live<D, W> {
         width: u8,
         value: u32,
     ) -> Result<Reply, MigError>
-        ensures { Serves self.old (LiveEvent.Guest (events.RegWrite dev offset width value)) (guest_reply result) self.new }
+        ensures served { Serves self.old (LiveEvent.Guest (events.RegWrite dev offset width value)) (guest_reply result) self.new }
+        ensures calls { HasLiveCalled D.called self.old (LiveEvent.Guest (events.RegWrite dev offset width value)) (guest_reply result) self.new }
     {
         if let Phase::Stopped = self.stage {
             return Err(MigError::AlreadyStopped);
@@ -265,7 +270,8 @@ impl<D: Disk, W: Sink> Live<D, W> {
 
     /// The host sets the size of a console, in characters. As `apply` of that event.
     pub fn resize(&mut self, dev: u8, cols: u16, rows: u16) -> Result<Reply, MigError>
-        ensures { Serves self.old (LiveEvent.Guest (events.Resize dev cols rows)) (guest_reply result) self.new }
+        ensures served { Serves self.old (LiveEvent.Guest (events.Resize dev cols rows)) (guest_reply result) self.new }
+        ensures calls { HasLiveCalled D.called self.old (LiveEvent.Guest (events.Resize dev cols rows)) (guest_reply result) self.new }
     {
         if let Phase::Stopped = self.stage {
             return Err(MigError::AlreadyStopped);
@@ -277,7 +283,8 @@ impl<D: Disk, W: Sink> Live<D, W> {
     /// A device does one piece of its work, which the pick names. As `apply` of that event; the bytes of a message go into the buffer,
     /// which is cut or grows to them, and where none is sent it may hold anything.
     pub fn step_into(&mut self, dev: u8, pick: u8, sent: &mut Vec<u8>) -> Result<Stepped, MigError>
-        ensures { Serves self.old (LiveEvent.Guest (events.Step dev pick)) (guest_reply (stepped_result result sent.new.items)) self.new }
+        ensures served { Serves self.old (LiveEvent.Guest (events.Step dev pick)) (guest_reply (stepped_result result sent.new.items)) self.new }
+        ensures calls { HasLiveCalled D.called self.old (LiveEvent.Guest (events.Step dev pick)) (guest_reply (stepped_result result sent.new.items)) self.new }
     {
         if let Phase::Stopped = self.stage {
             return Err(MigError::AlreadyStopped);
@@ -291,7 +298,8 @@ impl<D: Disk, W: Sink> Live<D, W> {
     /// Flushes the disk of a device once, if it has one, in each phase (`Machine::flush_disk`). The machine and its migration stay as they
     /// are.
     pub fn flush_disk(&mut self, dev: u8) -> Result<(), DiskFault>
-        ensures { FlushesLiveDisk self.old dev result self.new }
+        ensures flushed { FlushesLiveDisk self.old dev result self.new }
+        ensures calls { CallsDisk D.called true dev self.old.machine self.new.machine }
     {
         self.source.flush_disk(dev)
     }
@@ -299,7 +307,8 @@ impl<D: Disk, W: Sink> Live<D, W> {
     /// In place of a step that flushes a disk: makes it as a step whose disk failed, and calls no disk (`Machine::fail_flush`). The
     /// result says whether the step with this pick flushes; if not, nothing has changed.
     pub fn fail_flush(&mut self, dev: u8, pick: u8) -> Result<bool, MigError>
-        ensures { TriesFlush self.old dev pick result self.new }
+        ensures tried { TriesFlush self.old dev pick result self.new }
+        ensures calls { CallsNone self.old.machine self.new.machine }
     {
         if let Phase::Stopped = self.stage {
             return Err(MigError::AlreadyStopped);
@@ -310,7 +319,8 @@ impl<D: Disk, W: Sink> Live<D, W> {
     /// The guest writes bytes into RAM from address `addr` on. As `apply` of that event, whose bytes need not be
     /// copied.
     pub fn write_ram(&mut self, addr: u64, bytes: &[u8]) -> Result<Reply, MigError>
-        ensures { Serves self.old (LiveEvent.Guest (events.MemWrite addr bytes.now)) (guest_reply result) self.new }
+        ensures served { Serves self.old (LiveEvent.Guest (events.MemWrite addr bytes.now)) (guest_reply result) self.new }
+        ensures calls { HasLiveCalled D.called self.old (LiveEvent.Guest (events.MemWrite addr bytes.now)) (guest_reply result) self.new }
     {
         if let Phase::Stopped = self.stage {
             return Err(MigError::AlreadyStopped);
@@ -321,7 +331,8 @@ impl<D: Disk, W: Sink> Live<D, W> {
 
     /// The host puts bytes in. As `apply` of that event, whose bytes need not be copied.
     pub fn input(&mut self, dev: u8, bytes: &[u8]) -> Result<Reply, MigError>
-        ensures { Serves self.old (LiveEvent.Guest (events.Input dev bytes.now)) (guest_reply result) self.new }
+        ensures served { Serves self.old (LiveEvent.Guest (events.Input dev bytes.now)) (guest_reply result) self.new }
+        ensures calls { HasLiveCalled D.called self.old (LiveEvent.Guest (events.Input dev bytes.now)) (guest_reply result) self.new }
     {
         if let Phase::Stopped = self.stage {
             return Err(MigError::AlreadyStopped);
@@ -331,7 +342,8 @@ impl<D: Disk, W: Sink> Live<D, W> {
 
     /// Begins: the header is written, and every item is due.
     pub fn begin(&mut self) -> Result<u32, MigError>
-        ensures { Serves self.old LiveEvent.Begin (begun_reply result) self.new }
+        ensures served { Serves self.old LiveEvent.Begin (begun_reply result) self.new }
+        ensures calls { HasLiveCalled D.called self.old LiveEvent.Begin (begun_reply result) self.new }
     {
         if let Some(error) = self.refusal(&LiveEvent::Begin) {
             return Err(error);
@@ -356,7 +368,8 @@ impl<D: Disk, W: Sink> Live<D, W> {
     /// Sends the item with this number.
     fn send(&mut self, number: u64) -> Result<Item, MigError>
         requires { number < size_of (layout_of (now self.old)) }
-        ensures { SendsItem self.old number result self.new }
+        ensures sent { SendsItem self.old number result self.new }
+        ensures calls { ReadsItem D.called self.old.machine (item_at (layout_of (now self.old)) number) self.new.machine }
     {
         let item = item_at(&self.source, number);
         if let Err(error) = send_item(&mut self.source, item, &mut self.writer, &mut self.taken) {
@@ -369,9 +382,10 @@ impl<D: Disk, W: Sink> Live<D, W> {
     }
 
     /// Sends the least due item.
-    #[tactic(auto, using(crate::proofs::Living::going, crate::proofs::Stopping::due_below, crate::proofs::Stopping::served_copy, crate::proofs::Stopping::served_done, crate::proofs::Stopping::copy_failed))]
+    #[tactic(auto, using(crate::proofs::Living::going, crate::proofs::Stopping::due_below, crate::proofs::Stopping::served_copy, crate::proofs::Stopping::served_done, crate::proofs::Stopping::copy_failed, crate::proofs::ItemReads::copied_called, crate::proofs::ItemReads::copy_failed_called, crate::proofs::ItemReads::done_called))]
     pub fn copy(&mut self) -> Result<CopyAnswer, MigError>
-        ensures { Serves self.old LiveEvent.Copy (copied_reply result) self.new }
+        ensures served { Serves self.old LiveEvent.Copy (copied_reply result) self.new }
+        ensures calls { HasLiveCalled D.called self.old LiveEvent.Copy (copied_reply result) self.new }
     {
         if let Some(error) = self.refusal(&LiveEvent::Copy) {
             return Err(error);
@@ -386,7 +400,8 @@ impl<D: Disk, W: Sink> Live<D, W> {
 
     /// Ends a round: the dirty items become due.
     pub fn end_round(&mut self) -> Result<End, MigError>
-        ensures { Serves self.old LiveEvent.EndRound (ended_reply result) self.new }
+        ensures served { Serves self.old LiveEvent.EndRound (ended_reply result) self.new }
+        ensures calls { HasLiveCalled D.called self.old LiveEvent.EndRound (ended_reply result) self.new }
     {
         if let Some(error) = self.refusal(&LiveEvent::EndRound) {
             return Err(error);
@@ -410,7 +425,8 @@ impl<D: Disk, W: Sink> Live<D, W> {
     /// Sends all items of the two sets. A set is searched again only once the member that was found in it is sent, so all searches
     /// together go over each set once.
     fn send_all(&mut self) -> Result<Stopped, MigError>
-        ensures { SendsAll self.old result self.new }
+        ensures sent { SendsAll self.old result self.new }
+        ensures calls { SendCalls D.called self.old result self.new }
     {
         self.recall();
         let pages = page_count(&self.source);
@@ -433,7 +449,8 @@ impl<D: Disk, W: Sink> Live<D, W> {
 
     /// Closes the stream.
     fn close(&mut self) -> Result<(), MigError>
-        ensures { Closes self.old result self.new }
+        ensures closed { Closes self.old result self.new }
+        ensures calls { CallsNone self.old.machine self.new.machine }
     {
         if let Err(_) = write_devices(&self.source, &mut self.writer, &mut self.taken) {
             self.stage = Phase::Failed;
@@ -449,9 +466,10 @@ impl<D: Disk, W: Sink> Live<D, W> {
     }
 
     /// Sends what is left, and closes the stream.
-    #[tactic(auto, using(crate::proofs::Living::going, crate::proofs::Stopping::stops, crate::proofs::Stopping::stop_short, crate::proofs::Stopping::stop_failed))]
+    #[tactic(auto, using(crate::proofs::Living::going, crate::proofs::Stopping::stops, crate::proofs::Stopping::stop_short, crate::proofs::Stopping::stop_failed, crate::proofs::ItemReads::stop_called, crate::proofs::ItemReads::stop_short_called, crate::proofs::ItemReads::stop_failed_called))]
     pub fn stop(&mut self) -> Result<Stopped, MigError>
-        ensures { Serves self.old LiveEvent.Stop (stopped_reply result) self.new }
+        ensures served { Serves self.old LiveEvent.Stop (stopped_reply result) self.new }
+        ensures calls { HasLiveCalled D.called self.old LiveEvent.Stop (stopped_reply result) self.new }
     {
         if let Some(error) = self.refusal(&LiveEvent::Stop) {
             return Err(error);
@@ -463,7 +481,8 @@ impl<D: Disk, W: Sink> Live<D, W> {
 
     /// Serves any live event.
     pub fn serve(&mut self, event: &LiveEvent) -> LiveReply
-        ensures { Serves self.old event.now result self.new }
+        ensures served { Serves self.old event.now result self.new }
+        ensures calls { HasLiveCalled D.called self.old event.now result self.new }
     {
         match event {
             LiveEvent::Guest(event) => match self.apply(event) {

@@ -15,6 +15,7 @@ ghost use Rattle.wire.specs.Sinks.{Appends, Takes};
 ghost use Rattle.wire.specs.Stream.{device_texts, record_of, records_below, saved, texts, whole};
 ghost use Rattle.sender.specs.LiveState.{item_of};
 ghost use Rattle.sender.specs.Items.{disk_text, front_text, sectors_text};
+ghost use Rattle.sender.specs.Reads.{ReadsItem};
 ghost use Rattle.sender.specs.Saving.{AddsItem, NamesItem, Sends, TakesOn};
 
 use crate::event::Item;
@@ -192,6 +193,7 @@ pub(crate) fn send_item<D: Disk, S: Sink, T: Tally>(
     ensures item { IfErr result (λ e. NamesItem (item_of item) e (S.state out.old) (S.state out.new) tally.old tally.new) }
     ensures sent { Sends machine.old (S.state out.old) (spelled_record (record_of (state_of machine.old) (item_of item))) result machine.new (S.state out.new) }
     ensures added { OnOk result (AddsItem machine.old (item_of item) (S.state out.old) (T.has_taken tally.old) (S.state out.new) (T.has_taken tally.new)) }
+    ensures calls { ReadsItem D.called machine.old (item_of item) machine.new }
 {
     match item {
         Item::Page(number) => {
@@ -219,7 +221,7 @@ fn send_page<D: Disk, S: Sink, T: Tally>(
 }
 
 /// Writes the record of a sector, as it is now. A bad one is written without a call of the disk.
-#[tactic(auto, using(crate::proofs::SectorReads::sent_good, crate::proofs::SectorReads::added_good, crate::proofs::SectorReads::added_bad, crate::proofs::SectorReads::not_sent))]
+#[tactic(auto, using(crate::proofs::SectorReads::sent_good, crate::proofs::SectorReads::added_good, crate::proofs::SectorReads::added_bad, crate::proofs::SectorReads::not_sent, crate::proofs::ItemReads::read_once))]
 fn send_sector<D: Disk, S: Sink, T: Tally>(
     machine: &mut Machine<D>,
     dev: u8,
@@ -231,6 +233,7 @@ fn send_sector<D: Disk, S: Sink, T: Tally>(
     ensures item { IfErr result (λ e. NamesItem (sector dev number) e (S.state out.old) (S.state out.new) tally.old tally.new) }
     ensures sent { Sends machine.old (S.state out.old) (spelled_record (record_of (state_of machine.old) (sector dev number))) result machine.new (S.state out.new) }
     ensures added { OnOk result (AddsItem machine.old (sector dev number) (S.state out.old) (T.has_taken tally.old) (S.state out.new) (T.has_taken tally.new)) }
+    ensures calls { ReadsItem D.called machine.old (sector dev number) machine.new }
 {
     let mut bytes = [0; SECTOR_SIZE];
     match machine.read_sector(dev, number as u64, &mut bytes) {

@@ -22,7 +22,7 @@ pub use sender::laws::{
     flush_keeps_the_history, fresh_is_last, honest_disks_tell_contents,
     live_back_follows_the_history, live_back_is_served, replies_settle, stale_is_not_fresh,
     stopped_is_a_stream, taken_failed_flush_follows_the_history, taken_follows_the_history,
-    taken_is_whole,
+    taken_is_whole, uncalled_is_same,
 };
 pub use traces::laws::{events_are_read_in_one_way, texts_are_read_in_one_way};
 pub use wire::laws::{

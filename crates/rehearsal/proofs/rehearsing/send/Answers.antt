@@ -28,7 +28,7 @@ loop-stopped-preserved g c =
       room = omega (arith, i.room, c.push_reserved.ensures.capacity);
       few = omega (arith, c.push_reserved.ensures.len, below, c.loop-stopped.replies.ok.0);
       sending = rw (c.push_reserved.ensures.items, c.is_stopped-stopped.ensures)
-          (sending_on c.args.machine c.args.events.now replies c.index-events-len.result c.serve-reply.result c.loop-stopped.live c.serve-reply.new.self below is c.recall.ensures c.serve-reply.ensures (rw c.loop-stopped-test.true at i.sending));
+          (sending_on c.args.machine c.args.events.now replies c.index-events-len.result c.serve-reply.result c.loop-stopped.live c.serve-reply.new.self below is c.recall.ensures c.serve-reply.ensures.served (rw c.loop-stopped-test.true at i.sending));
     }
 
 pub returns-then-stopped-clause-sent : goal.returns-then-stopped-clause-sent

@@ -35,19 +35,19 @@ loop-event-preserved g c =
     let more : take (i + 1) events ≡ take i events ++ c.event-item.result ∷ [] = rw (take_more events i c.event-item.result below, ← c.event-item.is) refl in
     let even : length c.loop-event.replies.items ≡ length (take i events) = omega (arith, c.loop-event.invariant.count, length-take i events, below) in
     let played : ¬ (c.push_reserved.new.self.items ≡ []) = λ none. omega (arith, ap length none, ap length c.push_reserved.ensures.items, length-append c.loop-event.replies.items (c.serve-reply.result ∷ [])) in
-    let kept = keeps_on (all_marks c.args.machine) c.loop-event.live c.serve-reply.new.self (take i events) c.loop-event.replies.items c.event-item.result c.serve-reply.result even c.loop-event.invariant.alike c.loop-event.invariant.unsteady c.serve-reply.ensures in
+    let kept = keeps_on (all_marks c.args.machine) c.loop-event.live c.serve-reply.new.self (take i events) c.loop-event.replies.items c.event-item.result c.serve-reply.result even c.loop-event.invariant.alike c.loop-event.invariant.unsteady c.serve-reply.ensures.served in
     record {
       room = omega arith;
       count = omega arith;
       unplayed = λ none. absurd (played none);
       unwritten = λ none. absurd (played none);
-      written = rw c.push_reserved.ensures.items (written_on (g.W.Sink.state c.args.out) c.loop-event.replies.items c.event-item.result c.serve-reply.result c.loop-event.live c.serve-reply.new.self c.recall.ensures c.serve-reply.ensures c.loop-event.invariant.written);
-      chain = rw (more, c.push_reserved.ensures.items) (chain_more c.args.machine (g.W.Sink.state c.args.out) (take i events) c.loop-event.replies.items c.event-item.result c.serve-reply.result c.loop-event.live c.serve-reply.new.self (sym even) c.serve-reply.ensures c.loop-event.invariant.chain);
+      written = rw c.push_reserved.ensures.items (written_on (g.W.Sink.state c.args.out) c.loop-event.replies.items c.event-item.result c.serve-reply.result c.loop-event.live c.serve-reply.new.self c.recall.ensures c.serve-reply.ensures.served c.loop-event.invariant.written);
+      chain = rw (more, c.push_reserved.ensures.items) (chain_more c.args.machine (g.W.Sink.state c.args.out) (take i events) c.loop-event.replies.items c.event-item.result c.serve-reply.result c.loop-event.live c.serve-reply.new.self (sym even) c.serve-reply.ensures.served c.loop-event.invariant.chain);
       alike = kept.0;
       unsteady = rw (more, c.push_reserved.ensures.items) kept.1;
       so_far = λ honest. rw c.push_reserved.ensures.items
           (so_far_more _ _ c.args.events.now c.loop-event.event-index c.event-item.result c.event-item.result c.loop-event.replies.items c.serve-reply.result c.loop-event.live c.serve-reply.new.self
-          below c.event-item.is (omega (arith, c.loop-event.invariant.count)) c.recall.ensures c.serve-reply.ensures (c.loop-event.invariant.so_far honest));
+          below c.event-item.is (omega (arith, c.loop-event.invariant.count)) c.recall.ensures c.serve-reply.ensures.served (c.loop-event.invariant.so_far honest));
     }
 
 pub returns-clause-ran : goal.returns-clause-ran

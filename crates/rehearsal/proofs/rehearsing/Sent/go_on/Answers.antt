@@ -23,9 +23,9 @@ loop-event-preserved g c =
       room = omega (arith, i.room, c.push_reserved.ensures.len, c.push_reserved.ensures.capacity);
       arrived_room = omega (arith, i.arrived_room, c.push_reserved-in-loop-event.ensures.len, c.push_reserved-in-loop-event.ensures.capacity);
       source = rw (more, c.push_reserved.ensures.items)
-          (goes_more c.args.self.source c.loop-event.source c.apply-reply.new.self so_far c.args.self.replies.items c.loop-event.replies.items c.in-Guest.event c.apply-reply.result i.source c.apply-reply.ensures);
+          (goes_more c.args.self.source c.loop-event.source c.apply-reply.new.self so_far c.args.self.replies.items c.loop-event.replies.items c.in-Guest.event c.apply-reply.result i.source c.apply-reply.ensures.applied);
       arrived = rw (more, c.push_reserved-in-loop-event.ensures.items)
-          (played_more c.args.arrived c.loop-event.arrived c.apply-arrived_reply.new.self so_far c.loop-event.arrived_replies.items c.in-Guest.event c.apply-arrived_reply.result i.arrived c.apply-arrived_reply.ensures);
+          (played_more c.args.arrived c.loop-event.arrived c.apply-arrived_reply.new.self so_far c.loop-event.arrived_replies.items c.in-Guest.event c.apply-arrived_reply.result i.arrived c.apply-arrived_reply.ensures.applied);
     }
 
 pub returns : goal.returns

@@ -7,10 +7,10 @@ apply_logged-requires g c = record { may = may_all c.self.inside.source c.self.i
 pub invariant_of-self : goal.invariant_of-self
 invariant_of-self g c =
     let i = c.self.inside in
-    live_guest i.source c.apply_logged.new.self i.changed c.apply_logged.new.log i.stage i.left i.at i.taken (g.W.Sink.state i.writer) c.args.event.now c.apply_logged.result c.self.invariant c.apply_logged.ensures
+    live_guest i.source c.apply_logged.new.self i.changed c.apply_logged.new.log i.stage i.left i.at i.taken (g.W.Sink.state i.writer) c.args.event.now c.apply_logged.result c.self.invariant c.apply_logged.ensures.applied
 
-pub returns : goal.returns
-returns g c =
+pub returns-clause-served : goal.returns-clause-served
+returns-clause-served g c =
     let i = c.self.inside in
     rw (← c.self.view_is)
-    (guest_served i.source c.apply_logged.new.self i.changed c.apply_logged.new.log i.stage i.left i.at i.taken (g.W.Sink.state i.writer) c.args.event.now c.apply_logged.result c.self.invariant c.apply_logged.ensures c.in_default.not-Stopped)
+    (guest_served i.source c.apply_logged.new.self i.changed c.apply_logged.new.log i.stage i.left i.at i.taken (g.W.Sink.state i.writer) c.args.event.now c.apply_logged.result c.self.invariant c.apply_logged.ensures.applied c.in_default.not-Stopped)

@@ -14,8 +14,8 @@ invariant_of-self-2 g c =
     live_begun i.source i.stage _ i.left c.fill.new.self i.changed.set c.clear.new.self i.changed.firsts.items i.at c.self.invariant
     (ap length c.fill.ensures ∙ length-replicate (length i.left) true) (ap length c.clear.ensures ∙ length-replicate (length i.changed.set) false) (omega arith)
 
-pub returns : goal.returns
-returns g c =
+pub returns-clause-served : goal.returns-clause-served
+returns-clause-served g c =
     let i = c.self.inside in
     let free = rw (← c.self.view_is) at (sym c.refusal.ensures ∙ c.in_default.is) in
     let room = c.self.invariant.room in

@@ -15,8 +15,8 @@ invariant_of-self-2 g c =
     live_begun i.source i.stage _ i.left c.swap_out.new.other i.changed.set c.swap_out.new.self i.changed.firsts.items i.at c.self.invariant
     (ap length c.swap_out.ensures.given ∙ even) (ap length c.swap_out.ensures.left ∙ length-replicate (length i.changed.set) false) (round_fits i.stage c.in-Open.round c.in-Open.is c.self.invariant.round free)
 
-pub returns : goal.returns
-returns g c =
+pub returns-clause-served : goal.returns-clause-served
+returns-clause-served g c =
     let i = c.self.inside in
     let free = rw (← c.self.view_is) at (sym c.refusal.ensures ∙ c.in_default.is) in
     let room = c.self.invariant.room in

@@ -6,8 +6,8 @@ invariant_of-self g c =
     let i = c.self.inside in
     live_tried i.source c.fail_flush.new.self i.stage i.left i.changed.set i.changed.firsts.items i.at c.args.dev c.args.pick c.fail_flush.result c.self.invariant c.fail_flush.ensures.failed
 
-pub returns : goal.returns
-returns g c =
+pub returns-clause-tried : goal.returns-clause-tried
+returns-clause-tried g c =
     let i = c.self.inside in
     rw (← c.self.view_is)
     (answered i.source c.fail_flush.new.self i.stage i.left i.changed.set i.taken (g.W.Sink.state i.writer) c.args.dev c.args.pick c.fail_flush.result c.in_default.not-Stopped c.fail_flush.ensures.was c.fail_flush.ensures.failed)

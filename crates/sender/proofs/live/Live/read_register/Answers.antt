@@ -6,8 +6,8 @@ use Rattle.sender.specs.Dirty.{after_taking}
 use Rattle.sender.proofs.Living.{guest_served}
 use Rattle.sender.proofs.live.Live.read_register.Goals as goal
 
-pub returns : goal.returns
-returns g c =
+pub returns-clause-served : goal.returns-clause-served
+returns-clause-served g c =
     let i = c.self.inside in
     let was = c.read_register-answer in
     let e = RegRead c.args.dev c.args.offset c.args.width in

@@ -10,11 +10,11 @@ pub invariant_of-self : goal.invariant_of-self
 invariant_of-self g c =
     let i = c.self.inside in
     let was = c.step_into_logged in
-    live_guest i.source was.new.self i.changed was.new.log i.stage i.left i.at i.taken (g.W.Sink.state i.writer) (Step c.args.dev c.args.pick) (reply_in was.result was.new.sent.items) c.self.invariant was.ensures
+    live_guest i.source was.new.self i.changed was.new.log i.stage i.left i.at i.taken (g.W.Sink.state i.writer) (Step c.args.dev c.args.pick) (reply_in was.result was.new.sent.items) c.self.invariant was.ensures.applied
 
-pub returns : goal.returns
-returns g c =
+pub returns-clause-served : goal.returns-clause-served
+returns-clause-served g c =
     let i = c.self.inside in
     let was = c.step_into_logged in
     rw (← c.self.view_is)
-    (guest_served i.source was.new.self i.changed was.new.log i.stage i.left i.at i.taken (g.W.Sink.state i.writer) (Step c.args.dev c.args.pick) (reply_in was.result was.new.sent.items) c.self.invariant was.ensures c.in_default.not-Stopped)
+    (guest_served i.source was.new.self i.changed was.new.log i.stage i.left i.at i.taken (g.W.Sink.state i.writer) (Step c.args.dev c.args.pick) (reply_in was.result was.new.sent.items) c.self.invariant was.ensures.applied c.in_default.not-Stopped)

@@ -10,11 +10,11 @@ pub invariant_of-self : goal.invariant_of-self
 invariant_of-self g c =
     let i = c.self.inside in
     let was = c.write_ram_logged-answer in
-    live_guest i.source was.new.self i.changed was.new.log i.stage i.left i.at i.taken (g.W.Sink.state i.writer) (MemWrite c.args.addr c.args.bytes.now) (done_reply was.result) c.self.invariant was.ensures
+    live_guest i.source was.new.self i.changed was.new.log i.stage i.left i.at i.taken (g.W.Sink.state i.writer) (MemWrite c.args.addr c.args.bytes.now) (done_reply was.result) c.self.invariant was.ensures.applied
 
-pub returns : goal.returns
-returns g c =
+pub returns-clause-served : goal.returns-clause-served
+returns-clause-served g c =
     let i = c.self.inside in
     let was = c.write_ram_logged-answer in
     rw (← c.self.view_is, c.from_done.ensures)
-    (guest_served i.source was.new.self i.changed was.new.log i.stage i.left i.at i.taken (g.W.Sink.state i.writer) (MemWrite c.args.addr c.args.bytes.now) (done_reply was.result) c.self.invariant was.ensures c.in_default.not-Stopped)
+    (guest_served i.source was.new.self i.changed was.new.log i.stage i.left i.at i.taken (g.W.Sink.state i.writer) (MemWrite c.args.addr c.args.bytes.now) (done_reply was.result) c.self.invariant was.ensures.applied c.in_default.not-Stopped)
