@@ -23,7 +23,6 @@ use Rattle.vmig_c.specs.Kept.{KeptSeen, Still}
 use Rattle.vmig_c.specs.Moving.{IsKept}
 use Rattle.vmig_c.specs.Plain.{ArePlain}
 use Rattle.vmig_c.proofs.Plain.{as_many, plain_at}
-use Rattle.vmig_c.proofs.Streams.{same_seen}
 use Rattle.vmig_c.proofs.Zeros.{alike}
 
 pub with_used : (base : ℕ) (k after : Option KeptSeen) (pages : ℕ) (shapes : List DeviceShape) (images : List ℕ) → is_some k ≡ true → after ≡ k → MakesWith base k pages shapes images 9 after
@@ -164,7 +163,7 @@ readable m dev n room sound none = readable_by (slice_get (state_of m).devices d
 
 -- What is told of a sector that was read.
 kept_so : {E : Type 0} (m next : Seen) (dev n : ℕ) (bytes : List ℕ) (good : Bool) → ReadsSector {E = E} m dev n bytes (Ok good) next → IsKept m next
-kept_so m next dev n bytes good reads = record { memory = reads.memory; state = reads.state; same = λ plain. same_seen next m reads.memory reads.state reads.marks reads.flushed }
+kept_so m next dev n bytes good reads = record { memory = reads.memory; state = reads.state; same = λ plain. record { memory = reads.memory; state = reads.state; marks = reads.marks; flushed = reads.flushed } }
 
 told_good : {E : Type 0} (m next : Seen) (dev n : ℕ) (bytes buf new_buf : List ℕ) → ReadsSector {E = E} m dev n bytes (Ok true) next → new_buf ≡ bytes ++ drop 512 buf → ReadsOut m dev n 0 buf new_buf next
 told_good m next dev n bytes buf new_buf reads is = record {

@@ -4,6 +4,8 @@ use Rattle.std.specs.Prelude.{MatchOption, Option, Some, None}
 use Rattle.machine.specs.Seen.{Seen}
 use Rattle.sender.specs.Calls.{Does, Serves}
 use Rattle.sender.specs.LiveState.{HasPlaces, LiveSeen, refusal_for}
+use Rattle.sender.specs.Reads.{CallsNone}
+use Rattle.sender.proofs.Uncalled.{uncalled_is_same}
 use Rattle.sender.specs.declared.event.LiveEvent.TheVariants as events
 use Rattle.sender.specs.declared.event.LiveReply.{LiveReply}
 use Rattle.sender.specs.declared.event.LiveReply.TheVariants as live
@@ -14,17 +16,17 @@ use Rattle.vmig_c.specs.Status.{live_status}
 use Rattle.vmig_c.specs.Told.{IsServed}
 use Rattle.vmig_c.specs.Kept.{State, Still, Moving}
 
-same_machine : (o : Option MigError) (l next : LiveSeen) (error : MigError) → MatchOption o (Does l events.Begin (live.Mig error) next) (λ x. (live.Mig error ≡ live.Mig x) × (next ≡ l)) → next.machine ≡ l.machine
-same_machine None l next errors.StreamFailed after = after.machine
-same_machine None l next errors.NotBegun after = absurd after
-same_machine None l next errors.AlreadyBegun after = absurd after
-same_machine None l next (errors.DiskFailed dev n) after = absurd after
-same_machine None l next errors.AlreadyStopped after = absurd after
-same_machine None l next errors.RoundsEnded after = absurd after
-same_machine (Some x) l next error after = ap (λ (s : LiveSeen). s.machine) after.1
+same_machine : (o : Option MigError) (l next : LiveSeen) (error : MigError) → MatchOption o (Does l events.Begin (live.Mig error) next) (λ x. (live.Mig error ≡ live.Mig x) × (next ≡ l)) → CallsNone l.machine next.machine → next.machine ≡ l.machine
+same_machine None l next errors.StreamFailed after none = uncalled_is_same l.machine next.machine after.machine none
+same_machine None l next errors.NotBegun after none = absurd after
+same_machine None l next errors.AlreadyBegun after none = absurd after
+same_machine None l next (errors.DiskFailed dev n) after none = absurd after
+same_machine None l next errors.AlreadyStopped after none = absurd after
+same_machine None l next errors.RoundsEnded after none = absurd after
+same_machine (Some x) l next error after none = ap (λ (s : LiveSeen). s.machine) after.1
 
-pub not_begun : (m last : Seen) (fresh l : LiveSeen) (error : MigError) → fresh.machine ≡ m → Serves fresh events.Begin (live.Mig error) l → last ≡ l.machine → last ≡ m
-not_begun m last fresh l error is serves gave = gave ∙ same_machine (refusal_for fresh.phase events.Begin) fresh l error serves ∙ is
+pub not_begun : (m last : Seen) (fresh l : LiveSeen) (error : MigError) → fresh.machine ≡ m → Serves fresh events.Begin (live.Mig error) l → CallsNone fresh.machine l.machine → last ≡ l.machine → last ≡ m
+not_begun m last fresh l error is serves none gave = gave ∙ same_machine (refusal_for fresh.phase events.Begin) fresh l error serves none ∙ is
 
 pub begun_again : (l next : LiveSeen) (reply : LiveReply) (status : ℕ) → HasPlaces l → Serves l events.Begin reply next → status ≡ live_status reply → IsAnswered l status next
 begun_again l next reply status places serves told = record { reply = reply; places = places; serves = serves; status_is = told }

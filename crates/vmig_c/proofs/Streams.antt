@@ -1,7 +1,7 @@
 -- Machines that are saved and received.
 use Rattle.std.proofs.Common.{◌≡◌, ℕ, Bool, true, false, nat_lt, List, [], ◌∷◌, ◌++◌, refl, sym, ap, ◌∙◌, subst, map, replicate, length, drop, inl, inr, true≢false}
 use Rattle.std.specs.Prelude.{Result, Ok, Err, IfErr, OnOk}
-use Rattle.machine.specs.Seen.{Seen, AreHonest, DeviceSeen, Marks, all_flushed, all_marks, marks_at, no_marks, state_of}
+use Rattle.machine.specs.Seen.{Seen, AreHonest, DeviceSeen, Marks, all_marks, marks_at, no_marks, state_of}
 use Rattle.sender.specs.Saving.{Sends, marks_after, IsNamed}
 use Rattle.sender.specs.declared.mig_error.MigError.{MigError}
 use Rattle.sender.specs.declared.mig_error.MigError.TheVariants.{AlreadyBegun, AlreadyStopped, NotBegun, RoundsEnded, StreamFailed}
@@ -34,29 +34,6 @@ use Rattle.vmig_c.specs.Moving.{IsKept, Saves, IsPossible, IsReceivedAs, Refused
 use Rattle.vmig_c.specs.Plain.{ArePlain, mem_state}
 use Rattle.vmig_c.proofs.Plain.{plain_at, as_many, are_honest}
 
-same_devices : (ds es : List DeviceSeen) → map (λ (d : DeviceSeen). d.state) ds ≡ map (λ (d : DeviceSeen). d.state) es → map (λ (d : DeviceSeen). d.sectors) ds ≡ map (λ (d : DeviceSeen). d.sectors) es
-    → map (λ (d : DeviceSeen). d.marks) ds ≡ map (λ (d : DeviceSeen). d.marks) es → map (λ (d : DeviceSeen). d.is_flushed) ds ≡ map (λ (d : DeviceSeen). d.is_flushed) es → ds ≡ es
-same_devices [] [] states sectors marks flushed = refl
-same_devices [] (e ∷ es) states sectors marks flushed = absurd cc
-same_devices (d ∷ ds) [] states sectors marks flushed = absurd cc
-same_devices (d ∷ ds) (e ∷ es) states sectors marks flushed =
-    let state : d.state ≡ e.state = cc in
-    let sector : d.sectors ≡ e.sectors = cc in
-    let mark : d.marks ≡ e.marks = cc in
-    let flush : d.is_flushed ≡ e.is_flushed = cc in
-    let more_states : map (λ (x : DeviceSeen). x.state) ds ≡ map (λ (x : DeviceSeen). x.state) es = cc in
-    let more_sectors : map (λ (x : DeviceSeen). x.sectors) ds ≡ map (λ (x : DeviceSeen). x.sectors) es = cc in
-    let more_marks : map (λ (x : DeviceSeen). x.marks) ds ≡ map (λ (x : DeviceSeen). x.marks) es = cc in
-    let more_flushed : map (λ (x : DeviceSeen). x.is_flushed) ds ≡ map (λ (x : DeviceSeen). x.is_flushed) es = cc in
-    let rest = same_devices ds es more_states more_sectors more_marks more_flushed in
-    let first : d ≡ e = (λ i. record { state = state i; sectors = sector i; marks = mark i; is_flushed = flush i }) in
-    rw (first, rest) refl
-
-pub same_seen : (s t : Seen) → s.memory ≡ t.memory → state_of s ≡ state_of t → all_marks s ≡ all_marks t → all_flushed s ≡ all_flushed t → s ≡ t
-same_seen s t memory state marks flushed =
-    let devices = same_devices s.devices t.devices (ap (λ (m : _). m.devices) state) (ap (λ (m : _). m.disks) state) marks flushed in
-    (λ i. record { memory = memory i; devices = devices i })
-
 -- No disk in memory fails as it is read.
 same_marks : (m : Seen) (result : Result (Unit {0}) MigError) → ArePlain m → IfErr result (λ e. IsNamed m e) → marks_after (all_marks m) result ≡ all_marks m
 same_marks m (Ok x) plain named = refl
@@ -74,7 +51,7 @@ kept m next out new_out bytes result sends =
     record {
       memory = sends.memory;
       state = sends.state;
-      same = λ plain. same_seen next m sends.memory sends.state (sends.marks ∙ same_marks m result plain sends.named) sends.flushed;
+      same = λ plain. record { memory = sends.memory; state = sends.state; marks = sends.marks ∙ same_marks m result plain sends.named; flushed = sends.flushed };
     }
 
 -- What is told of a stream that was made, by whether it fits; and where memory was refused.

@@ -2,6 +2,7 @@
 use Rattle.std.specs.Prelude.{◌≡◌, ◌⊎◌, ℕ, ◌+◌, nat_lt, Bool, true, false, List, ◌++◌, length, drop, Option, Some, None}
 use Rattle.machine.specs.Seen.{Seen, state_of}
 use Rattle.machine.specs.State.{base_of}
+use Rattle.sender.specs.Calls.{IsSameButCalls}
 use Rattle.sender.specs.LiveState.{LiveSeen}
 use Rattle.wire.specs.Stream.{whole}
 use Rattle.receiver.specs.Codes.{recv_code_of}
@@ -15,11 +16,11 @@ use Rattle.vmig_c.specs.Status.{done, in_use, is_moving, no_machine, no_memory, 
 use Rattle.vmig_c.specs.Told.{IsNotThere, IsOut}
 use Rattle.vmig_c.specs.Kept.{IsNew, KeptSeen, State, Still, Moving, Arriving, Lent}
 
--- A machine that was read for its stream is unchanged.
+-- A machine that was read for its stream is unchanged, but for the counts of its disks' calls.
 pub record IsKept (old new : Seen) : Type 0 where
   pub memory : new.memory ≡ old.memory
   pub state : state_of new ≡ state_of old
-  pub same : ArePlain old → new ≡ old
+  pub same : ArePlain old → IsSameButCalls old new
 
 -- A stream that goes into a buffer, where it fits, or else leaves it as it was.
 abbrev pub PutIf : Bool → List ℕ → ℕ → List ℕ → List ℕ → Type 0

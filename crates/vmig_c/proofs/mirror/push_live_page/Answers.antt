@@ -29,5 +29,5 @@ returns-clause-pushed g c =
     let based : c.base-base.result ≡ base_of (state_of l.machine).devices = rw c.machine-2.ensures at c.base-base.ensures in
     let inside : 4096 * n + 4096 ≤ length l.machine.memory.bytes = omega (arith, sound.pages, c.requires.page) in
     let noted : c.version.result ≡ slice_index next.machine.memory.versions n = rw (c.ram-2.ensures, c.machine-3.ensures) at c.version.ensures in
-    let was : IsServedPage l (MemWrite (page_address l.machine n) (page_of c.args.ram.now n)) next = served_page l next n _ _ c.args.ram.now c.write_ram-done.result c.requires.going c.recall.ensures (ap (λ (b : ℕ). b + 4096 * n) based) c.write_ram-done.ensures (page_slice c.args.ram.now n) inside c.requires.bytes in
+    let was : IsServedPage l (MemWrite (page_address l.machine n) (page_of c.args.ram.now n)) next = served_page l next n _ _ c.args.ram.now c.write_ram-done.result c.requires.going c.recall.ensures (ap (λ (b : ℕ). b + 4096 * n) based) c.write_ram-done.ensures.served (page_slice c.args.ram.now n) inside c.requires.bytes in
     pushed_live l next n c.args.ram.now c.args.seen.now _ was (ap (slice_set c.args.seen.now n) noted)
