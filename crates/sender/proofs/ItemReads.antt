@@ -4,7 +4,7 @@ use Rattle.std.specs.Prelude.{Result, Ok, Err}
 use Rattle.dirtylog.specs.Members.{IsLeast}
 use Rattle.guestmem.specs.Item as items
 use Rattle.blk.specs.Sectors.{Sector}
-use Rattle.machine.specs.Applied.{ReadsSector}
+use Rattle.machine.specs.Applied.{IsGood, ReadsSector}
 use Rattle.machine.specs.Calls.{CallsDisk, has_read}
 use Rattle.machine.specs.EffectLaws.{sector_on, sectors_on}
 use Rattle.machine.specs.Layout.{item_at, layout_of, size_of}
@@ -32,6 +32,9 @@ pub read_once : {E : Type 0} (called : ℕ → ℕ) (old new : Seen) (dev n : �
 read_once called old new dev n bytes (Ok true) read calls = by_found called old new dev n (Some (Some read.found.0.0)) read.found.0.1 calls
 read_once called old new dev n bytes (Ok false) read calls = by_found called old new dev n (Some None) read.found calls
 read_once called old new dev n bytes (Err e) read calls = by_found called old new dev n (Some (Some read.good.0)) read.good.1 calls
+
+pub good_read_once : (called : ℕ → ℕ) (old new : Seen) (dev n : ℕ) → IsGood (sector_on (sectors_on (state_of old) dev) n) → CallsDisk called true dev old new → ReadsItem called old (items.sector dev n) new
+good_read_once called old new dev n good calls = by_found called old new dev n (Some (Some good.0)) good.1 calls
 
 -- One more item.
 reads_last : (called : ℕ → ℕ) (m : MachineState) (numbers : List ℕ) (i : ℕ) (calls : List (Option ℕ)) → after_reads called m (numbers ++ i ∷ []) calls ≡ after_read called m (item_at (layout_of m) i) (after_reads called m numbers calls)

@@ -84,7 +84,7 @@ pub shifted : (sizes : List ℕ) (a b : ℕ) → size_from (a + b) sizes ≡ a +
 shifted [] a b = refl
 shifted (size ∷ sizes) a b = let e : a + b + size ≡ a + (b + size) = omega arith in rw e (shifted sizes a (b + size))
 
-first_is : (m : MachineState) (dev : ℕ) → first_sector m dev ≡ pages_of m + sectors_before m dev
+pub first_is : (m : MachineState) (dev : ℕ) → first_sector m dev ≡ pages_of m + sectors_before m dev
 first_is m dev = let e : pages_of m ≡ pages_of m + 0 = omega arith in ap (λ n. size_from n (take dev (map length m.disks))) e ∙ shifted (take dev (map length m.disks)) (pages_of m) 0
 
 pub before_more : (sizes : List ℕ) (first dev : ℕ) → dev < length sizes → size_from first (take (dev + 1) sizes) ≡ size_from first (take dev sizes) + get_or sizes dev 0

@@ -1,15 +1,16 @@
 -- How often the calls of a machine that is being migrated call its disks. What they do beside that is in `Calls`.
-use Rattle.std.specs.Prelude.{◌≡◌, ℕ, ◌+◌, ◌<◌, ◌≤◌, Bool, true, false, List, [], ◌∷◌, Option, Some, None, Result, Ok, Err, MatchOption, if◌then◌else◌}
+use Rattle.std.specs.Prelude.{◌≡◌, ℕ, zero, suc, ◌+◌, ◌<◌, ◌≤◌, Bool, true, false, List, [], ◌∷◌, length, Option, Some, None, Result, Ok, Err, MatchOption, if◌then◌else◌}
 use Rattle.dirtylog.specs.Members.{IsLeast}
 use Rattle.blk.specs.Sectors.{Sector}
 use Rattle.guestmem.specs.Item as items
 use Rattle.machine.specs.Calls.{HasCalled}
 use Rattle.machine.specs.EffectLaws.{sector_on, sectors_on}
-use Rattle.machine.specs.Layout.{item_at, layout_of, size_of}
+use Rattle.machine.specs.Layout.{item_at, layout_of, pages_of, size_of}
 use Rattle.machine.specs.Seen.{Seen, all_calls, called_at, state_of}
 use Rattle.machine.specs.State.{MachineState}
 use Rattle.machine.specs.declared.event.Event.{Event}
 use Rattle.sender.specs.Calls.{IsSameButCalls, in_either}
+use Rattle.sender.specs.Items.{sectors_before}
 use Rattle.sender.specs.LiveState.{LiveSeen, chosen, now, refusal_for}
 use Rattle.sender.specs.declared.event.LiveEvent.{LiveEvent}
 use Rattle.sender.specs.declared.event.LiveEvent.TheVariants.{Guest, Begin, Copy, EndRound, Stop}
@@ -100,6 +101,28 @@ HasLiveCalled called old Stop reply new = MatchOption (refusal_for old.phase Sto
 abbrev pub SendCalls : (ℕ → ℕ) → LiveSeen → Result Stopped MigError → LiveSeen → Type 0
 SendCalls called old (Ok sent) new = ReadsBelow called old (size_of (layout_of (now old))) new
 SendCalls called old (Err e) new = FailedCalls called old e new
+
+-- The counts once n items were read, from the item with number `first` on.
+unfoldable pub after_items : (ℕ → ℕ) → MachineState → ℕ → ℕ → List (Option ℕ) → List (Option ℕ)
+after_items called m first zero calls = calls
+after_items called m first (suc n) calls = after_read called m (item_at (layout_of m) (first + n)) (after_items called m first n calls)
+
+abbrev pub ReadsItems : (ℕ → ℕ) → Seen → ℕ → ℕ → Seen → Type 0
+ReadsItems called old first n new = all_calls new ≡ after_items called (state_of old) first n (all_calls old)
+
+pub record ReadsPart (called : ℕ → ℕ) (old : Seen) (first n : ℕ) (new : Seen) : Type 0 where
+  pub count : ℕ
+  pub within : count ≤ n
+  pub reads : ReadsItems called old first count new
+
+-- These items were read, each once, and no other; where that failed, the first ones of them.
+abbrev pub ReadsFrom : {A : Type 0} → (ℕ → ℕ) → Seen → ℕ → ℕ → Result A MigError → Seen → Type 0
+ReadsFrom called old first n (Ok x) new = ReadsItems called old first n new
+ReadsFrom called old first n (Err e) new = ReadsPart called old first n new
+
+-- A save reads each sector of each disk.
+abbrev pub SaveCalls : {A : Type 0} → (ℕ → ℕ) → Seen → Result A MigError → Seen → Type 0
+SaveCalls called old result new = ReadsFrom called old (pages_of (state_of old)) (sectors_before (state_of old) (length (state_of old).disks)) result new
 
 -- A machine that is unchanged but for the calls of its disks, and none of whose disks was called, is unchanged.
 abbrev pub UncalledIsSame : Type 0

@@ -4,7 +4,8 @@
 //! - `save(machine, sink)`: an honest sink holds what it held and then the whole stream (`whole` of `wire`'s
 //!   `specs/Stream`), if the disks are honest. An error is returned exactly if a count of failures rose: `StreamFailed`
 //!   if the sink's did, and `DiskFailed` with the sector if a disk's did. After an Ok the sink was flushed after its last
-//!   byte. The machine stays equal. It takes no memory of its own.
+//!   byte. The machine stays equal but for the calls of its disks: one of the disk of each good sector, in order, up to where it failed
+//!   (`SaveCalls` of `specs/Reads`). It takes no memory of its own.
 //! - `saved_len(machine)` is the length of that stream, made without it.
 //! - `Live` is a machine that is migrated while it runs. Contracts see of it the machine, the phase (fresh, a round
 //!   open, stopped, failed), two sets of items, *due* and *dirty*, what its digest may have taken, and what its writer
@@ -54,8 +55,7 @@
 //!   call, that a disk that is reported as failed is not steady, and that once a stop returned Ok a stream was written, of a machine
 //!   with this one's RAM and devices.
 //!
-//! Not proved: how often `save` calls a disk (tested: once for each good sector); and that it asks the marks of a disk once for each bad
-//! sector, not once for each sector.
+//! Not proved: that `save` asks the marks of a disk once for each bad sector, not once for each sector.
 //!
 //! It uses `machine`, `dirtylog`, and `wire`, which encodes each record.
 #![tactic(auto)]

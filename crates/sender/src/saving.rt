@@ -14,8 +14,8 @@ ghost use Rattle.wire.specs.Records.{commit, spelled_record};
 ghost use Rattle.wire.specs.Sinks.{Appends, Takes};
 ghost use Rattle.wire.specs.Stream.{device_texts, record_of, records_below, saved, texts, whole};
 ghost use Rattle.sender.specs.LiveState.{item_of};
-ghost use Rattle.sender.specs.Items.{disk_text, front_text, sectors_text};
-ghost use Rattle.sender.specs.Reads.{ReadsItem};
+ghost use Rattle.sender.specs.Items.{disk_text, first_sector, front_text, sectors_text, size_on};
+ghost use Rattle.sender.specs.Reads.{ReadsFrom, ReadsItem, SaveCalls};
 ghost use Rattle.sender.specs.Saving.{AddsItem, NamesItem, Sends, TakesOn};
 
 use crate::event::Item;
@@ -36,6 +36,7 @@ use wire::{
 pub fn save<D: Disk, S: Sink>(machine: &mut Machine<D>, out: &mut S) -> Result<(), MigError>
     ensures sent { Sends machine.old (S.state out.old) (whole (state_of machine.old)) result machine.new (S.state out.new) }
     ensures flushed { OnOk result ((S.state out.new).is_flushed ≡ true) }
+    ensures calls { SaveCalls D.called machine.old result machine.new }
 {
     let mut digest = Sha256::new();
     write_saved(machine, out, &mut digest)?;
@@ -60,6 +61,7 @@ fn write_saved<D: Disk, S: Sink, T: Tally>(
 ) -> Result<(), MigError>
     ensures sent { Sends machine.old (S.state out.old) (saved (state_of machine.old)) result machine.new (S.state out.new) }
     ensures taken { TakesOn machine.old (T.has_taken tally.old) (saved (state_of machine.old)) result (T.has_taken tally.new) }
+    ensures calls { SaveCalls D.called machine.old result machine.new }
 {
     write_front(machine, out, tally)?;
     write_disks(machine, out, tally)?;
@@ -108,6 +110,7 @@ fn write_disks<D: Disk, S: Sink, T: Tally>(
 ) -> Result<(), MigError>
     ensures sent { Sends machine.old (S.state out.old) (sectors_text (state_of machine.old)) result machine.new (S.state out.new) }
     ensures taken { TakesOn machine.old (T.has_taken tally.old) (sectors_text (state_of machine.old)) result (T.has_taken tally.new) }
+    ensures calls { SaveCalls D.called machine.old result machine.new }
 {
     for dev in 0..machine.shapes().len() as u8 {
         write_disk(machine, dev, out, tally)?;
@@ -126,6 +129,7 @@ fn write_disk<D: Disk, S: Sink, T: Tally>(
     requires { dev < length (state_of machine.old).devices }
     ensures sent { Sends machine.old (S.state out.old) (disk_text (state_of machine.old) dev) result machine.new (S.state out.new) }
     ensures taken { TakesOn machine.old (T.has_taken tally.old) (disk_text (state_of machine.old) dev) result (T.has_taken tally.new) }
+    ensures calls { ReadsFrom D.called machine.old (first_sector (state_of machine.old) dev) (size_on (state_of machine.old) dev) result machine.new }
 {
     let mut next_bad = machine.next_bad(dev, 0);
     for number in 0..machine.shapes()[dev as usize].sectors() {
@@ -149,6 +153,7 @@ fn send_in_turn<D: Disk, S: Sink, T: Tally>(
     ensures sent { Sends machine.old (S.state out.old) (spelled_record (record_of (state_of machine.old) (sector dev number))) result machine.new (S.state out.new) }
     ensures taken { TakesOn machine.old (T.has_taken tally.old) (spelled_record (record_of (state_of machine.old) (sector dev number))) result (T.has_taken tally.new) }
     ensures next { IfOk result (λ next. IsNextBad (state_of machine.old) dev (number + 1) next) }
+    ensures calls { ReadsItem D.called machine.old (sector dev number) machine.new }
 {
     if next_bad == Some(number as u64) {
         write_bad_sector(dev, number, out, tally)?;
@@ -159,6 +164,7 @@ fn send_in_turn<D: Disk, S: Sink, T: Tally>(
 }
 
 /// Writes the record of a sector that is not bad.
+#[tactic(auto, using(crate::proofs::ItemReads::good_read_once))]
 fn send_good<D: Disk, S: Sink, T: Tally>(
     machine: &mut Machine<D>,
     dev: u8,
@@ -169,6 +175,7 @@ fn send_good<D: Disk, S: Sink, T: Tally>(
     requires { IsGood (sector_on (sectors_on (state_of machine.old) dev) number) }
     ensures sent { Sends machine.old (S.state out.old) (spelled_record (record_of (state_of machine.old) (sector dev number))) result machine.new (S.state out.new) }
     ensures taken { TakesOn machine.old (T.has_taken tally.old) (spelled_record (record_of (state_of machine.old) (sector dev number))) result (T.has_taken tally.new) }
+    ensures calls { ReadsItem D.called machine.old (sector dev number) machine.new }
 {
     let mut bytes = [0; SECTOR_SIZE];
     if let Err(_) = machine.read_good_sector(dev, number as u64, &mut bytes) {

@@ -1,7 +1,10 @@
-use Rattle.std.proofs.Common.{◌≡◌, ◌++◌, Ok, refl, ◌∙◌, append_assoc}
+use Rattle.std.proofs.Common.{◌≡◌, ◌++◌, Ok, Err, length, rules, refl, ◌∙◌, append_assoc}
 use Rattle.machine.specs.Seen.{state_of}
 use Rattle.wire.specs.Stream.{device_texts, saved}
-use Rattle.sender.specs.Items.{front_text, sectors_text}
+use Rattle.machine.specs.Layout.{pages_of}
+use Rattle.sender.specs.Items.{front_text, sectors_before, sectors_text}
+use Rattle.sender.specs.declared.mig_error.MigError.TheVariants.{StreamFailed}
+use Rattle.sender.proofs.SaveReads.{none_read}
 use Rattle.sender.specs.Saving.{Sends, TakesOn}
 use Rattle.sender.proofs.Parts.{saved_in_parts}
 use Rattle.sender.proofs.Sending.{sends_next, sends_ok, takes_next, then_sends, then_takes_on}
@@ -40,3 +43,9 @@ returns-clause-taken g c =
     let took_front : TakesOn {A = Unit {0}} old t0 (front_text m) (Ok (tt {0})) t1 = λ disks. c.in_ok-write_front.ensures.taken in
     let took_both : TakesOn {A = Unit {0}} old t0 (front_text m ++ sectors_text m) (Ok (tt {0})) t2 = then_takes_on {A = Unit {0}} {B = Unit {0}} old old t0 t1 t2 (front_text m) (sectors_text m) (tt {0}) (Ok (tt {0})) refl took_front c.in_ok-write_disks.ensures.taken in
     takes_next {A = Unit {0}} {B = Unit {0}} old new new out0 out2 t0 t2 t3 (front_text m ++ sectors_text m) (saved m) (λ k. device_texts 0 k.devices) (tt {0}) (Ok (tt {0})) e both took_both (λ disks. c.in_ok-write_devices.ensures.taken)
+
+pub returns-in_err-write_front-clause-calls : goal.returns-in_err-write_front-clause-calls
+returns-in_err-write_front-clause-calls g c =
+    let m = state_of c.args.machine.now in
+    let failed : c.from_residual.result ≡ Err StreamFailed = search rules in
+    rw failed (none_read g.D.Disk.called c.args.machine.now (pages_of m) (sectors_before m (length m.disks)))
