@@ -4,8 +4,8 @@
 //! - `save(machine, sink)`: an honest sink holds what it held and then the whole stream (`whole` of `wire`'s
 //!   `specs/Stream`), if the disks are honest. An error is returned exactly if a count of failures rose: `StreamFailed`
 //!   if the sink's did, and `DiskFailed` with the sector if a disk's did. After an Ok the sink was flushed after its last
-//!   byte. The machine stays equal but for the calls of its disks: one of the disk of each good sector, in order, up to where it failed
-//!   (`SaveCalls` of `specs/Reads`). It takes no memory of its own.
+//!   byte. The machine stays equal but for the calls of its disks: one of the disk of each good sector, in order, and after an error
+//!   one for each of the first ones (`SaveCalls` of `specs/Reads`). It takes no memory of its own.
 //! - `saved_len(machine)` is the length of that stream, made without it.
 //! - `Live` is a machine that is migrated while it runs. Contracts see of it the machine, the phase (fresh, a round
 //!   open, stopped, failed), two sets of items, *due* and *dirty*, what its digest may have taken, and what its writer
@@ -27,8 +27,9 @@
 //!     a set.
 //! - A second clause of each call, `HasLiveCalled` (`specs/Reads`), counts the calls of disks, with any disks: an event of the guest makes
 //!   those of its step; `begin` and `end_round` none; a copy one of the disk of a good sector, also where that fails or the writer does,
-//!   and none for a bad one or for a page; a stop one for each good sector of the two sets, in order, and no other, up to where it
-//!   failed. Where none was made, the machine is equal (`laws::uncalled_is_same`).
+//!   and none for a bad one or for a page; a stop one for each good sector of the two sets, in order, and no other: where a disk failed,
+//!   for those up to the sector that is named, and where the writer did, for those up to some item. Where none was made, the machine is
+//!   equal (`laws::uncalled_is_same`).
 //! - `fail_flush` makes a step that flushes a disk as one whose disk failed, and calls no disk (`specs/Unsynced`). The history
 //!   continues with that step, and nothing becomes dirty: the stop sends the devices whole.
 //! - `flush_disk` is one flush of the disk of a device, in each phase: the machine stays equal, and the history as it was
