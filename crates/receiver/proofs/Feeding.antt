@@ -12,17 +12,20 @@ use Rattle.guestmem.proofs.ByteLaws.{IsBytes-append}
 use Rattle.wire.proofs.Spelling.{tail_same}
 use Rattle.machine.specs.First.{marks_in}
 use Rattle.machine.specs.Room.{RoomSeen}
+use Rattle.receiver.specs.Calls.{Feeds}
 use Rattle.receiver.specs.Disks.{MarksRefused, all_marks_in, disk_marks_of, sizes_in, sizes_of}
 use Rattle.receiver.specs.Faults.{Fault}
 use Rattle.receiver.specs.Receiving.{HasBeenFed, IsPastHead, IsReady, IsKnown, IsReceiver, IsTaken, NoFault, Received, TellsFault, TellsNow, Took, devices_at, has_failed, place_aside, place_in, received_by}
-use Rattle.receiver.specs.Waiting.{LacksBytes}
+use Rattle.receiver.specs.Waiting.{LacksBytes, ReadsRecords}
 use Rattle.receiver.specs.declared.stage.Stage.{Stage}
 use Rattle.receiver.specs.declared.stage.Stage.TheVariants as stages
 use Rattle.receiver.specs.declared.ram_terms.RamTerms.{RamTerms}
 use Rattle.receiver.specs.declared.recv_error.RecvError.{RecvError}
+use Rattle.receiver.specs.declared.recv_error.RecvError.TheVariants.{AlreadyFailed}
 use Rattle.receiver.proofs.Knowing.{no_fault_known}
 use Rattle.receiver.proofs.Lists.{empty}
 use Rattle.receiver.proofs.Prefixes.{holds}
+use Rattle.receiver.proofs.Wanting.{ok_not_err}
 use Rattle.receiver.proofs.Working.{front_of, tells_more}
 use Rattle.receiver.proofs.Aligned.{one_opening}
 use Rattle.receiver.specs.Fed.{HasRead}
@@ -122,6 +125,42 @@ pub quiet_still : (ram : RamTerms) (place : Option Ptr) (ds : List DiskState) (s
 quiet_still ram place ds stage d held piece b none h =
     let same : b ++ piece ≡ b = ap (λ (x : List ℕ). b ++ x) (empty piece none) ∙ append-nil b in
     rw same (no_fault_known ram ds d b held stage h.taken)
+
+pub nothing_fed : (ram : RamTerms) (place : Option Ptr) (ds : List DiskState) (stage : Stage) (d : Sha256) (held piece : List ℕ) (x : Unit {0}) → length piece ≡ 0 → has_failed stage ≡ false
+    → Feeds (received_by ram place ds stage d held) piece (Ok x) (received_by ram place ds stage d held)
+nothing_fed ram place ds stage d held piece x none on = record {
+  ram = refl;
+  sizes = refl;
+  marks = refl;
+  fed = λ b h. nothing_more (received_by ram place ds stage d held) piece b none h;
+  quiet = λ b h. quiet_still ram place ds stage d held piece b none h;
+  told = tt;
+  failed = tt;
+  place = refl;
+  already = λ f. absurd (true_false (has_failed stage) f on);
+  memory = λ e. absurd (ok_not_err e);
+}
+
+-- A piece after a refusal.
+pub refused_again : (r : Received) (piece : List ℕ) → r.failed ≡ true → Feeds r piece (Err AlreadyFailed) r
+refused_again r piece failed = record {
+  ram = refl;
+  sizes = refl;
+  marks = refl;
+  fed = tt;
+  quiet = tt;
+  told = λ b h. absurd (true_false r.failed failed h.goes_on);
+  failed = failed;
+  place = refl;
+  already = λ f. refl;
+  memory = λ e. absurd cc;
+}
+
+pub reads_on : (stage : Stage) → ReadsRecords stage → has_failed stage ≡ false
+reads_on stages.Head reads = absurd reads
+reads_on (stages.Records i) reads = refl
+reads_on (stages.Ended i) reads = absurd reads
+reads_on stages.Failed reads = absurd reads
 
 -- The disks that were lent, as they come back.
 pub same_count : {D : Type 0} (state : D → DiskState) (old new : List D) → sizes_of state new ≡ sizes_of state old → length new ≡ length old

@@ -89,9 +89,6 @@ past_head ram ds digest b held (stages.Records i) opening rest t begins = tt
 past_head ram ds digest b held (stages.Ended i) opening rest t begins = tt
 past_head ram ds digest b held stages.Failed opening rest t begins = absurd t.known
 
-abbrev pub WantsAt : Received → List ℕ → Type 0
-WantsAt r piece = (b : List ℕ) → HasBeenFed r b → (opening : Opening) (rest : List ℕ) → Begins b opening rest → (from : ℕ) → from + length r.held ≡ length b → HasDevice r.ram r.sizes (b ++ piece) from
-
 pub fed_wants : (ram : RamTerms) (place : Option Ptr) (ds : List DiskState) (stage : Stage) (digest : Sha256) (held piece b : List ℕ) (opening : Opening) (rest : List ℕ) (from : ℕ)
     → ((front : List ℕ) → IsKnown ram ds digest front held stage → IsPastHead stage → HasDevice ram (sizes_in ds) (front ++ (held ++ piece)) (length front))
     → HasBeenFed (received_by ram place ds stage digest held) b → Begins b opening rest → from + length held ≡ length b → HasDevice ram (sizes_in ds) (b ++ piece) from

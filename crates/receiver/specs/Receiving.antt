@@ -172,13 +172,14 @@ pub record HasBeenFed (r : Received) (b : List ℕ) : Type 0 where
   pub bytes : IsBytes b
   pub taken : IsTaken r.ram r.disks r.digest b r.held r.stage
 
--- It takes no more, and has the same disks.
+-- It takes no more, and has the same disks and the same RAM.
 pub record IsGivenUp (old new : Received) : Type 0 where
   pub failed : new.failed ≡ true
   pub ram : new.ram ≡ old.ram
   pub disks : new.disks ≡ old.disks
   pub sizes : new.sizes ≡ old.sizes
   pub marks : new.marks ≡ old.marks
+  pub place : new.place ≡ old.place
 
 -- What holds of each receiver. Once the header was read, all memory is reserved that the machine will need. Bytes that wait for the
 -- rest of a record are fewer than the longest record has, and there is room for such a record once the header was read. After a

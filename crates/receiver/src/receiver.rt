@@ -8,7 +8,6 @@
 //! What it knows of its RAM (`RamTerms`) is a parameter of all faults, as the sizes of the disks are.
 
 ghost use Rattle.std.specs.Prelude.{◌≡◌, OnErr, OnOk, Some, false, map, true};
-ghost use Rattle.wire.specs.Header.{Opening};
 ghost use Rattle.receiver.specs.Disks.{disk_marks_of, sizes_of};
 ghost use Rattle.receiver.specs.Receiving.{IsPastHead, devices_at, has_ended, has_failed, place_aside, rounds_in};
 
@@ -63,27 +62,15 @@ impl<D: Disk> Model for Receiver<D> {
 }
 
 impl<D: Disk + Drop> Receiver<D> {
-    ghost use Rattle.std.specs.Prelude.{◌≡◌, ◌++◌, ◌+◌, [], ℕ, List, ◌≤◌, ◌≢◌, IfOk, IfErr, IfSome, OnOk, OnErr, Err, None, length, true, false};
-    ghost use Rattle.machine.specs.First.{dealt_marks};
-    ghost use Rattle.machine.specs.Seen.{all_marks, state_of};
-    ghost use Rattle.machine.specs.Shapes.{disk_sizes};
-    ghost use Rattle.machine.specs.State.{base_of};
-    ghost use Rattle.machine.specs.declared.shape.Shape.{Shape};
-    ghost use Rattle.wire.specs.Header.{Begins};
-    ghost use Rattle.wire.specs.Stream.{IsStream, shapes_in};
-    ghost use Rattle.receiver.specs.declared.recv_error.RecvError.TheVariants as errors;
-    ghost use Rattle.receiver.specs.Disks.{AreHonestDisks, MarksAfter, disk_marks_of, sizes_of};
+    ghost use Rattle.std.specs.Prelude.{◌≡◌, ℕ, List, ◌≤◌, IfSome, None, length, map, true, false};
+    ghost use Rattle.receiver.specs.Calls.{Feeds, Finishes, FinishesOrBack, IsNew};
+    ghost use Rattle.receiver.specs.Disks.{sizes_of};
     ghost use Rattle.receiver.specs.Opened.{given_at, ram_at};
-    ghost use Rattle.receiver.specs.Receiving.{HasBeenFed, HasDevice, IsArrived, NoFault, IsFinish, IsGivenUp, end_error, HasRounds, IsWholeFor, TellsNow};
+    ghost use Rattle.receiver.specs.Receiving.{HasBeenFed, HasRounds, IsWholeFor};
 
     /// A receiver that was fed nothing, with these disks, of a machine whose RAM begins at the address 0. It takes no memory.
     pub fn new(alloc: Global, disks: Vec<D>) -> Receiver<D>
-        ensures fed { HasBeenFed result [] }
-        ensures ram { result.ram ≡ ram_at 0 }
-        ensures sizes { result.sizes ≡ sizes_of D.state disks.items }
-        ensures marks { result.marks ≡ disk_marks_of D.state disks.items }
-        ensures disks { result.disks ≡ map D.state disks.items }
-        ensures place { result.place ≡ None }
+        ensures { IsNew D.state disks.items (ram_at 0) None result }
     {
         Receiver::new_at(alloc, disks, 0)
     }
@@ -91,12 +78,7 @@ impl<D: Disk + Drop> Receiver<D> {
     /// As `new`, of a machine whose RAM begins at the guest-physical address `base`. Where no RAM of the stream's length may begin
     /// there, since it is no multiple of a page or the last byte would have no address, each device of a stream is a bad one.
     pub fn new_at(alloc: Global, disks: Vec<D>, base: u64) -> Receiver<D>
-        ensures fed { HasBeenFed result [] }
-        ensures ram { result.ram ≡ ram_at base }
-        ensures sizes { result.sizes ≡ sizes_of D.state disks.items }
-        ensures marks { result.marks ≡ disk_marks_of D.state disks.items }
-        ensures disks { result.disks ≡ map D.state disks.items }
-        ensures place { result.place ≡ None }
+        ensures { IsNew D.state disks.items (ram_at base) None result }
     {
         Receiver {
             alloc,
@@ -114,24 +96,14 @@ impl<D: Disk + Drop> Receiver<D> {
     /// As `new`, with the RAM that the machine is to have: its pages are written straight into it. Its bytes may be anything. The
     /// stream of a machine of another number of pages is refused with `ShapeMismatch`, before a page is written.
     pub fn new_in(alloc: Global, disks: Vec<D>, ram: Ram) -> Receiver<D>
-        ensures fed { HasBeenFed result [] }
-        ensures ram { result.ram ≡ given_at 0 ram.bytes }
-        ensures sizes { result.sizes ≡ sizes_of D.state disks.items }
-        ensures marks { result.marks ≡ disk_marks_of D.state disks.items }
-        ensures disks { result.disks ≡ map D.state disks.items }
-        ensures place { result.place ≡ ram.place }
+        ensures { IsNew D.state disks.items (given_at 0 ram.bytes) ram.place result }
     {
         Receiver::new_in_at(alloc, disks, ram, 0)
     }
 
     /// As `new_in`, of a machine whose RAM begins at the guest-physical address `base` (see `new_at`).
     pub fn new_in_at(alloc: Global, disks: Vec<D>, ram: Ram, base: u64) -> Receiver<D>
-        ensures fed { HasBeenFed result [] }
-        ensures ram { result.ram ≡ given_at base ram.bytes }
-        ensures sizes { result.sizes ≡ sizes_of D.state disks.items }
-        ensures marks { result.marks ≡ disk_marks_of D.state disks.items }
-        ensures disks { result.disks ≡ map D.state disks.items }
-        ensures place { result.place ≡ ram.place }
+        ensures { IsNew D.state disks.items (given_at base ram.bytes) ram.place result }
     {
         let len = ram.len();
         Receiver {
@@ -160,17 +132,7 @@ impl<D: Disk + Drop> Receiver<D> {
     /// Takes the next piece. The good sectors in it are written to the disks. `DiskFailed` is returned exactly if a
     /// disk failed. After the header `NoMemory` is returned only with the last byte of a device's record.
     pub fn feed(&mut self, piece: &[u8]) -> Result<(), RecvError>
-        ensures ram { self.new.ram ≡ self.old.ram }
-        ensures sizes { self.new.sizes ≡ self.old.sizes }
-        ensures marks { MarksAfter self.old.marks result self.new.marks }
-        ensures fed { OnOk result ((b : List ℕ) → HasBeenFed self.old b → HasBeenFed self.new (b ++ piece.now)) }
-        ensures quiet { OnOk result ((b : List ℕ) → HasBeenFed self.old b → NoFault self.old.ram self.old.sizes (b ++ piece.now)) }
-        ensures told { IfErr result (λ e. (b : List ℕ) → HasBeenFed self.old b → TellsNow self.old.ram self.old.sizes b piece.now e) }
-        ensures failed { OnErr result (self.new.failed ≡ true) }
-        ensures place { self.new.place ≡ self.old.place }
-        ensures already { self.old.failed ≡ true → result ≡ Err errors.AlreadyFailed }
-        ensures memory { result ≡ Err errors.NoMemory → (b : List ℕ) → HasBeenFed self.old b → (opening : Opening) (rest : List ℕ) → Begins b opening rest
-            → (from : ℕ) → from + length self.old.held ≡ length b → HasDevice self.old.ram self.old.sizes (b ++ piece.now) from }
+        ensures { Feeds self.old piece.now result self.new }
     {
         if piece.len() < self.lacking {
             self.held.extend_from_slice(piece).unwrap();
@@ -184,17 +146,7 @@ impl<D: Disk + Drop> Receiver<D> {
     /// only held, costs little.
     #[inline(never)]
     fn work_through(&mut self, piece: &[u8]) -> Result<(), RecvError>
-        ensures ram { self.new.ram ≡ self.old.ram }
-        ensures sizes { self.new.sizes ≡ self.old.sizes }
-        ensures marks { MarksAfter self.old.marks result self.new.marks }
-        ensures fed { OnOk result ((b : List ℕ) → HasBeenFed self.old b → HasBeenFed self.new (b ++ piece.now)) }
-        ensures quiet { OnOk result ((b : List ℕ) → HasBeenFed self.old b → NoFault self.old.ram self.old.sizes (b ++ piece.now)) }
-        ensures told { IfErr result (λ e. (b : List ℕ) → HasBeenFed self.old b → TellsNow self.old.ram self.old.sizes b piece.now e) }
-        ensures failed { OnErr result (self.new.failed ≡ true) }
-        ensures place { self.new.place ≡ self.old.place }
-        ensures already { self.old.failed ≡ true → result ≡ Err errors.AlreadyFailed }
-        ensures memory { result ≡ Err errors.NoMemory → (b : List ℕ) → HasBeenFed self.old b → (opening : Opening) (rest : List ℕ) → Begins b opening rest
-            → (from : ℕ) → from + length self.old.held ≡ length b → HasDevice self.old.ram self.old.sizes (b ++ piece.now) from }
+        ensures { Feeds self.old piece.now result self.new }
     {
         if is_failed(&self.stage) {
             return Err(RecvError::AlreadyFailed);
@@ -279,17 +231,7 @@ impl<D: Disk + Drop> Receiver<D> {
     /// storage (`Machine::flush_disk`), also the folder of a file that it made, and only then tells the source that all is there.
     /// Where that fails the machine does not run here, and the source continues.
     pub fn finish(self) -> Result<Machine<D>, RecvError>
-        ensures arrived { IfOk result (λ m. (b : List ℕ) → HasBeenFed self b → IsArrived b (state_of m)) }
-        ensures received { IfOk result (λ m. AreHonestDisks self.marks → (b : List ℕ) → HasBeenFed self b → IsStream b (state_of m)) }
-        ensures marks { IfOk result (λ m. all_marks m ≡ dealt_marks (shapes_in (state_of m).devices) self.marks) }
-        ensures based { IfOk result (λ m. base_of (state_of m).devices ≡ self.ram.base) }
-        ensures fits { IfOk result (λ m. self.sizes ≡ disk_sizes (shapes_in (state_of m).devices)) }
-        ensures refused { IfErr result (λ e. (b : List ℕ) → HasBeenFed self b → IsFinish b e) }
-        ensures whole { OnOk result ((b : List ℕ) → HasBeenFed self b → IsWholeFor self.ram self.sizes b) }
-        ensures told { IfErr result (λ e. e ≡ end_error self.failed) }
-        ensures lacking { result ≡ Err errors.Truncated → (b : List ℕ) → HasBeenFed self b → ¬ (IsWholeFor self.ram self.sizes b) }
-        ensures place { IfOk result (λ m. m.memory.place ≡ self.place) }
-        ensures already { self.failed ≡ true → result ≡ Err errors.AlreadyFailed }
+        ensures { Finishes self result }
     {
         match self.finish_or_back() {
             Ok(machine) => Ok(machine),
@@ -299,20 +241,7 @@ impl<D: Disk + Drop> Receiver<D> {
 
     /// As `finish`, but a refusal gives a receiver back that takes no more, with the disks and the RAM.
     pub fn finish_or_back(self) -> Result<Machine<D>, (RecvError, Receiver<D>)>
-        ensures arrived { IfOk result (λ m. (b : List ℕ) → HasBeenFed self b → IsArrived b (state_of m)) }
-        ensures received { IfOk result (λ m. AreHonestDisks self.marks → (b : List ℕ) → HasBeenFed self b → IsStream b (state_of m)) }
-        ensures marks { IfOk result (λ m. all_marks m ≡ dealt_marks (shapes_in (state_of m).devices) self.marks) }
-        ensures based { IfOk result (λ m. base_of (state_of m).devices ≡ self.ram.base) }
-        ensures fits { IfOk result (λ m. self.sizes ≡ disk_sizes (shapes_in (state_of m).devices)) }
-        ensures refused { IfErr result (λ x. (b : List ℕ) → HasBeenFed self b → IsFinish b x.0) }
-        ensures whole { OnOk result ((b : List ℕ) → HasBeenFed self b → IsWholeFor self.ram self.sizes b) }
-        ensures told { IfErr result (λ x. x.0 ≡ end_error self.failed) }
-        ensures lacking { IfErr result (λ x. x.0 ≡ errors.Truncated → (b : List ℕ) → HasBeenFed self b → ¬ (IsWholeFor self.ram self.sizes b)) }
-        ensures already { self.failed ≡ true → IfErr result (λ x. x.0 ≡ errors.AlreadyFailed) }
-        ensures goes_on { OnOk result (self.failed ≡ false) }
-        ensures back { IfErr result (λ x. IsGivenUp self x.1) }
-        ensures place { IfOk result (λ m. m.memory.place ≡ self.place) }
-        ensures kept { IfErr result (λ x. x.1.place ≡ self.place) }
+        ensures { FinishesOrBack self result }
     {
         let Receiver {
             alloc,

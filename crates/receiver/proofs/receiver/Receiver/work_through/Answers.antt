@@ -1,10 +1,11 @@
-use Rattle.std.proofs.Common.{rules, arith, ◌≡◌, ◌≤◌, ◌++◌, ap, map, length, take, drop, sym, subst, ◌∙◌, false, List}
+use Rattle.std.proofs.Common.{rules, arith, ◌≡◌, ◌≤◌, ◌++◌, ap, map, length, take, drop, sym, subst, ◌∙◌, true, false, List}
 use Rattle.std.proofs.lemmas.List.{length-map}
 use Rattle.std.specs.Vec.{vec_capacity}
 use Rattle.blk.specs.Disk.{DiskState}
-use Rattle.receiver.specs.Receiving.{HasBeenFed, IsReceiver, NoFault, Received, has_failed, place_in, received_by}
-use Rattle.receiver.proofs.Feeding.{GoesOn, IsRefused, failed_place, given_back, goes_on, is_receiver, is_refused, quiet_still, room_kept, same_count, same_devices, true_false}
-use Rattle.receiver.proofs.Wanting.{WantsAt, err_again, fed_wants, ok_not_err, on_err, past_head}
+use Rattle.receiver.specs.Calls.{WantsDevice}
+use Rattle.receiver.specs.Receiving.{IsReceiver, Received, has_failed, place_in, received_by}
+use Rattle.receiver.proofs.Feeding.{GoesOn, IsRefused, failed_place, given_back, goes_on, is_receiver, is_refused, nothing_fed, refused_again, room_kept, same_count, same_devices, true_false}
+use Rattle.receiver.proofs.Wanting.{err_again, fed_wants, ok_not_err, on_err, past_head}
 use Rattle.receiver.proofs.receiver.Receiver.work_through.Goals as goal
 
 pub returns-in-Ok-reserve : goal.returns-in-Ok-reserve
@@ -60,16 +61,20 @@ returns-in-Err g c =
       failed = ap has_failed c.replace-stage.ensures.after;
       place = ap (place_in c.take_piece.new.aside) c.replace-stage.ensures.after ∙ c.in-Err.ensures.place ∙ ap (place_in c.self.inside.aside) c.replace-stage.ensures.value ∙ ap (λ (v : Received). v.place) c.self.view_is;
       already = λ f. absurd (true_false _ f (sym (ap (λ (v : Received). v.failed) c.self.view_is) ∙ on));
-      memory = λ e. subst (λ (r : Received). WantsAt r c.args.piece.now) c.self.view_is
+      memory = λ e. subst (λ (r : Received). WantsDevice r c.args.piece.now) c.self.view_is
           (λ b fed opening rest begins from at. fed_wants c.self.inside.ram (place_in c.self.inside.aside c.self.inside.stage) old c.self.inside.stage c.self.inside.taken c.self.inside.held.items c.args.piece.now b opening rest from (λ front known past. memory front known past (err_again e)) fed begins at);
     }
 
-pub returns-then-is_empty-clause-quiet : goal.returns-then-is_empty-clause-quiet
-returns-then-is_empty-clause-quiet g c = λ b h.
+pub returns-then-is_failed : goal.returns-then-is_failed
+returns-then-is_failed g c =
+    let failed : has_failed c.self.inside.stage ≡ true = sym c.is_failed.ensures ∙ c.if-is_failed.true in
+    rw (← c.self.view_is) (refused_again _ c.args.piece.now failed)
+
+pub returns-then-is_empty : goal.returns-then-is_empty
+returns-then-is_empty g c =
     let none : length c.args.piece.now ≡ 0 = search rules in
-    let old = received_by c.self.inside.ram (place_in c.self.inside.aside c.self.inside.stage) (map g.D.Disk.state c.self.inside.disks.items) c.self.inside.stage c.self.inside.taken c.self.inside.held.items in
-    let seen : HasBeenFed old b = subst (λ (r : Received). HasBeenFed r b) (sym c.self.view_is) h in
-    subst (λ (r : Received). NoFault r.ram r.sizes (b ++ c.args.piece.now)) c.self.view_is (quiet_still c.self.inside.ram (place_in c.self.inside.aside c.self.inside.stage) (map g.D.Disk.state c.self.inside.disks.items) c.self.inside.stage c.self.inside.taken c.self.inside.held.items c.args.piece.now b none seen)
+    let on : has_failed c.self.inside.stage ≡ false = sym c.is_failed.ensures ∙ c.if-is_failed.false in
+    rw (← c.self.view_is) (nothing_fed c.self.inside.ram (place_in c.self.inside.aside c.self.inside.stage) (map g.D.Disk.state c.self.inside.disks.items) c.self.inside.stage c.self.inside.taken c.self.inside.held.items c.args.piece.now _ none on)
 
 pub invariant_of-self-in-Ok : goal.invariant_of-self-in-Ok
 invariant_of-self-in-Ok g c =
@@ -93,15 +98,27 @@ invariant_of-self-in-Ok g c =
     (λ past next. same_devices c.self.inside.ram old (map state c.take_piece.new.disks) c.self.inside.taken c.take_piece.new.taken some.0 c.self.inside.held.items c.args.piece.now c.take_piece.new.held.items c.self.inside.stage c.in-Ok.stage past next some.1 first.1) as_many in
     rw back (is_receiver c.self.inside.ram c.take_piece.new.aside c.reserve.new.room (map state c.take_piece.new.disks) c.take_piece.new.taken c.take_piece.new.held.items (vec_capacity c.take_piece.new.held) c.lacking_of-self-inside.result c.in-Ok.stage first.1.front c.in-Ok.ensures.ready roomed first.1.known c.in-Ok.ensures.few roomy (rw c.deref.ensures.value at c.lacking_of-self-inside.ensures.lacks))
 
-pub returns-then-is_err-clause-memory : goal.returns-then-is_err-clause-memory
-returns-then-is_err-clause-memory g c = λ e.
+pub returns-then-is_err : goal.returns-then-is_err
+returns-then-is_err g c =
     let old = map g.D.Disk.state c.self.inside.disks.items in
     let kept : IsReceiver c.self.inside.ram c.self.inside.aside c.self.inside.room old c.self.inside.taken c.self.inside.held.items (vec_capacity c.self.inside.held) c.self.inside.lacking c.self.inside.stage = c.self.invariant in
-    subst (λ (r : Received). WantsAt r c.args.piece.now) c.self.view_is
-    (λ b fed opening rest begins from at.
-    let roomy = kept.roomy (past_head c.self.inside.ram old c.self.inside.taken b c.self.inside.held.items c.self.inside.stage opening rest fed.taken begins) in
-    let full = on_err c.reserve_exact.result _ c.reserve_exact.ensures.full c.if-is_err.ensures.value in
-    absurd (omega (arith, roomy, full, kept.few, c.len-room.ensures)))
+    let on : has_failed c.self.inside.stage ≡ false = sym c.is_failed.ensures ∙ c.if-is_failed.false in
+    record {
+      ram = ap (λ (v : Received). v.ram) c.self.view_is;
+      sizes = ap (λ (v : Received). v.sizes) c.self.view_is;
+      marks = ap (λ (v : Received). v.marks) c.self.view_is;
+      fed = tt;
+      quiet = tt;
+      told = λ b h. tt;
+      failed = c.fail.ensures.failed;
+      place = c.fail.ensures.place ∙ ap (λ (v : Received). v.place) c.self.view_is;
+      already = λ f. absurd (true_false _ f (sym (ap (λ (v : Received). v.failed) c.self.view_is) ∙ on));
+      memory = λ e. subst (λ (r : Received). WantsDevice r c.args.piece.now) c.self.view_is
+          (λ b fed opening rest begins from at.
+          let roomy = kept.roomy (past_head c.self.inside.ram old c.self.inside.taken b c.self.inside.held.items c.self.inside.stage opening rest fed.taken begins) in
+          let full = on_err c.reserve_exact.result _ c.reserve_exact.ensures.full c.if-is_err.ensures.value in
+          absurd (omega (arith, roomy, full, kept.few, c.len-room.ensures)));
+    }
 
 pub returns-in_default : goal.returns-in_default
 returns-in_default g c =
@@ -128,6 +145,6 @@ returns-in_default g c =
       failed = ap has_failed c.replace-stage.ensures.after;
       place = ap (place_in c.fail-in_default.new.aside) c.replace-stage.ensures.after ∙ sym (failed_place c.fail-in_default.new.aside c.fail-in_default.new.stage c.fail-in_default.ensures.failed) ∙ c.fail-in_default.ensures.place ∙ c.in-Ok.ensures.place ∙ ap (place_in c.self.inside.aside) c.replace-stage.ensures.value ∙ ap (λ (v : Received). v.place) c.self.view_is;
       already = λ f. absurd (true_false _ f (sym (ap (λ (v : Received). v.failed) c.self.view_is) ∙ on));
-      memory = λ e. subst (λ (r : Received). WantsAt r c.args.piece.now) c.self.view_is
+      memory = λ e. subst (λ (r : Received). WantsDevice r c.args.piece.now) c.self.view_is
           (λ b fed opening rest begins from at. absurd (c.is_head-is_first.ensures.head c.in_default.ensures.only (past_head c.self.inside.ram old c.self.inside.taken b c.self.inside.held.items c.self.inside.stage opening rest fed.taken begins)));
     }
