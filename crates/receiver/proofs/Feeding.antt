@@ -16,7 +16,7 @@ use Rattle.receiver.specs.Calls.{Feeds}
 use Rattle.receiver.specs.Disks.{MarksRefused, all_marks_in, disk_marks_of, sizes_in, sizes_of}
 use Rattle.receiver.specs.Faults.{Fault}
 use Rattle.receiver.specs.Receiving.{HasBeenFed, IsPastHead, IsReady, IsKnown, IsReceiver, IsTaken, NoFault, Received, TellsFault, TellsNow, Took, devices_at, has_failed, place_aside, place_in, received_by}
-use Rattle.receiver.specs.Waiting.{LacksBytes, ReadsRecords}
+use Rattle.receiver.specs.Waiting.{LacksBytes}
 use Rattle.receiver.specs.declared.stage.Stage.{Stage}
 use Rattle.receiver.specs.declared.stage.Stage.TheVariants as stages
 use Rattle.receiver.specs.declared.ram_terms.RamTerms.{RamTerms}
@@ -156,11 +156,6 @@ refused_again r piece failed = record {
   memory = λ e. absurd cc;
 }
 
-pub reads_on : (stage : Stage) → ReadsRecords stage → has_failed stage ≡ false
-reads_on stages.Head reads = absurd reads
-reads_on (stages.Records i) reads = refl
-reads_on (stages.Ended i) reads = absurd reads
-reads_on stages.Failed reads = absurd reads
 
 -- The disks that were lent, as they come back.
 pub same_count : {D : Type 0} (state : D → DiskState) (old new : List D) → sizes_of state new ≡ sizes_of state old → length new ≡ length old
