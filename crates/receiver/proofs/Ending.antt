@@ -1,6 +1,6 @@
 -- Whether all of a stream was fed.
 use Rattle.receiver.specs.declared.ram_terms.RamTerms.{RamTerms}
-use Rattle.std.proofs.Common.{◌≡◌, ℕ, true, false, List, [], ◌∷◌, ◌++◌, refl, ap, sym, ◌∙◌, append_assoc, append-nil}
+use Rattle.std.proofs.Common.{◌≡◌, ℕ, Bool, true, false, List, [], ◌∷◌, ◌++◌, refl, ap, sym, subst, ◌∙◌, append_assoc, append-nil}
 use Rattle.std.proofs.lemmas.List.{append_cancel_left}
 use Rattle.sha2.specs.Sha256.{sha256}
 use Rattle.sha2.specs.declared.Sha256.{Sha256}
@@ -12,7 +12,8 @@ use Rattle.wire.specs.Stream.{texts}
 use Rattle.receiver.specs.Disks.{sizes_in}
 use Rattle.receiver.specs.Opened.{header, said_by}
 use Rattle.receiver.specs.Faults.{WaitsHead}
-use Rattle.receiver.specs.Receiving.{IsReading, IsTaken, IsWholeFor, NoNext, has_ended, has_failed}
+use Rattle.receiver.specs.Fed.{IsKnownIn, IsReading}
+use Rattle.receiver.specs.Receiving.{IsTaken, IsWholeFor, NoNext, has_ended, has_failed}
 use Rattle.receiver.specs.declared.intake.Intake.{Intake}
 use Rattle.receiver.specs.declared.stage.Stage.{Stage}
 use Rattle.receiver.specs.declared.stage.Stage.TheVariants as stages
@@ -48,18 +49,17 @@ pub not_whole_taken : (ram : RamTerms) (ds : List DiskState) (digest : Sha256) (
 not_whole_taken ram ds digest bytes held stages.Head are not_yet t h =
     let same : bytes ≡ held = t.whole ∙ ap (λ (x : List ℕ). x ++ held) t.known.0 in
     not_whole_head ram (sizes_in ds) held t.known.2 (rw same at h)
-not_whole_taken ram ds digest bytes held (stages.Records i) are not_yet t h = not_whole_reading ram ds t.front held bytes i are t.whole t.known.1 h
-not_whole_taken ram ds digest bytes held (stages.Ended i) are not_yet t h = absurd cc
+not_whole_taken ram ds digest bytes held (stages.Records i) are not_yet t h =
+    let known : IsKnownIn false ram ds digest t.front held i = subst (λ (b : Bool). IsKnownIn b ram ds digest t.front held i) not_yet t.known in
+    not_whole_reading ram ds t.front held bytes i are t.whole known.1 h
 not_whole_taken ram ds digest bytes held stages.Failed are not_yet t h = t.known
 
 pub whole_taken : (ram : RamTerms) (ds : List DiskState) (digest : Sha256) (bytes held : List ℕ) (stage : Stage) → has_ended stage ≡ true → IsTaken ram ds digest bytes held stage → IsWholeFor ram (sizes_in ds) bytes
 whole_taken ram ds digest bytes held stages.Head done t = absurd cc
-whole_taken ram ds digest bytes held (stages.Records i) done t = absurd cc
-whole_taken ram ds digest bytes held (stages.Ended i) done t = whole_come ram ds bytes i (come_of ram ds digest bytes held i t)
+whole_taken ram ds digest bytes held (stages.Records i) done t = whole_come ram ds bytes i (come_of ram ds digest bytes held i done t)
 whole_taken ram ds digest bytes held stages.Failed done t = absurd cc
 
 pub not_ended : (stage : Stage) → has_failed stage ≡ true → has_ended stage ≡ false
 not_ended stages.Head e = refl
-not_ended (stages.Records i) e = refl
-not_ended (stages.Ended i) e = absurd cc
+not_ended (stages.Records i) e = absurd cc
 not_ended stages.Failed e = refl
