@@ -20,7 +20,7 @@ length-firsts : (first : ℕ) (sizes : List ℕ) → length (firsts_from first s
 length-firsts first [] = refl
 length-firsts first (size ∷ sizes) = ap suc (length-firsts (first + size) sizes)
 
-dev_below : (shapes : List Shape) (dev n : ℕ) → n < get_or (map sector_count shapes) dev 0 → dev < length shapes
+pub dev_below : (shapes : List Shape) (dev n : ℕ) → n < get_or (map sector_count shapes) dev 0 → dev < length shapes
 dev_below [] dev n there = absurd (omega (arith, there))
 dev_below (shape ∷ shapes) zero n there = omega arith
 dev_below (shape ∷ shapes) (suc dev) n there = let h = dev_below shapes dev n there in omega (arith, h)
@@ -65,3 +65,6 @@ spot_of dev n spot h at = record {
 -- A sector that the intake has not is none by the header.
 pub no_spot : {ds : List DiskState} {opening : Opened} {before : List Record} {i : Intake} {front : List ℕ} (dev n : ℕ) → HasRead ds opening before i front → ¬ (n < get_or (map sector_count i.shapes.items) dev 0) → ¬ (IsItemIn (layout_in opening) (items.sector dev n))
 no_spot dev n h never has = never (rw (← h.shapes_are) at has)
+
+pub has_sector : (shapes : List Shape) (dev n : ℕ) (shape : Shape) → dev < length shapes → shape ≡ get_or shapes dev shape → n < sector_count shape → n < get_or (map sector_count shapes) dev 0
+has_sector shapes dev n shape below is there = omega (arith, there, ap sector_count is, get_or-map sector_count shapes dev shape 0 below)

@@ -1,6 +1,6 @@
 -- Which head may come next, and the record with it.
 use Rattle.std.proofs.Common.{◌≡◌, ℕ, zero, suc, ◌+◌, ◌*◌, ◌<◌, ◌≤◌, ◌⊎◌, ◌↔◌, inl, inr, Bool, true, false, List, [], ◌∷◌, ◌++◌, length, take, drop, map, get_or, refl, sym, ap, subst, ◌∙◌, append_assoc, append-nil, arith, ◌^◌}
-use Rattle.std.specs.Prelude.{IfOk, Result, Ok, Err, ◌≢◌, set}
+use Rattle.std.specs.Prelude.{IfErr, IfOk, OnOk, Result, Ok, Err, ◌≢◌, set}
 use Rattle.std.specs.Vec.{vec_capacity}
 use Rattle.std.proofs.lemmas.Bool.{cases_lt}
 use Rattle.std.proofs.lemmas.List.{take-append-drop, take_at, length-append, length-take}
@@ -20,13 +20,13 @@ use Rattle.blk.specs.Disk.{DiskState}
 use Rattle.receiver.specs.Disks.{AreKept, AreRefused}
 use Rattle.receiver.specs.Good.{devices_in}
 use Rattle.receiver.specs.Faults.{IsBadBody, IsBadDigest, IsBadHead, IsBadPage, IsFault, IsLongZeros, IsPageTag, IsTrailing, Opens}
-use Rattle.receiver.specs.Fed.{HasRead, TookRecord, Waits}
-use Rattle.receiver.specs.Standing.{Closed, Entered, Followed, IsDeviceHead, IsLong, IsNoBody, IsSized, MayHead, OpensHead, record_behind, refusal_of}
+use Rattle.receiver.specs.Fed.{Ends, HasRead, TookRecord, Waits}
+use Rattle.receiver.specs.Standing.{Closed, Entered, Followed, IsDeviceHead, IsLong, IsNoBody, IsShort, IsSized, MayHead, OpensHead, record_behind, refusal_of}
 use Rattle.receiver.specs.declared.intake.Intake.{Intake}
 use Rattle.receiver.specs.declared.recv_error.RecvError.{RecvError}
 use Rattle.receiver.specs.declared.recv_error.RecvError.TheVariants as errors
 use Rattle.machine.specs.Shapes.{sector_count}
-use Rattle.receiver.proofs.Lists.{empty}
+use Rattle.receiver.proofs.Lists.{empty, not_both_ways}
 use Rattle.receiver.proofs.Quiet.{quiet}
 use Rattle.receiver.proofs.Working.{fault_refused, kept, refused_kept}
 use Rattle.machine.proofs.Numbering.{either_way, size_grows}
@@ -149,9 +149,6 @@ head_refused opening before tail rest heads.Commit o never = absurd (never tt)
 head_refused opening before tail rest (heads.ZeroPage n) o never =
     (5, inl (record { tag = 6; number = n; more = rest; names = inr refl; opens = opens_at 6 (digits 4 n ++ rest) o.opens o.whole; fits = o.fits; never = at_least n opening.pages (cases_lt n opening.pages) never; there = refl }))
 
-pub refused_as : (opening : Opened) (before : List Record) (tail rest : List ℕ) (head : RecordHead) (e : RecvError) → OpensHead opening before tail head rest → (e ≡ refusal_of head) × ¬ (MayHead opening before head) → (place : ℕ) × IsFault opening before tail e place
-refused_as opening before tail rest head e o h = rw h.0 (head_refused opening before tail rest head o h.1)
-
 pub mark_refused : (opening : Opened) (before : List Record) (tail : List ℕ) (tag : ℕ) (more : List ℕ) → Opens opening before tail tag more → BeginsNoMark tail → (place : ℕ) × IsFault opening before tail errors.BadSector place
 mark_refused opening before tail tag more o b =
     (7, record { disk = b.device; number = b.number; mark = b.mark; more = b.more; opens = opens_at 2 (b.device ∷ (digits 4 b.number ++ (b.mark ∷ b.more))) o b.whole; fits = b.fits; never = λ x. omega (arith, x.1, b.never); there = refl })
@@ -171,8 +168,14 @@ pub opens_head : (opening : Opened) (before : List Record) (tail : List ℕ) (ta
 opens_head opening before tail tag more rest head o fits e = record { tag = tag; more = more; opens = o; fits = fits; whole = e }
 
 -- The body, and what is behind it.
-pub cut_body : (rest body : List ℕ) (n : ℕ) → body ≡ take n rest → rest ≡ body ++ drop n rest
-cut_body rest body n e = sym (take-append-drop n rest) ∙ ap (λ (x : List ℕ). x ++ drop n rest) (sym e)
+pub cut_behind : {opening : Opened} {before : List Record} {tail behind : List ℕ} {head : RecordHead} (n : ℕ) → OpensHead opening before tail head behind → OpensHead opening before tail head (take n behind ++ drop n behind)
+cut_behind {behind = behind} {head = head} n o = record {
+  tag = o.tag;
+  more = o.more;
+  opens = o.opens;
+  fits = o.fits;
+  whole = o.whole ∙ ap (λ (x : List ℕ). spelled_head head ++ x) (sym (take-append-drop n behind));
+}
 
 -- Records that were taken.
 
@@ -239,8 +242,7 @@ pub device_refused : (ds : List DiskState) (opening : Opened) (before : List Rec
 device_refused ds opening before tail behind d len o may long never =
     let body = take len behind in
     let many : length body ≡ len = omega (arith, long, length-take len behind) in
-    let parts : OpensHead opening before tail (heads.Device d len) (body ++ drop len behind) = record { tag = o.tag; more = o.more; opens = o.opens; fits = o.fits; whole = o.whole ∙ ap (λ (x : List ℕ). spelled_head (heads.Device d len) ++ x) (sym (take-append-drop len behind)) } in
-    (refused_kept ds errors.BadDevice (λ e. cc), bad_body opening before tail body (drop len behind) d len parts may many never)
+    (refused_kept ds errors.BadDevice (λ e. cc), bad_body opening before tail body (drop len behind) d len (cut_behind len o) may many never)
 
 -- A page of zeros that is encoded as another page.
 pub zeros_refused : (ds : List DiskState) (opening : Opened) (before : List Record) (tail body more : List ℕ) (n : ℕ) → OpensHead opening before tail (heads.Page n) (body ++ more) → MayHead opening before (heads.Page n) → length body ≡ 4096
@@ -301,3 +303,69 @@ device_tag tail more tag (heads.RoundEnd n) is e b = absurd is
 device_tag tail more tag (heads.Device d len) is e b = head_same (sym e ∙ b.whole)
 device_tag tail more tag heads.Commit is e b = absurd is
 device_tag tail more tag (heads.ZeroPage n) is e b = absurd is
+
+-- The digest that comes.
+pub digest_refused : (opening : Opened) (before : List Record) (tail behind : List ℕ) → OpensHead opening before tail heads.Commit behind → length (take 32 behind) ≡ 32 → take 32 behind ≢ sha256 (header opening ++ texts before)
+    → (place : ℕ) × IsFault opening before tail errors.BadDigest place
+digest_refused opening before tail behind o many never =
+    let parts = cut_behind 32 o in
+    (33, record { digest = take 32 behind; more = drop 32 behind; opens = opens_at 5 (take 32 behind ++ drop 32 behind) parts.opens parts.whole; long = many; never = never; there = refl })
+
+pub digest_there : (opening : Opened) (before : List Record) (tail behind : List ℕ) → OpensHead opening before tail heads.Commit behind → take 32 behind ≡ sha256 (header opening ++ texts before) → Ends opening before tail
+digest_there opening before tail behind o same =
+    let parts = cut_behind 32 o in
+    record { more = drop 32 behind; opens = opens_at 5 (sha256 (header opening ++ texts before) ++ drop 32 behind) parts.opens (parts.whole ∙ ap (λ (x : List ℕ). 5 ∷ (x ++ drop 32 behind)) same) }
+
+-- Whether it has ended is nothing of what was read.
+pub ended_on : (ds : List DiskState) (opening : Opened) (before : List Record) (i : Intake) (ended : Bool) (front : List ℕ) → HasRead ds opening before i front → HasRead ds opening before (record i { ended = ended }) front
+ended_on ds opening before i ended front h = record {
+  head = h.head;
+  fits = h.fits;
+  suits = h.suits;
+  good = h.good;
+  whole = h.whole;
+  version_is = h.version_is;
+  ram_is = h.ram_is;
+  shapes_are = h.shapes_are;
+  firsts_are = h.firsts_are;
+  sectors = h.sectors;
+  written = h.written;
+  entries = h.entries;
+  split = h.split;
+  each = h.each;
+  numbered = h.numbered;
+  rounds_are = h.rounds_are;
+  taken = h.taken;
+  devices_are = h.devices_are;
+  sound = h.sound;
+  has = h.has;
+}
+
+-- A record without a body never waits.
+pub all_long : (head : RecordHead) (behind : List ℕ) (r : Result Bool RecvError) → body_len head ≡ 0 → IsLong head behind r
+all_long head behind (Ok took) none = λ e. omega (arith, none)
+all_long head behind (Err e) none = tt
+
+pub all_short : (head : RecordHead) (behind : List ℕ) (r : Result Bool RecvError) → OnOk r (r ≡ Ok true) → IsShort head behind r
+all_short head behind (Ok true) all = λ e. absurd cc
+all_short head behind (Ok false) all = absurd cc
+all_short head behind (Err e) all = tt
+
+pub never_memory : (r : Result Bool RecvError) → IfErr r (λ e. e ≢ errors.NoMemory) → r ≡ Err errors.NoMemory → ⊥
+never_memory (Ok took) h e = cc
+never_memory (Err x) h e = h (let same : x ≡ errors.NoMemory = cc in same)
+
+-- What came of the digest, as its reader tells it: `ended` and `was`, after and before, and whether the digest of what came before is as it was.
+pub digest_done : {ended was : Bool} {A : Type 0} (r : Result Bool RecvError) → IfOk r (λ took. (took ≡ true → ended ≡ true) × (took ≡ false → (ended ≡ was) × A)) → IfOk r (λ took. took ≡ true → ended ≡ true)
+digest_done (Ok took) h = h.0
+digest_done (Err e) h = tt
+
+pub digest_untouched : (r : Result Bool RecvError) (ended was : Bool) (A : Type 0) → IfOk r (λ took. (took ≡ true → ended ≡ true) × (took ≡ false → (ended ≡ was) × A)) → ended ≡ false → OnOk r A
+digest_untouched (Ok true) ended was A h on = absurd (not_both_ways ended (h.0 refl) on)
+digest_untouched (Ok false) ended was A h on = (h.1 refl).1
+digest_untouched (Err e) ended was A h on = tt
+
+pub digest_goes_on : (r : Result Bool RecvError) (ended was : Bool) (A : Type 0) → IfOk r (λ took. (took ≡ true → ended ≡ true) × (took ≡ false → (ended ≡ was) × A)) → was ≡ false → r ≡ Ok false → ended ≡ false
+digest_goes_on (Ok true) ended was A h on e = absurd cc
+digest_goes_on (Ok false) ended was A h on e = (h.1 refl).0 ∙ on
+digest_goes_on (Err x) ended was A h on e = absurd cc

@@ -1,7 +1,7 @@
 use Rattle.std.proofs.lemmas.List.{take_all}
 use Rattle.std.proofs.lemmas.List.Elements.{All-map, All-more}
 use Rattle.blk.specs.Disk.{AreSectors, DiskState}
-use Rattle.receiver.proofs.stepping.recall_disks.Goals as goal
+use Rattle.receiver.proofs.opening.recall_disks.Goals as goal
 
 pub loop-disk-preserved : goal.loop-disk-preserved
 loop-disk-preserved g c =
