@@ -17,7 +17,7 @@ use Rattle.receiver.specs.Good.{AreGood}
 use Rattle.machine.specs.Shapes.{disk_sizes}
 use Rattle.receiver.specs.Disks.{AreKept, AreRefused, sizes_in}
 use Rattle.receiver.specs.Faults.{IsComplete, IsTrailing, IsHeaderFault, Fault, TellsHead}
-use Rattle.receiver.specs.Fed.{AreWritten, HasCome, HasRead, Tells, device_records}
+use Rattle.receiver.specs.Fed.{AreWritten, HasCome, HasRead, IsUpTo, Tells, device_records}
 use Rattle.receiver.specs.Receiving.{IsKnown}
 use Rattle.receiver.specs.declared.stage.Stage.{Stage}
 use Rattle.receiver.specs.declared.intake.Intake.{Intake}
@@ -25,11 +25,11 @@ use Rattle.receiver.specs.declared.ram_terms.RamTerms.{RamTerms}
 use Rattle.receiver.specs.declared.recv_error.RecvError.{RecvError}
 use Rattle.receiver.specs.declared.recv_error.RecvError.TheVariants as errors
 use Rattle.receiver.proofs.Aligned.{not_early}
-use Rattle.receiver.proofs.Working.{refused_kept, fault_here, commit_text}
+use Rattle.receiver.proofs.Working.{SoFar, commit_text, cut, fault_here, refused_kept, then_refused}
 
 -- A header was read.
 
-new_marks_fit : (sizes : List ℕ) → map length (map (λ n. replicate n false) sizes) ≡ sizes
+pub new_marks_fit : (sizes : List ℕ) → map length (map (λ n. replicate n false) sizes) ≡ sizes
 new_marks_fit [] = refl
 new_marks_fit (n ∷ sizes) = rw (length-replicate n false, new_marks_fit sizes) refl
 
@@ -133,3 +133,15 @@ trailing_piece ram ds old piece i h some =
     let whole : old ++ piece ≡ w.front ++ ((5 ∷ sha256 w.front) ++ piece) = ap (λ (x : List ℕ). x ++ piece) text ∙ append_assoc w.front (5 ∷ sha256 w.front) piece in
     let fault = fault_here (old ++ piece) ((5 ∷ sha256 w.front) ++ piece) errors.Trailing w.read whole (34, trailing_of h.opening w.before (sha256 w.front) w.front piece w.complete w.read.whole some refl) in
     (refused_kept ds errors.Trailing (λ same. cc), subst (λ (r : RamTerms). (k : ℕ) × Fault r (sizes_in ds) (old ++ piece) errors.Trailing k) h.based fault)
+
+-- A byte after the digest.
+pub trailing_in : (ram : RamTerms) (old ds : List DiskState) (i : Intake) (digest : Sha256) (front bytes : List ℕ) (at : ℕ) → i.ended ≡ true → at < length bytes → SoFar ram old ds i digest (front ++ take at bytes)
+    → AreRefused old ds errors.Trailing × ((k : ℕ) × Fault ram (sizes_in old) (front ++ bytes) errors.Trailing k)
+trailing_in ram old ds i digest front bytes at done more s =
+    let come : HasCome ram ds (front ++ take at bytes) i = subst (λ (b : Bool). IsUpTo b ram ds digest (front ++ take at bytes) i) done s.known in
+    let t = trailing_piece ram ds (front ++ take at bytes) (drop at bytes) i come (omega (arith, more, length-drop at bytes)) in
+    let parts : (front ++ take at bytes) ++ drop at bytes ≡ front ++ bytes = sym (cut front bytes at) in
+    (
+      then_refused old ds ds errors.Trailing s.same t.0,
+      subst (λ (sizes : List ℕ). (k : ℕ) × Fault ram sizes (front ++ bytes) errors.Trailing k) s.same.sizes (subst (λ (x : List ℕ). (k : ℕ) × Fault ram (sizes_in ds) x errors.Trailing k) parts t.1),
+    )

@@ -369,3 +369,11 @@ pub digest_goes_on : (r : Result Bool RecvError) (ended was : Bool) (A : Type 0)
 digest_goes_on (Ok true) ended was A h on e = absurd cc
 digest_goes_on (Ok false) ended was A h on e = (h.1 refl).0 ∙ on
 digest_goes_on (Err x) ended was A h on e = absurd cc
+
+pub some_spelled : (head : RecordHead) → 0 < length (spelled_head head)
+some_spelled (heads.Page n) = omega arith
+some_spelled (heads.Sector d n good) = omega arith
+some_spelled (heads.RoundEnd n) = omega arith
+some_spelled (heads.Device d len) = omega arith
+some_spelled heads.Commit = omega arith
+some_spelled (heads.ZeroPage n) = omega arith

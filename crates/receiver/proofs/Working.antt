@@ -130,10 +130,12 @@ fault_here {opening = opening} {before = before} bytes tail e h is f =
 pub cut : (front bytes : List ℕ) (at : ℕ) → front ++ bytes ≡ (front ++ take at bytes) ++ drop at bytes
 cut front bytes at = ap (λ (x : List ℕ). front ++ x) (sym (take-append-drop at bytes)) ∙ sym (append_assoc front (take at bytes) (drop at bytes))
 
-pub refused : (old ds new : List DiskState) (opening : Opened) (before : List Record) (i : Intake) (front bytes : List ℕ) (at : ℕ) (e : RecvError) → AreKept old ds → HasRead ds opening before i (front ++ take at bytes)
-    → AreRefused ds new e × Tells e ((place : ℕ) × IsFault opening before (drop at bytes) e place) → AreRefused old new e × Tells e ((k : ℕ) × Fault opening.ram (sizes_in old) (front ++ bytes) e k)
-refused old ds new opening before i front bytes at e same h t =
-    (then_refused old ds new e same t.0, tells_more _ _ e (λ f. subst (λ sizes. (k : ℕ) × Fault opening.ram sizes (front ++ bytes) e k) same.sizes (fault_here (front ++ bytes) (drop at bytes) e h (cut front bytes at) f)) t.1)
+pub refused : (ram : RamTerms) (old ds new : List DiskState) (opening : Opened) (before : List Record) (i : Intake) (front bytes : List ℕ) (at : ℕ) (e : RecvError) → opening.ram ≡ ram → AreKept old ds → HasRead ds opening before i (front ++ take at bytes)
+    → AreRefused ds new e × Tells e ((place : ℕ) × IsFault opening before (drop at bytes) e place) → AreRefused old new e × Tells e ((k : ℕ) × Fault ram (sizes_in old) (front ++ bytes) e k)
+refused ram old ds new opening before i front bytes at e based same h t =
+    let here = λ f. fault_here (front ++ bytes) (drop at bytes) e h (cut front bytes at) f in
+    let at_ram = λ f. subst (λ (r : RamTerms). (k : ℕ) × Fault r (sizes_in ds) (front ++ bytes) e k) based (here f) in
+    (then_refused old ds new e same t.0, tells_more _ _ e (λ f. subst (λ sizes. (k : ℕ) × Fault ram sizes (front ++ bytes) e k) same.sizes (at_ram f)) t.1)
 
 -- The record at the front waits.
 pub waiting : (ram : RamTerms) (old ds new : List DiskState) (opening : Opened) (before : List Record) (i : Intake) (digest : Sha256) (front tail : List ℕ) → opening.ram ≡ ram → i.ended ≡ false → AreKept old ds → Holds256 digest front

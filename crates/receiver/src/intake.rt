@@ -430,9 +430,10 @@ fn take_part<D: Disk>(
         FoundHead::NoSuchTag => return Err(RecvError::BadTag),
         FoundHead::NoSuchMark => return Err(RecvError::BadSector),
     };
-    let (_, behind) = bytes.split_at(head.head_len());
+    let len = head.head_len();
+    let (_, behind) = bytes.split_at(len);
     match take_record(intake, disks, taken, head, behind) {
-        Ok(true) => Ok(Some(head.head_len() + head.body_len())),
+        Ok(true) => Ok(Some(len + head.body_len())),
         Ok(false) => Ok(None),
         Err(error) => Err(error),
     }
