@@ -77,6 +77,11 @@ rounds_in stages.Head = 0
 rounds_in (stages.Records i) = i.rounds
 rounds_in stages.Failed = 0
 
+abbrev pub is_head : Stage → Bool
+is_head stages.Head = true
+is_head (stages.Records i) = false
+is_head stages.Failed = false
+
 abbrev pub has_failed : Stage → Bool
 has_failed stages.Head = false
 has_failed (stages.Records i) = false

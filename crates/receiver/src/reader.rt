@@ -8,6 +8,7 @@
 
 ghost use Rattle.std.specs.Prelude.{◌≡◌, ◌≤◌, drop, length};
 ghost use Rattle.std.specs.Vec.{vec_capacity};
+ghost use Rattle.receiver.specs.Receiving.{place_aside};
 
 use crate::heading::read_heading;
 use crate::intake::{Intake, work_off};
@@ -141,20 +142,9 @@ impl<D: Disk + Drop> Reader<D> {
     pub fn fail(&mut self)
         ensures { Gives self.old self.new }
     {
-        if let Stage::Records(intake) = mem::replace(&mut self.stage, Stage::Failed) {
-            let Intake {
-                alloc: _,
-                terms: _,
-                shapes: _,
-                ram,
-                named: _,
-                firsts: _,
-                bad: _,
-                rounds: _,
-                devices: _,
-                ended: _,
-            } = intake;
-            self.aside = Some(ram);
+        match mem::replace(&mut self.stage, Stage::Failed) {
+            Stage::Records(intake) => give_up(intake, &mut self.aside),
+            Stage::Head | Stage::Failed => {}
         }
     }
 
@@ -163,9 +153,9 @@ impl<D: Disk + Drop> Reader<D> {
     fn open(&mut self, bytes: &[u8]) -> Result<usize, RecvError>
         ensures { Opens self.old bytes.now result self.new }
     {
-        let Stage::Head = self.stage else {
+        if !self.stage.is_head() {
             return Ok(0);
-        };
+        }
         let heading = match read_heading(self.alloc, bytes) {
             Ok(Some(heading)) => heading,
             Ok(None) => return Ok(0),
@@ -271,6 +261,25 @@ impl<D: Disk + Drop> Reader<D> {
         }
         Ok(self.lacking(held))
     }
+}
+
+/// Gives up what was taken in: its RAM stands aside.
+fn give_up(intake: Intake, aside: &mut Option<ArrivingRam>)
+    ensures { place_aside aside.new ≡ intake.ram.place }
+{
+    let Intake {
+        alloc: _,
+        terms: _,
+        shapes: _,
+        ram,
+        named: _,
+        firsts: _,
+        bad: _,
+        rounds: _,
+        devices: _,
+        ended: _,
+    } = intake;
+    *aside = Some(ram);
 }
 
 /// Removes bytes from the front.
