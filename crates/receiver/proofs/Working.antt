@@ -107,7 +107,7 @@ nothing_yet ram ds i digest front bytes k = record { same = kept ds; known = sub
 pub reads_on : (ram : RamTerms) (ds : List DiskState) (i : Intake) (digest : Sha256) (front : List ℕ) → i.ended ≡ false → IsUpTo i.ended ram ds digest front i → Holds256 digest front × IsRead ram ds front i
 reads_on ram ds i digest front on k = subst (λ (b : Bool). IsUpTo b ram ds digest front i) on k
 
-more_taken : (front bytes : List ℕ) (at len : ℕ) → (front ++ take at bytes) ++ take len (drop at bytes) ≡ front ++ take (at + len) bytes
+pub more_taken : (front bytes : List ℕ) (at len : ℕ) → (front ++ take at bytes) ++ take len (drop at bytes) ≡ front ++ take (at + len) bytes
 more_taken front bytes at len = append_assoc front (take at bytes) (take len (drop at bytes)) ∙ ap (λ (x : List ℕ). front ++ x) (sym (take-add at len bytes))
 
 pub front_of : {ds : List DiskState} {opening : Opened} {before : List Record} {i : Intake} {front : List ℕ} (bytes tail : List ℕ) → HasRead ds opening before i front → bytes ≡ front ++ tail → IsFront opening.ram (sizes_in ds) bytes opening before tail

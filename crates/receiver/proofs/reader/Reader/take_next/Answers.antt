@@ -20,7 +20,7 @@ returns-then-is_empty-clause-takes g c =
       memory = λ front k past e. absurd (ok_not_err e);
       took = λ front k.
           let t = l.looked front [] k in
-          rw l.ram (looked c.look.new.self.ram _ _ c.look.new.self.digest front c.args.bytes.now _ c.in-Ok.count c.look.new.self.stage t left);
+          looked c.look.new.self.ram _ _ c.look.new.self.digest front c.args.bytes.now _ c.in-Ok.count c.look.new.self.stage t left;
     })
 
 pub returns-in-Err-clause-takes : goal.returns-in-Err-clause-takes
