@@ -1,6 +1,6 @@
 -- A piece more, and the end.
 use Rattle.std.proofs.Common.{◌≡◌, ℕ, ◌<◌, ◌≤◌, ◌⊎◌, inl, inr, Bool, true, false, suc, Some, List, [], ◌∷◌, ◌++◌, length, map, take, drop, refl, sym, ap, subst, ◌∙◌, append_assoc, append-nil, arith}
-use Rattle.std.specs.Prelude.{Ok, Err, Option}
+use Rattle.std.specs.Prelude.{Ok, Err, Option, Result}
 use denote.RawPtr.{Ptr}
 use Rattle.std.proofs.lemmas.Bool.{cases_lt}
 use Rattle.std.proofs.lemmas.List.{take_at}
@@ -15,17 +15,18 @@ use Rattle.machine.specs.Room.{RoomSeen}
 use Rattle.receiver.specs.Calls.{Feeds}
 use Rattle.receiver.specs.Disks.{AreKept, AreRefused, MarksRefused, all_marks_in, disk_marks_of, sizes_in, sizes_of}
 use Rattle.receiver.specs.Faults.{Fault}
-use Rattle.receiver.specs.Receiving.{HasBeenFed, IsPastHead, IsKnown, IsReceiver, IsTaken, Knows, NoFault, ReaderSeen, Received, TellsFault, TellsNow, has_failed, place_aside, place_in, received_by}
+use Rattle.receiver.specs.Reading.{TakesPiece}
+use Rattle.receiver.specs.Receiving.{HasBeenFed, IsPastHead, IsKnown, IsReceiver, IsTaken, Knows, NoFault, ReaderSeen, Received, TellsFault, TellsNow, has_failed, place_in, received_by, received_with}
 use Rattle.receiver.specs.Waiting.{LacksBytes}
 use Rattle.receiver.specs.declared.stage.Stage.{Stage}
 use Rattle.receiver.specs.declared.stage.Stage.TheVariants as stages
 use Rattle.receiver.specs.declared.ram_terms.RamTerms.{RamTerms}
 use Rattle.receiver.specs.declared.recv_error.RecvError.{RecvError}
-use Rattle.receiver.specs.declared.recv_error.RecvError.TheVariants.{AlreadyFailed}
+use Rattle.receiver.specs.declared.recv_error.RecvError.TheVariants.{AlreadyFailed, NoMemory}
 use Rattle.receiver.proofs.Knowing.{no_fault_known}
 use Rattle.receiver.proofs.Lists.{empty}
 use Rattle.receiver.proofs.Prefixes.{holds}
-use Rattle.receiver.proofs.Wanting.{ok_not_err}
+use Rattle.receiver.proofs.Wanting.{err_again, fed_wants, ok_not_err}
 use Rattle.receiver.proofs.Working.{tells_more}
 
 pub true_false : (b : Bool) → b ≡ true → b ≡ false → ⊥
@@ -120,48 +121,6 @@ is_refused_one r held room failed none = record {
   lacks = λ some. absurd (omega (arith, some));
 }
 
--- An empty piece.
-pub nothing_more : (r : Received) (piece b : List ℕ) → length piece ≡ 0 → HasBeenFed r b → HasBeenFed r (b ++ piece)
-nothing_more r piece b none h =
-    let same : b ++ piece ≡ b = ap (λ (x : List ℕ). b ++ x) (empty piece none) ∙ append-nil b in
-    rw same h
-
-pub quiet_still : (ram : RamTerms) (place : Option Ptr) (ds : List DiskState) (stage : Stage) (d : Sha256) (held piece b : List ℕ) → length piece ≡ 0 → HasBeenFed (received_by ram place ds stage d held) b → NoFault ram (sizes_in ds) (b ++ piece)
-quiet_still ram place ds stage d held piece b none h =
-    let same : b ++ piece ≡ b = ap (λ (x : List ℕ). b ++ x) (empty piece none) ∙ append-nil b in
-    rw same (no_fault_known ram ds d b held stage h.taken)
-
-pub nothing_fed : (ram : RamTerms) (place : Option Ptr) (ds : List DiskState) (stage : Stage) (d : Sha256) (held piece : List ℕ) (x : Unit {0}) → length piece ≡ 0 → has_failed stage ≡ false
-    → Feeds (received_by ram place ds stage d held) piece (Ok x) (received_by ram place ds stage d held)
-nothing_fed ram place ds stage d held piece x none on = record {
-  ram = refl;
-  sizes = refl;
-  marks = refl;
-  fed = λ b h. nothing_more (received_by ram place ds stage d held) piece b none h;
-  quiet = λ b h. quiet_still ram place ds stage d held piece b none h;
-  told = tt;
-  failed = tt;
-  place = refl;
-  already = λ f. absurd (true_false (has_failed stage) f on);
-  memory = λ e. absurd (ok_not_err e);
-}
-
--- A piece after a refusal.
-pub refused_again : (r : Received) (piece : List ℕ) → r.failed ≡ true → Feeds r piece (Err AlreadyFailed) r
-refused_again r piece failed = record {
-  ram = refl;
-  sizes = refl;
-  marks = refl;
-  fed = tt;
-  quiet = tt;
-  told = λ b h. absurd (true_false r.failed failed h.goes_on);
-  failed = failed;
-  place = refl;
-  already = λ f. refl;
-  memory = λ e. absurd cc;
-}
-
-
 -- The disks that were lent, as they come back.
 pub same_count : {D : Type 0} (state : D → DiskState) (old new : List D) → sizes_of state new ≡ sizes_of state old → length new ≡ length old
 same_count state [] [] e = refl
@@ -179,7 +138,53 @@ marks_mapped state (d ∷ disks) = ap (λ ms. marks_in (state d) ∷ ms) (marks_
 pub same_room : {o : Option RoomSeen} {a b : RoomSeen} → o ≡ Some a → o ≡ Some b → a ≡ b
 same_room {o} {a} {b} e f = let same : Some a ≡ Some b = sym e ∙ f in cc
 
-pub failed_place : (aside : Option Memory) (stage : Stage) → has_failed stage ≡ true → place_in aside stage ≡ place_aside aside
-failed_place aside stages.Head f = absurd cc
-failed_place aside (stages.Records i) f = absurd cc
-failed_place aside stages.Failed f = refl
+-- A piece that was taken came before any refusal.
+pub not_failed_before : (old new : ReaderSeen) (before : List ℕ) (had : ℕ) (piece held : List ℕ) (has : ℕ) {x : ℕ} → TakesPiece old before had piece (Ok x) new held has → has_failed old.stage ≡ false
+not_failed_before old new before had piece held has p = by_flag (has_failed old.stage) refl
+  where
+    by_flag : (b : Bool) → has_failed old.stage ≡ b → b ≡ false
+    by_flag true e = absurd (ok_not_err (p.already e).0)
+    by_flag false e = refl
+
+-- A piece that was refused: now, or after a refusal before.
+refused_now : (old new : ReaderSeen) (before held none piece : List ℕ) (had has lacking : ℕ) (e : RecvError) → IsReceiver old before had lacking → TakesPiece old before had piece (Err e) new held has → has_failed old.stage ≡ false
+    → Feeds (received_with old before) piece (Err e) (received_with new none)
+refused_now old new before held none piece had has lacking e kept p on =
+    let some = kept.known on in
+    let told = is_refused old.ram (place_in old.aside old.stage) old.disks new.disks old.stage old.digest before piece e some p.took in
+    record {
+      ram = p.ram;
+      sizes = told.sizes;
+      marks = told.marks;
+      fed = tt;
+      quiet = tt;
+      told = told.told;
+      failed = p.failed;
+      place = p.place;
+      already = λ f. absurd (true_false _ f on);
+      memory = λ is b fed opening rest begins from at. fed_wants old.ram (place_in old.aside old.stage) old.disks old.stage old.digest before piece b opening rest from (λ front known past. p.memory kept.roomy front known past (err_again is)) fed begins at;
+    }
+
+refused_then : (old new : ReaderSeen) (before held none piece : List ℕ) (had has : ℕ) (e : RecvError) → TakesPiece old before had piece (Err e) new held has → has_failed old.stage ≡ true → Feeds (received_with old before) piece (Err e) (received_with new none)
+refused_then old new before held none piece had has e p failed =
+    let is : e ≡ AlreadyFailed = (let same : (◌≡◌ {A = Result ℕ RecvError} (Err e) (Err AlreadyFailed)) = (p.already failed).0 in cc) in
+    let same : new ≡ old = (p.already failed).1 in
+    record {
+      ram = p.ram;
+      sizes = ap (λ (r : ReaderSeen). sizes_in r.disks) same;
+      marks = rw is (ap (λ (r : ReaderSeen). all_marks_in r.disks) same);
+      fed = tt;
+      quiet = tt;
+      told = λ b h. absurd (true_false _ failed h.goes_on);
+      failed = p.failed;
+      place = p.place;
+      already = λ f. rw is refl;
+      memory = λ none_left. absurd (let no : AlreadyFailed ≡ NoMemory = sym is ∙ (let one : e ≡ NoMemory = cc in one) in cc);
+    }
+
+pub fed_as_told : (old new : ReaderSeen) (before held none piece : List ℕ) (had has lacking : ℕ) (e : RecvError) → IsReceiver old before had lacking → TakesPiece old before had piece (Err e) new held has → Feeds (received_with old before) piece (Err e) (received_with new none)
+fed_as_told old new before held none piece had has lacking e kept p = by_flag (has_failed old.stage) refl
+  where
+    by_flag : (b : Bool) → has_failed old.stage ≡ b → Feeds (received_with old before) piece (Err e) (received_with new none)
+    by_flag true failed = refused_then old new before held none piece had has e p failed
+    by_flag false on = refused_now old new before held none piece had has lacking e kept p on

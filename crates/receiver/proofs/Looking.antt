@@ -17,7 +17,7 @@ use Rattle.receiver.specs.declared.recv_error.RecvError.TheVariants as errors
 use Rattle.receiver.specs.declared.stage.Stage.{Stage}
 use Rattle.receiver.specs.declared.stage.Stage.TheVariants as stages
 use Rattle.receiver.proofs.Feeding.{true_false}
-use Rattle.receiver.proofs.Working.{cut, kept, more_taken, tells_more}
+use Rattle.receiver.proofs.Working.{cut, kept, more_taken, refused_kept, tells_more}
 
 pub head_is : (stage : Stage) → is_head stage ≡ true → stage ≡ stages.Head
 head_is stages.Head e = refl
@@ -201,3 +201,6 @@ work_wants old mid front bytes start o past d =
     subst (λ (n : ℕ). HasDevice old.ram (sizes_in old.disks) (front ++ bytes) n) low
     (subst (λ (x : List ℕ). HasDevice old.ram (sizes_in old.disks) x (length (front ++ take start bytes))) text
     (subst (λ (r : ReaderSeen). HasDevice r.ram (sizes_in r.disks) ((front ++ take start bytes) ++ drop start bytes) (length (front ++ take start bytes))) (o.later past).1 d))
+
+pub no_memory_kept : (old new : List DiskState) → new ≡ old → AreRefused old new errors.NoMemory
+no_memory_kept old new same = subst (λ (ds : List DiskState). AreRefused old ds errors.NoMemory) (sym same) (refused_kept old errors.NoMemory (λ e. cc))
