@@ -12,11 +12,11 @@ use Rattle.guestmem.proofs.ByteLaws.{IsBytes-append}
 use Rattle.wire.proofs.Spelling.{tail_same}
 use Rattle.machine.specs.First.{marks_in}
 use Rattle.machine.specs.Room.{RoomSeen}
-use Rattle.receiver.specs.Calls.{Feeds}
+use Rattle.receiver.specs.Calls.{Feeds, IsNew}
 use Rattle.receiver.specs.Disks.{AreKept, AreRefused, MarksRefused, all_marks_in, disk_marks_of, sizes_in, sizes_of}
 use Rattle.receiver.specs.Faults.{Fault}
-use Rattle.receiver.specs.Reading.{TakesPiece}
-use Rattle.receiver.specs.Receiving.{HasBeenFed, IsPastHead, IsKnown, IsReceiver, IsTaken, Knows, NoFault, ReaderSeen, Received, TellsFault, TellsNow, has_failed, place_in, received_by, received_with}
+use Rattle.receiver.specs.Reading.{IsFirst, TakesPiece}
+use Rattle.receiver.specs.Receiving.{HasBeenFed, IsGivenUp, IsPastHead, IsKnown, IsReceiver, IsTaken, Knows, NoFault, ReaderSeen, Received, TellsFault, TellsNow, has_failed, place_aside, place_in, received_by, received_with}
 use Rattle.receiver.specs.Waiting.{LacksBytes}
 use Rattle.receiver.specs.declared.stage.Stage.{Stage}
 use Rattle.receiver.specs.declared.stage.Stage.TheVariants as stages
@@ -188,3 +188,31 @@ fed_as_told old new before held none piece had has lacking e kept p = by_flag (h
     by_flag : (b : Bool) → has_failed old.stage ≡ b → Feeds (received_with old before) piece (Err e) (received_with new none)
     by_flag true failed = refused_then old new before held none piece had has e p failed
     by_flag false on = refused_now old new before held none piece had has lacking e kept p on
+
+-- A receiver that was fed nothing.
+pub first_new : {D : Type 0} {ram : RamTerms} {aside : Option Memory} (state : D → DiskState) (disks : List D) (r : ReaderSeen) (held : List ℕ) → IsFirst ram (map state disks) aside r → held ≡ [] → IsNew state disks ram (place_aside aside) (received_with r held)
+first_new state disks r held f none = record {
+  fed = record { goes_on = ap has_failed f.stage; bytes = λ i. omega arith; taken = record { front = []; whole = sym none; known = subst (λ (x : List ℕ). Knows r [] x) (sym none) f.known } };
+  ram = f.ram;
+  sizes = ap sizes_in f.disks;
+  marks = ap all_marks_in f.disks;
+  disks = f.disks;
+  place = ap (place_in r.aside) f.stage ∙ ap place_aside f.aside;
+}
+
+pub first_receiver : {ram : RamTerms} {ds : List DiskState} {aside : Option Memory} (r : ReaderSeen) (held : List ℕ) (room : ℕ) → IsFirst ram ds aside r → held ≡ [] → IsReceiver r held room 0
+first_receiver r held room f none = record {
+  known = λ on. ([], subst (λ (x : List ℕ). Knows r [] x) (sym none) f.known);
+  few = omega (arith, ap length none);
+  gone = λ failed. none;
+  roomy = λ past. absurd (subst IsPastHead f.stage past);
+  lacks = λ some. absurd (omega (arith, some));
+}
+
+-- What contracts see of a reader with these fields.
+abbrev pub seen_of : RamTerms → List DiskState → Option Memory → Option RoomSeen → Sha256 → Stage → ReaderSeen
+seen_of ram disks aside room digest stage = record { ram = ram; disks = disks; aside = aside; room = room; digest = digest; stage = stage }
+
+-- A receiver that is given back.
+pub given_back_as : (r : ReaderSeen) (held : List ℕ) (new : Received) → new.failed ≡ true → new.ram ≡ r.ram → new.disks ≡ r.disks → new.sizes ≡ sizes_in r.disks → new.marks ≡ all_marks_in r.disks → new.place ≡ place_in r.aside r.stage → IsGivenUp (received_with r held) new
+given_back_as r held new failed ram disks sizes marks place = record { failed = failed; ram = ram; disks = disks; sizes = sizes; marks = marks; place = place }

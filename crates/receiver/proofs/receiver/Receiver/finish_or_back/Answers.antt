@@ -1,4 +1,5 @@
-use Rattle.std.proofs.Common.{arith, true, false, length, refl, ◌≡◌, ◌++◌, ap, map, sym, subst, ◌∙◌}
+use Rattle.std.proofs.Common.{arith, true, false, length, refl, Bool, List, ℕ, ◌≡◌, ◌++◌, ap, map, sym, subst, ◌∙◌, Option}
+use Rattle.blk.specs.Disk.{DiskState}
 use Rattle.guestmem.specs.Memory.{Memory}
 use Rattle.machine.specs.First.{dealt_marks}
 use Rattle.machine.specs.Room.{RoomSeen}
@@ -6,12 +7,14 @@ use Rattle.machine.specs.Seen.{state_of}
 use Rattle.machine.specs.Shapes.{disk_sizes}
 use Rattle.machine.specs.State.{MachineState, base_of}
 use Rattle.wire.specs.Stream.{shapes_in}
-use Rattle.receiver.specs.Disks.{AreHonestDisks, disk_marks_of}
-use Rattle.receiver.specs.Receiving.{HasBeenFed, IsReceiver, IsTaken, IsWholeFor, Received, end_error, has_ended, has_failed, place_in, received_by}
+use Rattle.receiver.specs.Fed.{IsKnownIn}
+use Rattle.receiver.specs.Reading.{IsReader}
+use Rattle.receiver.specs.Receiving.{HasBeenFed, IsKnown, IsReceiver, IsTaken, ReaderSeen, Received, end_error, has_ended, has_failed, place_in, received_with}
 use Rattle.receiver.specs.declared.ram_terms.RamTerms.{RamTerms}
+use Rattle.receiver.specs.declared.stage.Stage.{Stage}
 use Rattle.receiver.specs.declared.stage.Stage.TheVariants as stages
 use Rattle.receiver.proofs.Ending.{not_whole_taken}
-use Rattle.receiver.proofs.Feeding.{marks_mapped, same_room, true_false}
+use Rattle.receiver.proofs.Feeding.{given_back_as, marks_mapped, same_room, seen_of, true_false}
 use Rattle.receiver.proofs.Knowing.{any_arrived, come_of, here_sound, read_based, whole_come, whole_shapes, whole_stream}
 use Rattle.receiver.proofs.Sectors.{marks_count}
 use Rattle.receiver.proofs.Steps.{devices_are}
@@ -20,96 +23,128 @@ use Rattle.receiver.proofs.receiver.Receiver.finish_or_back.Goals as goal
 
 pub restore_in-requires-clause-sound : goal.restore_in-requires-clause-sound
 restore_in-requires-clause-sound g c =
-    let kept : IsReceiver c.self.inside.ram c.self.inside.aside c.self.inside.room (map g.D.Disk.state c.self.inside.disks.items) c.self.inside.taken c.self.inside.held.items _ _ c.self.inside.stage = c.self.invariant in
-    let known = (rw c.in-Ended.is at kept.known) refl in
-    let h = known.1.1 in
+    let r = c.reader.inside in
+    let ds = map g.D.Disk.state r.disks.items in
+    let kept : IsReceiver (seen_of r.ram ds r.aside r.room r.digest r.stage) c.self.inside.held.items _ _ = rw (← c.reader.view_is) at c.self.invariant in
+    let stage = subst (λ (stage : Stage). (has_failed stage ≡ false) → (front : List ℕ) × IsKnown r.ram ds r.digest front c.self.inside.held.items stage) c.in-Records.is kept.known in
+    let some = stage refl in
+    let known : IsKnownIn true r.ram ds r.digest some.0 c.self.inside.held.items c.in-Records.intake = subst (λ (b : Bool). IsKnownIn b r.ram ds r.digest some.0 c.self.inside.held.items c.in-Records.intake) c.if-not-ended.false some.1 in
+    let h = known.1 in
     rw c.into_ram-ram.ensures (here_sound h.ended.read (h.ended.complete.devices refl) c.recall.ensures.bytes (rw c.deref.ensures.value at c.recall_disks.ensures))
 
 pub restore_in-requires-clause-shapes : goal.restore_in-requires-clause-shapes
 restore_in-requires-clause-shapes g c =
-    let kept : IsReceiver c.self.inside.ram c.self.inside.aside c.self.inside.room (map g.D.Disk.state c.self.inside.disks.items) c.self.inside.taken c.self.inside.held.items _ _ c.self.inside.stage = c.self.invariant in
-    let known = (rw c.in-Ended.is at kept.known) refl in
-    let h = known.1.1 in
+    let r = c.reader.inside in
+    let ds = map g.D.Disk.state r.disks.items in
+    let kept : IsReceiver (seen_of r.ram ds r.aside r.room r.digest r.stage) c.self.inside.held.items _ _ = rw (← c.reader.view_is) at c.self.invariant in
+    let stage = subst (λ (stage : Stage). (has_failed stage ≡ false) → (front : List ℕ) × IsKnown r.ram ds r.digest front c.self.inside.held.items stage) c.in-Records.is kept.known in
+    let some = stage refl in
+    let known : IsKnownIn true r.ram ds r.digest some.0 c.self.inside.held.items c.in-Records.intake = subst (λ (b : Bool). IsKnownIn b r.ram ds r.digest some.0 c.self.inside.held.items c.in-Records.intake) c.if-not-ended.false some.1 in
+    let h = known.1 in
     h.ended.read.shapes_are ∙ sym (whole_shapes h.ended.read (h.ended.complete.devices refl))
 
 pub restore_in-requires-clause-bad : goal.restore_in-requires-clause-bad
 restore_in-requires-clause-bad g c =
-    let kept : IsReceiver c.self.inside.ram c.self.inside.aside c.self.inside.room (map g.D.Disk.state c.self.inside.disks.items) c.self.inside.taken c.self.inside.held.items _ _ c.self.inside.stage = c.self.invariant in
-    let known = (rw c.in-Ended.is at kept.known) refl in
-    known.1.1.ended.read.written.marks
+    let r = c.reader.inside in
+    let ds = map g.D.Disk.state r.disks.items in
+    let kept : IsReceiver (seen_of r.ram ds r.aside r.room r.digest r.stage) c.self.inside.held.items _ _ = rw (← c.reader.view_is) at c.self.invariant in
+    let stage = subst (λ (stage : Stage). (has_failed stage ≡ false) → (front : List ℕ) × IsKnown r.ram ds r.digest front c.self.inside.held.items stage) c.in-Records.is kept.known in
+    let some = stage refl in
+    let known : IsKnownIn true r.ram ds r.digest some.0 c.self.inside.held.items c.in-Records.intake = subst (λ (b : Bool). IsKnownIn b r.ram ds r.digest some.0 c.self.inside.held.items c.in-Records.intake) c.if-not-ended.false some.1 in
+    let h = known.1 in
+    h.ended.read.written.marks
 
 pub restore_in-requires-clause-devices : goal.restore_in-requires-clause-devices
 restore_in-requires-clause-devices g c =
-    let kept : IsReceiver c.self.inside.ram c.self.inside.aside c.self.inside.room (map g.D.Disk.state c.self.inside.disks.items) c.self.inside.taken c.self.inside.held.items _ _ c.self.inside.stage = c.self.invariant in
-    let known = (rw c.in-Ended.is at kept.known) refl in
-    let h = known.1.1 in
-    let room = (rw c.in-Ended.is at kept.roomed) tt in
-    let count : length c.in-Ended.intake.shapes.items ≡ length c.in-Ended.intake.devices.items = ap length h.ended.read.shapes_are ∙ sym (h.ended.complete.devices refl) ∙ devices_are h.ended.read in
+    let r = c.reader.inside in
+    let ds = map g.D.Disk.state r.disks.items in
+    let kept : IsReceiver (seen_of r.ram ds r.aside r.room r.digest r.stage) c.self.inside.held.items _ _ = rw (← c.reader.view_is) at c.self.invariant in
+    let stage = subst (λ (stage : Stage). (has_failed stage ≡ false) → (front : List ℕ) × IsKnown r.ram ds r.digest front c.self.inside.held.items stage) c.in-Records.is kept.known in
+    let some = stage refl in
+    let known : IsKnownIn true r.ram ds r.digest some.0 c.self.inside.held.items c.in-Records.intake = subst (λ (b : Bool). IsKnownIn b r.ram ds r.digest some.0 c.self.inside.held.items c.in-Records.intake) c.if-not-ended.false some.1 in
+    let h = known.1 in
+    let room = (subst (λ (stage : Stage). IsReader r.ram ds r.aside r.room stage) c.in-Records.is c.reader.invariant).2 in
+    let count : length c.in-Records.intake.shapes.items ≡ length c.in-Records.intake.devices.items = ap length h.ended.read.shapes_are ∙ sym (h.ended.complete.devices refl) ∙ devices_are h.ended.read in
     ap (λ (r : RoomSeen). r.devices) (same_room c.unwrap-room.ensures room) ∙ count
 
 pub restore_in-requires-clause-disks : goal.restore_in-requires-clause-disks
 restore_in-requires-clause-disks g c =
-    let kept : IsReceiver c.self.inside.ram c.self.inside.aside c.self.inside.room (map g.D.Disk.state c.self.inside.disks.items) c.self.inside.taken c.self.inside.held.items _ _ c.self.inside.stage = c.self.invariant in
-    let known = (rw c.in-Ended.is at kept.known) refl in
-    let h = known.1.1 in
-    let room = (rw c.in-Ended.is at kept.roomed) tt in
-    let count = marks_count _ c.in-Ended.intake.bad.items h.ended.read.written.marks in
+    let r = c.reader.inside in
+    let ds = map g.D.Disk.state r.disks.items in
+    let kept : IsReceiver (seen_of r.ram ds r.aside r.room r.digest r.stage) c.self.inside.held.items _ _ = rw (← c.reader.view_is) at c.self.invariant in
+    let stage = subst (λ (stage : Stage). (has_failed stage ≡ false) → (front : List ℕ) × IsKnown r.ram ds r.digest front c.self.inside.held.items stage) c.in-Records.is kept.known in
+    let some = stage refl in
+    let known : IsKnownIn true r.ram ds r.digest some.0 c.self.inside.held.items c.in-Records.intake = subst (λ (b : Bool). IsKnownIn b r.ram ds r.digest some.0 c.self.inside.held.items c.in-Records.intake) c.if-not-ended.false some.1 in
+    let h = known.1 in
+    let room = (subst (λ (stage : Stage). IsReader r.ram ds r.aside r.room stage) c.in-Records.is c.reader.invariant).2 in
+    let count = marks_count _ c.in-Records.intake.bad.items h.ended.read.written.marks in
     omega (arith, count, ap (λ (r : RoomSeen). r.disks) (same_room c.unwrap-room.ensures room))
 
-pub returns-in-Ended : goal.returns-in-Ended
-returns-in-Ended g c =
-    let on : c.args.self.failed ≡ false = sym (ap (λ (v : Received). v.failed) c.self.view_is) ∙ ap has_failed c.in-Ended.is in
-    record {
+pub returns-in-Records : goal.returns-in-Records
+returns-in-Records g c =
+    let r = c.reader.inside in
+    let ds = map g.D.Disk.state r.disks.items in
+    let kept : IsReceiver (seen_of r.ram ds r.aside r.room r.digest r.stage) c.self.inside.held.items _ _ = rw (← c.reader.view_is) at c.self.invariant in
+    let stage = subst (λ (stage : Stage). (has_failed stage ≡ false) → (front : List ℕ) × IsKnown r.ram ds r.digest front c.self.inside.held.items stage) c.in-Records.is kept.known in
+    let some = stage refl in
+    let known : IsKnownIn true r.ram ds r.digest some.0 c.self.inside.held.items c.in-Records.intake = subst (λ (b : Bool). IsKnownIn b r.ram ds r.digest some.0 c.self.inside.held.items c.in-Records.intake) c.if-not-ended.false some.1 in
+    let h = known.1 in
+    let come = λ b (t : IsTaken r.ram ds r.digest b c.self.inside.held.items r.stage). come_of r.ram ds r.digest b c.self.inside.held.items c.in-Records.intake c.if-not-ended.false (subst (λ (stage : Stage). IsTaken r.ram ds r.digest b c.self.inside.held.items stage) c.in-Records.is t) in
+    let on : has_failed r.stage ≡ false = ap has_failed c.in-Records.is in
+    let shapes : c.in-Records.intake.shapes.items ≡ shapes_in (state_of c.restore_in.result).devices =
+    h.ended.read.shapes_are ∙ sym (whole_shapes h.ended.read (h.ended.complete.devices refl)) ∙ sym (ap (λ (m : MachineState). shapes_in m.devices) c.restore_in.ensures.restored) in
+    rw (← c.self.view_is, ← c.reader.view_is) (record {
       arrived = λ b f.
-          let seen : Received = received_by c.self.inside.ram (place_in c.self.inside.aside c.self.inside.stage) (map g.D.Disk.state c.self.inside.disks.items) c.self.inside.stage c.self.inside.taken c.self.inside.held.items in
-          let fed : HasBeenFed seen b = subst (λ (v : Received). HasBeenFed v b) (sym c.self.view_is) f in
-          let ended : IsTaken c.self.inside.ram (map g.D.Disk.state c.self.inside.disks.items) c.self.inside.taken b c.self.inside.held.items (stages.Ended c.in-Ended.intake) = rw c.in-Ended.is at fed.taken in
-          let h = come_of c.self.inside.ram _ c.self.inside.taken b c.self.inside.held.items c.in-Ended.intake ended in
-          rw (c.restore_in.ensures.restored, c.into_ram-ram.ensures) (any_arrived _ b h.opening c.in-Ended.intake h.ended c.recall.ensures.bytes);
+          let w = come b f.taken in
+          rw (c.restore_in.ensures.restored, c.into_ram-ram.ensures) (any_arrived _ b w.opening c.in-Records.intake w.ended c.recall.ensures.bytes);
       received = λ honest b f.
-          let seen : Received = received_by c.self.inside.ram (place_in c.self.inside.aside c.self.inside.stage) (map g.D.Disk.state c.self.inside.disks.items) c.self.inside.stage c.self.inside.taken c.self.inside.held.items in
-          let fed : HasBeenFed seen b = subst (λ (v : Received). HasBeenFed v b) (sym c.self.view_is) f in
-          let ended : IsTaken c.self.inside.ram (map g.D.Disk.state c.self.inside.disks.items) c.self.inside.taken b c.self.inside.held.items (stages.Ended c.in-Ended.intake) = rw c.in-Ended.is at fed.taken in
-          let h = come_of c.self.inside.ram _ c.self.inside.taken b c.self.inside.held.items c.in-Ended.intake ended in
-          let trusted : AreHonestDisks (disk_marks_of g.D.Disk.state c.self.inside.disks.items) = subst AreHonestDisks (sym (ap (λ (v : Received). v.marks) c.self.view_is)) honest in
-          rw (c.restore_in.ensures.restored, c.into_ram-ram.ensures) (whole_stream _ b h.opening c.in-Ended.intake h.ended c.recall.ensures.bytes trusted);
-      marks =
-          let kept : IsReceiver c.self.inside.ram c.self.inside.aside c.self.inside.room (map g.D.Disk.state c.self.inside.disks.items) c.self.inside.taken c.self.inside.held.items _ _ c.self.inside.stage = c.self.invariant in
-          let known = (rw c.in-Ended.is at kept.known) refl in
-          let h = known.1.1 in
-          let marks = marks_mapped g.D.Disk.state c.self.inside.disks.items ∙ ap (λ (v : Received). v.marks) c.self.view_is in
-          let same : c.in-Ended.intake.shapes.items ≡ shapes_in (state_of c.restore_in.result).devices =
-          h.ended.read.shapes_are ∙ sym (whole_shapes h.ended.read (h.ended.complete.devices refl)) ∙ sym (ap (λ (m : MachineState). shapes_in m.devices) c.restore_in.ensures.restored) in
-          c.restore_in.ensures.marks ∙ ap (λ ms. dealt_marks c.in-Ended.intake.shapes.items ms) marks ∙ ap (λ ss. dealt_marks ss c.args.self.marks) same;
-      based =
-          let kept : IsReceiver c.self.inside.ram c.self.inside.aside c.self.inside.room (map g.D.Disk.state c.self.inside.disks.items) c.self.inside.taken c.self.inside.held.items _ _ c.self.inside.stage = c.self.invariant in
-          let known = (rw c.in-Ended.is at kept.known) refl in
-          let h = known.1.1 in
-          ap (λ (m : MachineState). base_of m.devices) c.restore_in.ensures.restored ∙ read_based h.ended.read (h.ended.complete.devices refl) ∙ ap (λ (r : RamTerms). r.base) (h.based ∙ ap (λ (v : Received). v.ram) c.self.view_is);
-      fits =
-          let kept : IsReceiver c.self.inside.ram c.self.inside.aside c.self.inside.room (map g.D.Disk.state c.self.inside.disks.items) c.self.inside.taken c.self.inside.held.items _ _ c.self.inside.stage = c.self.invariant in
-          let known = (rw c.in-Ended.is at kept.known) refl in
-          let h = known.1.1 in
-          sym (ap (λ (v : Received). v.sizes) c.self.view_is) ∙ h.ended.read.fits ∙ ap disk_sizes (sym (whole_shapes h.ended.read (h.ended.complete.devices refl))) ∙ sym (ap (λ (m : MachineState). disk_sizes (shapes_in m.devices)) c.restore_in.ensures.restored);
+          let w = come b f.taken in
+          rw (c.restore_in.ensures.restored, c.into_ram-ram.ensures) (whole_stream _ b w.opening c.in-Records.intake w.ended c.recall.ensures.bytes honest);
+      marks = c.restore_in.ensures.marks ∙ ap (λ ms. dealt_marks c.in-Records.intake.shapes.items ms) (marks_mapped g.D.Disk.state r.disks.items) ∙ ap (λ ss. dealt_marks ss _) shapes;
+      based = ap (λ (m : MachineState). base_of m.devices) c.restore_in.ensures.restored ∙ read_based h.ended.read (h.ended.complete.devices refl) ∙ ap (λ (t : RamTerms). t.base) h.based;
+      fits = h.ended.read.fits ∙ ap disk_sizes (sym h.ended.read.shapes_are) ∙ ap disk_sizes shapes;
       refused = tt;
-      whole = λ b f.
-          let seen : Received = received_by c.self.inside.ram (place_in c.self.inside.aside c.self.inside.stage) (map g.D.Disk.state c.self.inside.disks.items) c.self.inside.stage c.self.inside.taken c.self.inside.held.items in
-          let fed : HasBeenFed seen b = subst (λ (v : Received). HasBeenFed v b) (sym c.self.view_is) f in
-          let ended : IsTaken c.self.inside.ram (map g.D.Disk.state c.self.inside.disks.items) c.self.inside.taken b c.self.inside.held.items (stages.Ended c.in-Ended.intake) = rw c.in-Ended.is at fed.taken in
-          let h = come_of c.self.inside.ram _ c.self.inside.taken b c.self.inside.held.items c.in-Ended.intake ended in
-          subst (λ (v : Received). IsWholeFor v.ram v.sizes b) c.self.view_is (whole_come c.self.inside.ram _ b c.in-Ended.intake h);
+      whole = λ b f. whole_come r.ram ds b c.in-Records.intake (come b f.taken);
       told = tt;
       lacking = λ is. absurd is;
-      place = c.restore_in.ensures.place ∙ ap (λ (m : Memory). m.place) c.into_ram-ram.ensures ∙ sym (ap (place_in c.self.inside.aside) c.in-Ended.is) ∙ ap (λ (v : Received). v.place) c.self.view_is;
+      place = c.restore_in.ensures.place ∙ ap (λ (m : Memory). m.place) c.into_ram-ram.ensures ∙ sym (ap (place_in r.aside) c.in-Records.is);
       already = λ f. absurd (true_false _ f on);
       goes_on = on;
       back = tt;
-    }
+    })
+
+-- The digest was not read.
+pub returns-then-not-ended : goal.returns-then-not-ended
+returns-then-not-ended g c =
+    let r = c.reader.inside in
+    let ds = map g.D.Disk.state r.disks.items in
+    let on : has_failed r.stage ≡ false = ap has_failed c.in-Records.is in
+    let not_yet : has_ended r.stage ≡ false = ap has_ended c.in-Records.is ∙ c.if-not-ended.true in
+    rw (← c.self.view_is, ← c.reader.view_is) (record {
+      arrived = tt;
+      received = tt;
+      marks = tt;
+      based = tt;
+      fits = tt;
+      refused = λ b f m s.
+          let t : IsTaken r.ram ds r.digest b c.self.inside.held.items (stages.Records c.in-Records.intake) = subst (λ (stage : Stage). IsTaken r.ram ds r.digest b c.self.inside.held.items stage) c.in-Records.is f.taken in
+          let known : IsKnownIn false r.ram ds r.digest t.front c.self.inside.held.items c.in-Records.intake = subst (λ (b : Bool). IsKnownIn b r.ram ds r.digest t.front c.self.inside.held.items c.in-Records.intake) c.if-not-ended.true t.known in
+          no_stream_reading r.ram _ t.front c.self.inside.held.items b c.in-Records.intake m f.bytes t.whole known.1 s;
+      whole = tt;
+      told = ap end_error (sym on);
+      lacking = λ is b f. not_whole_taken r.ram ds r.digest b c.self.inside.held.items r.stage f.bytes not_yet f.taken;
+      place = tt;
+      already = λ f. absurd (true_false _ f on);
+      goes_on = tt;
+      back = given_back_as (seen_of r.ram ds r.aside r.room r.digest r.stage) c.self.inside.held.items c.given_up.result c.given_up.ensures.failed c.given_up.ensures.ram c.given_up.ensures.disks c.given_up.ensures.sizes c.given_up.ensures.marks (c.given_up.ensures.place ∙ sym (ap (place_in r.aside) c.in-Records.is));
+    })
 
 pub returns-in-Failed : goal.returns-in-Failed
 returns-in-Failed g c =
-    let failed : c.args.self.failed ≡ true = sym (ap (λ (v : Received). v.failed) c.self.view_is) ∙ ap has_failed c.in-Failed.is in
-    record {
+    let r = c.reader.inside in
+    let ds = map g.D.Disk.state r.disks.items in
+    let failed : has_failed r.stage ≡ true = ap has_failed c.in-Failed.is in
+    rw (← c.self.view_is, ← c.reader.view_is) (record {
       arrived = tt;
       received = tt;
       marks = tt;
@@ -122,81 +157,30 @@ returns-in-Failed g c =
       place = tt;
       already = λ f. refl;
       goes_on = tt;
-      back = record {
-        failed = c.given_up.ensures.failed;
-        ram = c.given_up.ensures.ram ∙ ap (λ (v : Received). v.ram) c.self.view_is;
-        disks = c.given_up.ensures.disks ∙ ap (λ (v : Received). v.disks) c.self.view_is;
-        sizes = c.given_up.ensures.sizes ∙ ap (λ (v : Received). v.sizes) c.self.view_is;
-        marks = c.given_up.ensures.marks ∙ ap (λ (v : Received). v.marks) c.self.view_is;
-        place = c.given_up.ensures.place ∙ sym (ap (place_in c.self.inside.aside) c.in-Failed.is) ∙ ap (λ (v : Received). v.place) c.self.view_is;
-      };
-    }
-
-pub returns-in-Records : goal.returns-in-Records
-returns-in-Records g c =
-    let on : c.args.self.failed ≡ false = sym (ap (λ (v : Received). v.failed) c.self.view_is) ∙ ap has_failed c.in-Records.is in
-    record {
-      arrived = tt;
-      received = tt;
-      marks = tt;
-      based = tt;
-      fits = tt;
-      refused = λ b f m s.
-          let seen : Received = received_by c.self.inside.ram (place_in c.self.inside.aside c.self.inside.stage) (map g.D.Disk.state c.self.inside.disks.items) c.self.inside.stage c.self.inside.taken c.self.inside.held.items in
-          let fed : HasBeenFed seen b = subst (λ (v : Received). HasBeenFed v b) (sym c.self.view_is) f in
-          let t : IsTaken c.self.inside.ram (map g.D.Disk.state c.self.inside.disks.items) c.self.inside.taken b c.self.inside.held.items (stages.Records c.in-Records.intake) = rw c.in-Records.is at fed.taken in
-          no_stream_reading c.self.inside.ram _ t.front c.self.inside.held.items b c.in-Records.intake m fed.bytes t.whole t.known.1 s;
-      whole = tt;
-      told = ap end_error (sym on);
-      lacking = λ is b f.
-          let seen : Received = received_by c.self.inside.ram (place_in c.self.inside.aside c.self.inside.stage) (map g.D.Disk.state c.self.inside.disks.items) c.self.inside.stage c.self.inside.taken c.self.inside.held.items in
-          let fed : HasBeenFed seen b = subst (λ (v : Received). HasBeenFed v b) (sym c.self.view_is) f in
-          let not_yet : has_ended c.self.inside.stage ≡ false = ap has_ended c.in-Records.is in
-          subst (λ (v : Received). ¬ (IsWholeFor v.ram v.sizes b)) c.self.view_is (not_whole_taken c.self.inside.ram _ c.self.inside.taken b c.self.inside.held.items c.self.inside.stage fed.bytes not_yet fed.taken);
-      place = tt;
-      already = λ f. absurd (true_false _ f on);
-      goes_on = tt;
-      back = record {
-        failed = c.given_up-in-Records.ensures.failed;
-        ram = c.given_up-in-Records.ensures.ram ∙ ap (λ (v : Received). v.ram) c.self.view_is;
-        disks = c.given_up-in-Records.ensures.disks ∙ ap (λ (v : Received). v.disks) c.self.view_is;
-        sizes = c.given_up-in-Records.ensures.sizes ∙ ap (λ (v : Received). v.sizes) c.self.view_is;
-        marks = c.given_up-in-Records.ensures.marks ∙ ap (λ (v : Received). v.marks) c.self.view_is;
-        place = c.given_up-in-Records.ensures.place ∙ sym (ap (place_in c.self.inside.aside) c.in-Records.is) ∙ ap (λ (v : Received). v.place) c.self.view_is;
-      };
-    }
+      back = given_back_as (seen_of r.ram ds r.aside r.room r.digest r.stage) c.self.inside.held.items c.given_up-in-Failed.result c.given_up-in-Failed.ensures.failed c.given_up-in-Failed.ensures.ram c.given_up-in-Failed.ensures.disks c.given_up-in-Failed.ensures.sizes c.given_up-in-Failed.ensures.marks (c.given_up-in-Failed.ensures.place ∙ sym (ap (place_in r.aside) c.in-Failed.is));
+    })
 
 pub returns : goal.returns
 returns g c =
-    let on : c.args.self.failed ≡ false = sym (ap (λ (v : Received). v.failed) c.self.view_is) ∙ ap has_failed c.in-Head.is in
-    record {
+    let r = c.reader.inside in
+    let ds = map g.D.Disk.state r.disks.items in
+    let on : has_failed r.stage ≡ false = ap has_failed c.in-Head.is in
+    let not_yet : has_ended r.stage ≡ false = ap has_ended c.in-Head.is in
+    rw (← c.self.view_is, ← c.reader.view_is) (record {
       arrived = tt;
       received = tt;
       marks = tt;
       based = tt;
       fits = tt;
       refused = λ b f m s.
-          let seen : Received = received_by c.self.inside.ram (place_in c.self.inside.aside c.self.inside.stage) (map g.D.Disk.state c.self.inside.disks.items) c.self.inside.stage c.self.inside.taken c.self.inside.held.items in
-          let fed : HasBeenFed seen b = subst (λ (v : Received). HasBeenFed v b) (sym c.self.view_is) f in
-          let t : IsTaken c.self.inside.ram (map g.D.Disk.state c.self.inside.disks.items) c.self.inside.taken b c.self.inside.held.items stages.Head = rw c.in-Head.is at fed.taken in
+          let t : IsTaken r.ram ds r.digest b c.self.inside.held.items stages.Head = subst (λ (stage : Stage). IsTaken r.ram ds r.digest b c.self.inside.held.items stage) c.in-Head.is f.taken in
           let same : b ≡ c.self.inside.held.items = t.whole ∙ ap (λ x. x ++ c.self.inside.held.items) t.known.0 in
           no_stream_head c.self.inside.held.items m t.known.2 (rw same at s);
       whole = tt;
       told = ap end_error (sym on);
-      lacking = λ is b f.
-          let seen : Received = received_by c.self.inside.ram (place_in c.self.inside.aside c.self.inside.stage) (map g.D.Disk.state c.self.inside.disks.items) c.self.inside.stage c.self.inside.taken c.self.inside.held.items in
-          let fed : HasBeenFed seen b = subst (λ (v : Received). HasBeenFed v b) (sym c.self.view_is) f in
-          let not_yet : has_ended c.self.inside.stage ≡ false = ap has_ended c.in-Head.is in
-          subst (λ (v : Received). ¬ (IsWholeFor v.ram v.sizes b)) c.self.view_is (not_whole_taken c.self.inside.ram _ c.self.inside.taken b c.self.inside.held.items c.self.inside.stage fed.bytes not_yet fed.taken);
+      lacking = λ is b f. not_whole_taken r.ram ds r.digest b c.self.inside.held.items r.stage f.bytes not_yet f.taken;
       place = tt;
       already = λ f. absurd (true_false _ f on);
       goes_on = tt;
-      back = record {
-        failed = c.given_up-in-Head.ensures.failed;
-        ram = c.given_up-in-Head.ensures.ram ∙ ap (λ (v : Received). v.ram) c.self.view_is;
-        disks = c.given_up-in-Head.ensures.disks ∙ ap (λ (v : Received). v.disks) c.self.view_is;
-        sizes = c.given_up-in-Head.ensures.sizes ∙ ap (λ (v : Received). v.sizes) c.self.view_is;
-        marks = c.given_up-in-Head.ensures.marks ∙ ap (λ (v : Received). v.marks) c.self.view_is;
-        place = c.given_up-in-Head.ensures.place ∙ sym (ap (place_in c.self.inside.aside) c.in-Head.is) ∙ ap (λ (v : Received). v.place) c.self.view_is;
-      };
-    }
+      back = given_back_as (seen_of r.ram ds r.aside r.room r.digest r.stage) c.self.inside.held.items c.given_up-in-Head.result c.given_up-in-Head.ensures.failed c.given_up-in-Head.ensures.ram c.given_up-in-Head.ensures.disks c.given_up-in-Head.ensures.sizes c.given_up-in-Head.ensures.marks (c.given_up-in-Head.ensures.place ∙ sym (ap (place_in r.aside) c.in-Head.is));
+    })
