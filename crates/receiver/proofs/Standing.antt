@@ -21,7 +21,7 @@ use Rattle.receiver.specs.Disks.{AreKept, AreRefused}
 use Rattle.receiver.specs.Good.{devices_in}
 use Rattle.receiver.specs.Faults.{IsBadBody, IsBadDigest, IsBadHead, IsBadPage, IsFault, IsLongZeros, IsPageTag, IsTrailing, Opens}
 use Rattle.receiver.specs.Fed.{Ends, HasRead, TookRecord, Waits}
-use Rattle.receiver.specs.Standing.{Closed, Entered, Followed, IsDeviceHead, IsLong, IsNoBody, IsShort, IsSized, MayHead, OpensHead, record_behind, refusal_of}
+use Rattle.receiver.specs.Standing.{Closed, Entered, TookHead, IsDeviceHead, IsLong, IsNoBody, IsShort, IsSized, MayHead, OpensHead, record_behind, refusal_of}
 use Rattle.receiver.specs.declared.intake.Intake.{Intake}
 use Rattle.receiver.specs.declared.recv_error.RecvError.{RecvError}
 use Rattle.receiver.specs.declared.recv_error.RecvError.TheVariants as errors
@@ -187,7 +187,7 @@ taken_with tail body more head e many =
 
 -- What came of a record is what came of its head.
 pub followed_by : (old ds : List DiskState) (opening : Opened) (before : List Record) (new : Intake) (front tail behind : List ℕ) (head : RecordHead) (r : Result Bool RecvError) → new.ended ≡ false → OpensHead opening before tail head behind → IsLong head behind r
-    → Entered old ds opening before new front tail head behind r → Followed old ds opening before new front tail head r
+    → Entered old ds opening before new front tail head behind r → TookHead old ds opening before new front tail head r
 followed_by old ds opening before new front tail behind head (Ok true) on o long t =
     let body = take (body_len head) behind in
     let many : length body ≡ body_len head = omega (arith, long refl, length-take (body_len head) behind) in
@@ -204,7 +204,7 @@ followed_by old ds opening before new front tail behind head (Err e) on o long t
 
 -- What came of the digest.
 pub followed_end : (ds : List DiskState) (opening : Opened) (before : List Record) (new : Intake) (front tail : List ℕ) (r : Result Bool RecvError) → IfOk r (λ took. took ≡ true → new.ended ≡ true)
-    → Closed ds opening before new front tail r → Followed ds ds opening before new front tail heads.Commit r
+    → Closed ds opening before new front tail r → TookHead ds ds opening before new front tail heads.Commit r
 followed_end ds opening before new front tail (Ok true) done t =
     (kept ds, subst (λ (b : Bool). TookRecord b ds opening before new front tail 33) (sym (done refl)) (refl, t.0, t.1))
 followed_end ds opening before new front tail (Ok false) done t = (kept ds, t.0, t.1)

@@ -1,6 +1,8 @@
 -- Which head of a record may come next, after whole good records, and what comes of the record.
 use Rattle.std.specs.Prelude.{◌≡◌, ◌<◌, ◌≤◌, ℕ, ◌+◌, ◌*◌, All, Bool, true, false, List, ◌∷◌, [], ◌++◌, drop, take, map, length, IfOk, Result, Ok, Err}
 use Rattle.std.specs.Vec.{vec_capacity}
+use Rattle.sha2.specs.Hashers.{Holds256}
+use Rattle.sha2.specs.declared.Sha256.{Sha256}
 use Rattle.wire.specs.DeviceBody.{IsBodyOf}
 use Rattle.wire.specs.RecordHeads.{FitsHead, body_len, spelled_head}
 use Rattle.wire.specs.Records.{Record, device, record_with, spelled_record}
@@ -96,10 +98,19 @@ Closed disks opening before new front tail (Ok false) = HasRead disks opening be
 Closed disks opening before new front tail (Err e) = (e ≡ BadDigest) × ((place : ℕ) × IsFault opening before tail BadDigest place)
 
 -- What came of a record of any head, the digest too.
-abbrev pub Followed : List DiskState → List DiskState → Opened → List Record → Intake → List ℕ → List ℕ → RecordHead → Result Bool RecvError → Type 0
-Followed old disks opening before new front tail head (Ok true) = AreKept old disks × TookRecord new.ended disks opening before new front tail (length (spelled_head head) + body_len head)
-Followed old disks opening before new front tail head (Ok false) = AreKept old disks × HasRead disks opening before new front × Waits opening before tail
-Followed old disks opening before new front tail head (Err e) = AreRefused old disks e × Tells e ((place : ℕ) × IsFault opening before tail e place)
+abbrev pub TookHead : List DiskState → List DiskState → Opened → List Record → Intake → List ℕ → List ℕ → RecordHead → Result Bool RecvError → Type 0
+TookHead old disks opening before new front tail head (Ok true) = AreKept old disks × TookRecord new.ended disks opening before new front tail (length (spelled_head head) + body_len head)
+TookHead old disks opening before new front tail head (Ok false) = AreKept old disks × HasRead disks opening before new front × Waits opening before tail
+TookHead old disks opening before new front tail head (Err e) = AreRefused old disks e × Tells e ((place : ℕ) × IsFault opening before tail e place)
+
+-- The same for all bytes that were taken in before, which have this digest.
+abbrev pub TakesHead : List DiskState → List DiskState → Intake → Intake → Sha256 → RecordHead → List ℕ → Result Bool RecvError → Type 0
+TakesHead old disks i new digest head behind result = (front tail : List ℕ) (opening : Opened) (before : List Record) → IsBytes tail → Holds256 digest front → HasRead old opening before i front
+    → OpensHead opening before tail head behind → TookHead old disks opening before new front tail head result
+
+abbrev pub Closes : List DiskState → Intake → Intake → Sha256 → List ℕ → Result Bool RecvError → Type 0
+Closes disks i new digest behind result = (front tail : List ℕ) (opening : Opened) (before : List Record) → IsBytes tail → Holds256 digest front → HasRead disks opening before i front
+    → OpensHead opening before tail heads.Commit behind → Closed disks opening before new front tail result
 
 -- Fewer bytes than the body has are behind the head.
 abbrev pub IsShort : RecordHead → List ℕ → Result Bool RecvError → Type 0

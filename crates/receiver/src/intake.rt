@@ -13,14 +13,13 @@ ghost use Rattle.sha2.specs.Hashers.{Holds256};
 ghost use Rattle.sha2.specs.Sha256.{sha256};
 ghost use Rattle.wire.specs.declared.record_head.RecordHead.TheVariants as heads;
 ghost use Rattle.blk.specs.Disk.{DiskState};
-ghost use Rattle.guestmem.specs.Number.{IsBytes};
 ghost use Rattle.machine.specs.Shapes.{disk_sizes, sector_count};
 ghost use Rattle.receiver.specs.Disks.{sizes_of};
 ghost use Rattle.receiver.specs.Faults.{IsLate, MayTag};
-ghost use Rattle.receiver.specs.Fed.{After, Checked, HasRead, IsUpTo, Worked};
+ghost use Rattle.receiver.specs.Fed.{Checked, HasRead, IsUpTo, TakesPart, Worked};
 ghost use Rattle.receiver.specs.Receiving.{HasDevice};
 ghost use Rattle.receiver.specs.Spots.{CallsOf, HasMarks, IsSpotIn, disks_before};
-ghost use Rattle.receiver.specs.Standing.{BeginsDevice, Closed, Enters, Followed, IsDeviceHead, IsLong, IsShort, IsSized, IsWholeDevice, Keeps, OpensHead};
+ghost use Rattle.receiver.specs.Standing.{BeginsDevice, Closes, Enters, IsDeviceHead, IsLong, IsShort, IsSized, IsWholeDevice, Keeps, TakesHead};
 ghost use Rattle.receiver.specs.declared.ram_terms.RamTerms.{RamTerms};
 ghost use Rattle.receiver.specs.declared.recv_error.RecvError.TheVariants as errors;
 
@@ -337,8 +336,7 @@ fn take_digest(intake: &mut Intake, taken: &mut Sha256, behind: &[u8]) -> Result
     ensures short { IsShort heads.Commit behind.now result }
     ensures long { IsLong heads.Commit behind.now result }
     ensures memory { IfErr result (λ e. e ≢ errors.NoMemory) }
-    ensures closed { (ds : List DiskState) (front tail : List ℕ) (opening : Opened) (before : List records.Record) → IsBytes tail → Holds256 taken.old front → HasRead ds opening before intake.old front
-        → OpensHead opening before tail heads.Commit behind.now → Closed ds opening before intake.new front tail result }
+    ensures closed { (ds : List DiskState) → Closes ds intake.old intake.new taken.old behind.now result }
 {
     if behind.len() < DIGEST_LEN {
         return Ok(false);
@@ -373,8 +371,7 @@ fn take_record<D: Disk>(
     ensures waits { result ≡ Ok false → intake.new.ended ≡ false }
     ensures memory { result ≡ Err errors.NoMemory → IsWholeDevice head behind.now }
     ensures calls { CallsOf D.called head intake.old.shapes.items result (map D.calls disks.old) (map D.calls disks.new) }
-    ensures after { (front tail : List ℕ) (opening : Opened) (before : List records.Record) → IsBytes tail → Holds256 taken.old front → HasRead (map D.state disks.old) opening before intake.old front
-        → OpensHead opening before tail head behind.now → Followed (map D.state disks.old) (map D.state disks.new) opening before intake.new front tail head result }
+    ensures after { TakesHead (map D.state disks.old) (map D.state disks.new) intake.old intake.new taken.old head behind.now result }
 {
     match head {
         RecordHead::Page { number } => take_page(intake, number, behind),
@@ -415,8 +412,7 @@ fn take_part<D: Disk>(
     ensures untouched { intake.new.ended ≡ false → OnOk result (taken.new ≡ taken.old) }
     ensures waits { result ≡ Ok None → intake.new.ended ≡ false }
     ensures memory { result ≡ Err errors.NoMemory → BeginsDevice bytes.now }
-    ensures after { (front : List ℕ) (opening : Opened) (before : List records.Record) → Holds256 taken.old front → HasRead (map D.state disks.old) opening before intake.old front
-        → After (map D.state disks.old) (map D.state disks.new) opening before intake.new front bytes.now result }
+    ensures after { TakesPart (map D.state disks.old) (map D.state disks.new) intake.old intake.new taken.old bytes.now result }
 {
     let Some((tag, _)) = bytes.split_first() else {
         return Ok(None);
