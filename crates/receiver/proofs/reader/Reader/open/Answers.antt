@@ -64,7 +64,7 @@ new_intake-requires-clause-given g c = rw (head_is c.self.inside.stage (sym c.is
 pub invariant_of-self-2 : goal.invariant_of-self-2
 invariant_of-self-2 g c =
     let fits = rw c.deref.ensures.value at c.in_default.ensures.fits in
-    (c.in-Ok.ensures.sized, fits ∙ ap _ (sym c.in-Ok.ensures.shapes), ap Some (search rules))
+    (c.in-Ok-new_intake.ensures.sized, fits ∙ ap _ (sym c.in-Ok-new_intake.ensures.shapes), ap Some (search rules))
 
 pub returns : goal.returns
 returns g c =
@@ -74,18 +74,18 @@ returns g c =
     let b = rw c.in-Ok-Some.field-0-is at c.in-Ok-Some.ensures.read in
     let len = c.in-Ok-Some.heading.len in
     let front = head_taken c.args.bytes.now (opened i.ram (said c.in-Ok-Some.heading)) len b.0 b.1 in
-    let read = c.in-Ok.ensures.read c.args.bytes.now (drop len c.args.bytes.now) b.1 in
+    let read = c.in-Ok-new_intake.ensures.read c.args.bytes.now (drop len c.args.bytes.now) b.1 in
     rw (← c.self.view_is) (record {
       ram = refl;
       disks = refl;
       within = b.0;
       few = λ e. absurd cc;
-      place = c.in-Ok.ensures.place ∙ sym (ap (place_in i.aside) head);
+      place = c.in-Ok-new_intake.ensures.place ∙ sym (ap (place_in i.aside) head);
       later = λ past. absurd (head_not_past i.stage head past);
       failed = λ f. absurd (true_false _ f (head_not_failed i.stage head));
       opened = λ held h k.
           let known = rw head at k in
           let digested : Holds256 c.update.new.self (take len c.args.bytes.now) = rw c.split_at.ensures.front at (c.update.ensures [] known.1) in
-          subst (λ (ended : Bool). IsUpTo ended i.ram ds c.update.new.self (take len c.args.bytes.now) c.in-Ok.intake) (sym c.in-Ok.ensures.goes_on)
+          subst (λ (ended : Bool). IsUpTo ended i.ram ds c.update.new.self (take len c.args.bytes.now) c.in-Ok-new_intake.intake) (sym c.in-Ok-new_intake.ensures.goes_on)
               (digested, record { opening = opened i.ram (said c.in-Ok-Some.heading); based = refl; before = []; read = rw front read });
     })

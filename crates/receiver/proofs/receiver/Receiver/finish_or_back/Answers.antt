@@ -28,7 +28,7 @@ restore_in-requires-clause-sound g c =
     let kept : IsReceiver (seen_of r.ram ds r.aside r.room r.digest r.stage) c.self.inside.held.items _ _ = rw (← c.reader.view_is) at c.self.invariant in
     let stage = subst (λ (stage : Stage). (has_failed stage ≡ false) → (front : List ℕ) × IsKnown r.ram ds r.digest front c.self.inside.held.items stage) c.in-Records.is kept.known in
     let some = stage refl in
-    let known : IsKnownIn true r.ram ds r.digest some.0 c.self.inside.held.items c.in-Records.intake = subst (λ (b : Bool). IsKnownIn b r.ram ds r.digest some.0 c.self.inside.held.items c.in-Records.intake) c.if-not-ended.false some.1 in
+    let known : IsKnownIn true r.ram ds r.digest some.0 c.self.inside.held.items c.in-Records.intake = subst (λ (b : Bool). IsKnownIn b r.ram ds r.digest some.0 c.self.inside.held.items c.in-Records.intake) c.if-not-intake.false some.1 in
     let h = known.1 in
     rw c.into_ram-ram.ensures (here_sound h.ended.read (h.ended.complete.devices refl) c.recall.ensures.bytes (rw c.deref.ensures.value at c.recall_disks.ensures))
 
@@ -39,7 +39,7 @@ restore_in-requires-clause-shapes g c =
     let kept : IsReceiver (seen_of r.ram ds r.aside r.room r.digest r.stage) c.self.inside.held.items _ _ = rw (← c.reader.view_is) at c.self.invariant in
     let stage = subst (λ (stage : Stage). (has_failed stage ≡ false) → (front : List ℕ) × IsKnown r.ram ds r.digest front c.self.inside.held.items stage) c.in-Records.is kept.known in
     let some = stage refl in
-    let known : IsKnownIn true r.ram ds r.digest some.0 c.self.inside.held.items c.in-Records.intake = subst (λ (b : Bool). IsKnownIn b r.ram ds r.digest some.0 c.self.inside.held.items c.in-Records.intake) c.if-not-ended.false some.1 in
+    let known : IsKnownIn true r.ram ds r.digest some.0 c.self.inside.held.items c.in-Records.intake = subst (λ (b : Bool). IsKnownIn b r.ram ds r.digest some.0 c.self.inside.held.items c.in-Records.intake) c.if-not-intake.false some.1 in
     let h = known.1 in
     h.ended.read.shapes_are ∙ sym (whole_shapes h.ended.read (h.ended.complete.devices refl))
 
@@ -50,7 +50,7 @@ restore_in-requires-clause-bad g c =
     let kept : IsReceiver (seen_of r.ram ds r.aside r.room r.digest r.stage) c.self.inside.held.items _ _ = rw (← c.reader.view_is) at c.self.invariant in
     let stage = subst (λ (stage : Stage). (has_failed stage ≡ false) → (front : List ℕ) × IsKnown r.ram ds r.digest front c.self.inside.held.items stage) c.in-Records.is kept.known in
     let some = stage refl in
-    let known : IsKnownIn true r.ram ds r.digest some.0 c.self.inside.held.items c.in-Records.intake = subst (λ (b : Bool). IsKnownIn b r.ram ds r.digest some.0 c.self.inside.held.items c.in-Records.intake) c.if-not-ended.false some.1 in
+    let known : IsKnownIn true r.ram ds r.digest some.0 c.self.inside.held.items c.in-Records.intake = subst (λ (b : Bool). IsKnownIn b r.ram ds r.digest some.0 c.self.inside.held.items c.in-Records.intake) c.if-not-intake.false some.1 in
     let h = known.1 in
     h.ended.read.written.marks
 
@@ -61,7 +61,7 @@ restore_in-requires-clause-devices g c =
     let kept : IsReceiver (seen_of r.ram ds r.aside r.room r.digest r.stage) c.self.inside.held.items _ _ = rw (← c.reader.view_is) at c.self.invariant in
     let stage = subst (λ (stage : Stage). (has_failed stage ≡ false) → (front : List ℕ) × IsKnown r.ram ds r.digest front c.self.inside.held.items stage) c.in-Records.is kept.known in
     let some = stage refl in
-    let known : IsKnownIn true r.ram ds r.digest some.0 c.self.inside.held.items c.in-Records.intake = subst (λ (b : Bool). IsKnownIn b r.ram ds r.digest some.0 c.self.inside.held.items c.in-Records.intake) c.if-not-ended.false some.1 in
+    let known : IsKnownIn true r.ram ds r.digest some.0 c.self.inside.held.items c.in-Records.intake = subst (λ (b : Bool). IsKnownIn b r.ram ds r.digest some.0 c.self.inside.held.items c.in-Records.intake) c.if-not-intake.false some.1 in
     let h = known.1 in
     let room = (subst (λ (stage : Stage). IsReader r.ram ds r.aside r.room stage) c.in-Records.is c.reader.invariant).2 in
     let count : length c.in-Records.intake.shapes.items ≡ length c.in-Records.intake.devices.items = ap length h.ended.read.shapes_are ∙ sym (h.ended.complete.devices refl) ∙ devices_are h.ended.read in
@@ -74,7 +74,7 @@ restore_in-requires-clause-disks g c =
     let kept : IsReceiver (seen_of r.ram ds r.aside r.room r.digest r.stage) c.self.inside.held.items _ _ = rw (← c.reader.view_is) at c.self.invariant in
     let stage = subst (λ (stage : Stage). (has_failed stage ≡ false) → (front : List ℕ) × IsKnown r.ram ds r.digest front c.self.inside.held.items stage) c.in-Records.is kept.known in
     let some = stage refl in
-    let known : IsKnownIn true r.ram ds r.digest some.0 c.self.inside.held.items c.in-Records.intake = subst (λ (b : Bool). IsKnownIn b r.ram ds r.digest some.0 c.self.inside.held.items c.in-Records.intake) c.if-not-ended.false some.1 in
+    let known : IsKnownIn true r.ram ds r.digest some.0 c.self.inside.held.items c.in-Records.intake = subst (λ (b : Bool). IsKnownIn b r.ram ds r.digest some.0 c.self.inside.held.items c.in-Records.intake) c.if-not-intake.false some.1 in
     let h = known.1 in
     let room = (subst (λ (stage : Stage). IsReader r.ram ds r.aside r.room stage) c.in-Records.is c.reader.invariant).2 in
     let count = marks_count _ c.in-Records.intake.bad.items h.ended.read.written.marks in
@@ -87,9 +87,9 @@ returns-in-Records g c =
     let kept : IsReceiver (seen_of r.ram ds r.aside r.room r.digest r.stage) c.self.inside.held.items _ _ = rw (← c.reader.view_is) at c.self.invariant in
     let stage = subst (λ (stage : Stage). (has_failed stage ≡ false) → (front : List ℕ) × IsKnown r.ram ds r.digest front c.self.inside.held.items stage) c.in-Records.is kept.known in
     let some = stage refl in
-    let known : IsKnownIn true r.ram ds r.digest some.0 c.self.inside.held.items c.in-Records.intake = subst (λ (b : Bool). IsKnownIn b r.ram ds r.digest some.0 c.self.inside.held.items c.in-Records.intake) c.if-not-ended.false some.1 in
+    let known : IsKnownIn true r.ram ds r.digest some.0 c.self.inside.held.items c.in-Records.intake = subst (λ (b : Bool). IsKnownIn b r.ram ds r.digest some.0 c.self.inside.held.items c.in-Records.intake) c.if-not-intake.false some.1 in
     let h = known.1 in
-    let come = λ b (t : IsTaken r.ram ds r.digest b c.self.inside.held.items r.stage). come_of r.ram ds r.digest b c.self.inside.held.items c.in-Records.intake c.if-not-ended.false (subst (λ (stage : Stage). IsTaken r.ram ds r.digest b c.self.inside.held.items stage) c.in-Records.is t) in
+    let come = λ b (t : IsTaken r.ram ds r.digest b c.self.inside.held.items r.stage). come_of r.ram ds r.digest b c.self.inside.held.items c.in-Records.intake c.if-not-intake.false (subst (λ (stage : Stage). IsTaken r.ram ds r.digest b c.self.inside.held.items stage) c.in-Records.is t) in
     let on : has_failed r.stage ≡ false = ap has_failed c.in-Records.is in
     let shapes : c.in-Records.intake.shapes.items ≡ shapes_in (state_of c.restore_in.result).devices =
     h.ended.read.shapes_are ∙ sym (whole_shapes h.ended.read (h.ended.complete.devices refl)) ∙ sym (ap (λ (m : MachineState). shapes_in m.devices) c.restore_in.ensures.restored) in
@@ -114,12 +114,12 @@ returns-in-Records g c =
     })
 
 -- The digest was not read.
-pub returns-then-not-ended : goal.returns-then-not-ended
-returns-then-not-ended g c =
+pub returns-then-not-intake : goal.returns-then-not-intake
+returns-then-not-intake g c =
     let r = c.reader.inside in
     let ds = map g.D.Disk.state r.disks.items in
     let on : has_failed r.stage ≡ false = ap has_failed c.in-Records.is in
-    let not_yet : has_ended r.stage ≡ false = ap has_ended c.in-Records.is ∙ c.if-not-ended.true in
+    let not_yet : has_ended r.stage ≡ false = ap has_ended c.in-Records.is ∙ c.if-not-intake.true in
     rw (← c.self.view_is, ← c.reader.view_is) (record {
       arrived = tt;
       received = tt;
@@ -128,7 +128,7 @@ returns-then-not-ended g c =
       fits = tt;
       refused = λ b f m s.
           let t : IsTaken r.ram ds r.digest b c.self.inside.held.items (stages.Records c.in-Records.intake) = subst (λ (stage : Stage). IsTaken r.ram ds r.digest b c.self.inside.held.items stage) c.in-Records.is f.taken in
-          let known : IsKnownIn false r.ram ds r.digest t.front c.self.inside.held.items c.in-Records.intake = subst (λ (b : Bool). IsKnownIn b r.ram ds r.digest t.front c.self.inside.held.items c.in-Records.intake) c.if-not-ended.true t.known in
+          let known : IsKnownIn false r.ram ds r.digest t.front c.self.inside.held.items c.in-Records.intake = subst (λ (b : Bool). IsKnownIn b r.ram ds r.digest t.front c.self.inside.held.items c.in-Records.intake) c.if-not-intake.true t.known in
           no_stream_reading r.ram _ t.front c.self.inside.held.items b c.in-Records.intake m f.bytes t.whole known.1 s;
       whole = tt;
       told = ap end_error (sym on);
