@@ -8,7 +8,7 @@ use Rattle.sha2.specs.declared.Sha256.{Sha256}
 use Rattle.receiver.specs.Disks.{AreKept, AreRefused, sizes_in}
 use Rattle.receiver.specs.Faults.{Fault, WaitsHead}
 use Rattle.receiver.specs.Fed.{IsKnownIn, IsReading, IsUpTo, Tells}
-use Rattle.receiver.specs.Reading.{Gives, Looked, OpensAt, Opens, TakesPiece}
+use Rattle.receiver.specs.Reading.{StandsAside, LookedAt, HeaderAt, ReadsHeader, TakesPiece}
 use Rattle.receiver.specs.Receiving.{HasDevice, IsKnown, IsPastHead, Knows, ReaderSeen, has_failed, is_head, place_aside, place_in}
 use Rattle.receiver.specs.declared.intake.Intake.{Intake}
 use Rattle.receiver.specs.declared.ram_terms.RamTerms.{RamTerms}
@@ -37,7 +37,7 @@ pub head_not_failed : (stage : Stage) → stage ≡ stages.Head → has_failed s
 head_not_failed stage e = ap has_failed e
 
 -- The header was read before.
-pub opened_before : (r : ReaderSeen) (bytes : List ℕ) → is_head r.stage ≡ false → Opens r bytes (Ok 0) r
+pub opened_before : (r : ReaderSeen) (bytes : List ℕ) → is_head r.stage ≡ false → ReadsHeader r bytes (Ok 0) r
 opened_before r bytes later = record {
   ram = refl;
   disks = refl;
@@ -50,7 +50,7 @@ opened_before r bytes later = record {
 }
 
 -- The header is not whole.
-pub open_waits : (r : ReaderSeen) (bytes : List ℕ) → r.stage ≡ stages.Head → WaitsHead bytes → length bytes ≤ 495 → Opens r bytes (Ok 0) r
+pub open_waits : (r : ReaderSeen) (bytes : List ℕ) → r.stage ≡ stages.Head → WaitsHead bytes → length bytes ≤ 495 → ReadsHeader r bytes (Ok 0) r
 open_waits r bytes head waits few = record {
   ram = refl;
   disks = refl;
@@ -59,12 +59,12 @@ open_waits r bytes head waits few = record {
   place = refl;
   later = λ past. (refl, refl);
   failed = λ f. (refl, refl);
-  opened = λ held e k. subst (λ (stage : Stage). OpensAt r bytes (Ok 0) r stage) (sym head) (refl, waits, refl);
+  opened = λ held e k. subst (λ (stage : Stage). HeaderAt r bytes (Ok 0) r stage) (sym head) (refl, waits, refl);
 }
 
 -- The header is refused. The RAM stands where it stood.
 pub open_refused : (r new : ReaderSeen) (bytes : List ℕ) (e : RecvError) → r.stage ≡ stages.Head → new.ram ≡ r.ram → new.disks ≡ r.disks → new.stage ≡ r.stage → new.aside ≡ r.aside
-    → AreRefused r.disks r.disks e × Tells e ((at : ℕ) × Fault r.ram (sizes_in r.disks) bytes e at) → Opens r bytes (Err e) new
+    → AreRefused r.disks r.disks e × Tells e ((at : ℕ) × Fault r.ram (sizes_in r.disks) bytes e at) → ReadsHeader r bytes (Err e) new
 open_refused r new bytes e head ram disks stage aside t = record {
   ram = ram;
   disks = disks;
@@ -111,11 +111,11 @@ piece_refused_again r before piece had failed = record {
 }
 
 -- What was taken in when the records behind the header are looked at.
-ready_at : (old mid : ReaderSeen) (front held bytes : List ℕ) (start : ℕ) (i : Intake) (stage : Stage) → old.stage ≡ stage → IsKnown old.ram old.disks old.digest front held stage → Opens old bytes (Ok start) mid → mid.stage ≡ stages.Records i
+ready_at : (old mid : ReaderSeen) (front held bytes : List ℕ) (start : ℕ) (i : Intake) (stage : Stage) → old.stage ≡ stage → IsKnown old.ram old.disks old.digest front held stage → ReadsHeader old bytes (Ok start) mid → mid.stage ≡ stages.Records i
     → IsUpTo i.ended mid.ram mid.disks mid.digest (front ++ take start bytes) i
 ready_at old mid front held bytes start i stages.Head is k o at =
     let knows : Knows old [] held = subst (λ (stage : Stage). IsKnown old.ram old.disks old.digest [] held stage) (sym is) (refl, k.1, k.2) in
-    let opened : OpensAt old bytes (Ok start) mid (stages.Records i) = subst (λ (stage : Stage). OpensAt old bytes (Ok start) mid stage) at (o.opened held is knows) in
+    let opened : HeaderAt old bytes (Ok start) mid (stages.Records i) = subst (λ (stage : Stage). HeaderAt old bytes (Ok start) mid stage) at (o.opened held is knows) in
     subst (λ (x : List ℕ). IsUpTo i.ended mid.ram mid.disks mid.digest (x ++ take start bytes) i) (sym k.0) opened
 ready_at old mid front held bytes start i (stages.Records j) is k o at =
     let later = o.later (subst IsPastHead (sym is) tt) in
@@ -128,12 +128,12 @@ ready_at old mid front held bytes start i (stages.Records j) is k o at =
     subst (λ (x : List ℕ). IsUpTo i.ended mid.ram mid.disks mid.digest x i) (sym text) there
 ready_at old mid front held bytes start i stages.Failed is k o at = absurd k
 
-pub ready_for : (old mid : ReaderSeen) (front held bytes : List ℕ) (start : ℕ) (i : Intake) → Knows old front held → Opens old bytes (Ok start) mid → mid.stage ≡ stages.Records i → IsUpTo i.ended mid.ram mid.disks mid.digest (front ++ take start bytes) i
+pub ready_for : (old mid : ReaderSeen) (front held bytes : List ℕ) (start : ℕ) (i : Intake) → Knows old front held → ReadsHeader old bytes (Ok start) mid → mid.stage ≡ stages.Records i → IsUpTo i.ended mid.ram mid.disks mid.digest (front ++ take start bytes) i
 ready_for old mid front held bytes start i k o at = ready_at old mid front held bytes start i old.stage refl k o at
 
 -- The bytes behind the header were worked off.
 pub worked_on : (old mid new : ReaderSeen) (front bytes : List ℕ) (start at : ℕ) (j : Intake) → mid.disks ≡ old.disks → new.ram ≡ mid.ram → new.stage ≡ stages.Records j
-    → AreKept mid.disks new.disks × IsKnownIn j.ended mid.ram new.disks new.digest ((front ++ take start bytes) ++ take at (drop start bytes)) (drop at (drop start bytes)) j → Looked old front bytes (Ok (start + at)) new
+    → AreKept mid.disks new.disks × IsKnownIn j.ended mid.ram new.disks new.digest ((front ++ take start bytes) ++ take at (drop start bytes)) (drop at (drop start bytes)) j → LookedAt old front bytes (Ok (start + at)) new
 worked_on old mid new front bytes start at j disks ram stage w =
     let text = more_taken front bytes start at in
     let rest = drop-drop at start bytes in
@@ -147,7 +147,7 @@ worked_on old mid new front bytes start at j disks ram stage w =
 
 -- They were refused.
 pub refused_on : (old mid new : ReaderSeen) (front bytes : List ℕ) (start : ℕ) (e : RecvError) (ds : List DiskState) → mid.disks ≡ old.disks → mid.ram ≡ old.ram → new.disks ≡ ds
-    → AreRefused mid.disks ds e × Tells e ((at : ℕ) × Fault mid.ram (sizes_in mid.disks) ((front ++ take start bytes) ++ drop start bytes) e at) → Looked old front bytes (Err e) new
+    → AreRefused mid.disks ds e × Tells e ((at : ℕ) × Fault mid.ram (sizes_in mid.disks) ((front ++ take start bytes) ++ drop start bytes) e at) → LookedAt old front bytes (Err e) new
 refused_on old mid new front bytes start e ds disks ram is w =
     let text : (front ++ take start bytes) ++ drop start bytes ≡ front ++ bytes = sym (cut front bytes start) in
     let a : AreRefused old.disks new.disks e = subst (λ (x : List DiskState). AreRefused old.disks x e) (sym is) (subst (λ (x : List DiskState). AreRefused x ds e) disks w.0) in
@@ -156,18 +156,18 @@ refused_on old mid new front bytes start e ds disks ram is w =
     (a, tells_more _ _ e (λ f. subst (λ (x : List DiskState). (at : ℕ) × Fault old.ram (sizes_in x) (front ++ bytes) e at) disks (seated f)) w.1)
 
 -- A header that waits: nothing was worked off.
-pub head_waits : (old mid : ReaderSeen) (front held bytes : List ℕ) (start : ℕ) → Knows old front held → Opens old bytes (Ok start) mid → old.stage ≡ stages.Head → mid.stage ≡ stages.Head → Looked old front bytes (Ok 0) mid
+pub head_waits : (old mid : ReaderSeen) (front held bytes : List ℕ) (start : ℕ) → Knows old front held → ReadsHeader old bytes (Ok start) mid → old.stage ≡ stages.Head → mid.stage ≡ stages.Head → LookedAt old front bytes (Ok 0) mid
 head_waits old mid front held bytes start k o was is =
     let known : IsKnown old.ram old.disks old.digest front held stages.Head = subst (λ (stage : Stage). IsKnown old.ram old.disks old.digest front held stage) was k in
     let knows : Knows old [] held = subst (λ (x : List ℕ). Knows old x held) known.0 k in
-    let waits : OpensAt old bytes (Ok start) mid stages.Head = subst (λ (stage : Stage). OpensAt old bytes (Ok start) mid stage) is (o.opened held was knows) in
+    let waits : HeaderAt old bytes (Ok start) mid stages.Head = subst (λ (stage : Stage). HeaderAt old bytes (Ok start) mid stage) is (o.opened held was knows) in
     (
       subst (λ (ds : List DiskState). AreKept old.disks ds) (sym o.disks) (kept old.disks),
       subst (λ (stage : Stage). IsKnown mid.ram mid.disks mid.digest (front ++ take 0 bytes) (drop 0 bytes) stage) (sym is) (append-nil front ∙ known.0, subst (λ (d : Sha256). Holds256 d []) (sym waits.2) known.1, waits.1),
     )
 
 -- Where the head waits behind the look for it, it waited before.
-pub head_was : (old mid : ReaderSeen) (bytes : List ℕ) (start : ℕ) → Opens old bytes (Ok start) mid → mid.stage ≡ stages.Head → old.stage ≡ stages.Head
+pub head_was : (old mid : ReaderSeen) (bytes : List ℕ) (start : ℕ) → ReadsHeader old bytes (Ok start) mid → mid.stage ≡ stages.Head → old.stage ≡ stages.Head
 head_was old mid bytes start o is = by_stage old.stage refl
   where
     by_stage : (stage : Stage) → old.stage ≡ stage → old.stage ≡ stages.Head
@@ -176,10 +176,10 @@ head_was old mid bytes start o is = by_stage old.stage refl
     by_stage stages.Failed e = ap (λ (r : ReaderSeen). r.stage) (sym (o.failed (ap has_failed e)).1) ∙ is
 
 -- A header that is refused.
-pub head_refused_as : (old mid new : ReaderSeen) (front held bytes : List ℕ) (e : RecvError) → Knows old front held → Opens old bytes (Err e) mid → Gives mid new → Looked old front bytes (Err e) new
+pub head_refused_as : (old mid new : ReaderSeen) (front held bytes : List ℕ) (e : RecvError) → Knows old front held → ReadsHeader old bytes (Err e) mid → StandsAside mid new → LookedAt old front bytes (Err e) new
 head_refused_as old mid new front held bytes e k o f = by_stage old.stage refl k
   where
-    by_stage : (stage : Stage) → old.stage ≡ stage → IsKnown old.ram old.disks old.digest front held stage → Looked old front bytes (Err e) new
+    by_stage : (stage : Stage) → old.stage ≡ stage → IsKnown old.ram old.disks old.digest front held stage → LookedAt old front bytes (Err e) new
     by_stage stages.Head is known =
         let knows : Knows old [] held = subst (λ (x : List ℕ). Knows old x held) known.0 k in
         let t = o.opened held is knows in
@@ -192,7 +192,7 @@ head_refused_as old mid new front held bytes e k o f = by_stage old.stage refl k
     by_stage stages.Failed is known = absurd known
 
 -- Memory that a record behind the held bytes wants.
-pub work_wants : (old mid : ReaderSeen) (front bytes : List ℕ) (start : ℕ) → Opens old bytes (Ok start) mid → IsPastHead old.stage
+pub work_wants : (old mid : ReaderSeen) (front bytes : List ℕ) (start : ℕ) → ReadsHeader old bytes (Ok start) mid → IsPastHead old.stage
     → HasDevice mid.ram (sizes_in mid.disks) ((front ++ take start bytes) ++ drop start bytes) (length (front ++ take start bytes)) → HasDevice old.ram (sizes_in old.disks) (front ++ bytes) (length front)
 work_wants old mid front bytes start o past d =
     let none : start ≡ 0 = (let same : (◌≡◌ {A = Result ℕ RecvError} (Ok start) (Ok 0)) = (o.later past).0 in cc) in

@@ -36,20 +36,20 @@ pub record IsFirst (terms : RamTerms) (ds : List DiskState) (ram_aside : Option 
   pub known : Knows new [] []
 
 -- It takes no more: its RAM stands aside.
-pub record Gives (old new : ReaderSeen) : Type 0 where
+pub record StandsAside (old new : ReaderSeen) : Type 0 where
   pub ram : new.ram ≡ old.ram
   pub disks : new.disks ≡ old.disks
   pub stage : new.stage ≡ stages.Failed
   pub place : place_of new ≡ place_of old
 
 -- After a look for the header of the bytes: it was read, and has `at` bytes; or it was read before, or is not whole; or it is refused.
-abbrev pub OpensAt : ReaderSeen → List ℕ → Result ℕ RecvError → ReaderSeen → Stage → Type 0
-OpensAt old bytes (Ok at) new stages.Head = (at ≡ 0) × WaitsHead bytes × (new.digest ≡ old.digest)
-OpensAt old bytes (Ok at) new (stages.Records i) = IsUpTo i.ended new.ram new.disks new.digest (take at bytes) i
-OpensAt old bytes (Ok at) new stages.Failed = ⊥
-OpensAt old bytes (Err e) new stage = AreRefused old.disks new.disks e × Tells e ((at : ℕ) × Fault old.ram (sizes_in old.disks) bytes e at)
+abbrev pub HeaderAt : ReaderSeen → List ℕ → Result ℕ RecvError → ReaderSeen → Stage → Type 0
+HeaderAt old bytes (Ok at) new stages.Head = (at ≡ 0) × WaitsHead bytes × (new.digest ≡ old.digest)
+HeaderAt old bytes (Ok at) new (stages.Records i) = IsUpTo i.ended new.ram new.disks new.digest (take at bytes) i
+HeaderAt old bytes (Ok at) new stages.Failed = ⊥
+HeaderAt old bytes (Err e) new stage = AreRefused old.disks new.disks e × Tells e ((at : ℕ) × Fault old.ram (sizes_in old.disks) bytes e at)
 
-pub record Opens (old : ReaderSeen) (bytes : List ℕ) (result : Result ℕ RecvError) (new : ReaderSeen) : Type 0 where
+pub record ReadsHeader (old : ReaderSeen) (bytes : List ℕ) (result : Result ℕ RecvError) (new : ReaderSeen) : Type 0 where
   pub ram : new.ram ≡ old.ram
   pub disks : new.disks ≡ old.disks
   pub within : IfOk result (λ at. at ≤ length bytes)
@@ -57,12 +57,12 @@ pub record Opens (old : ReaderSeen) (bytes : List ℕ) (result : Result ℕ Recv
   pub place : place_of new ≡ place_of old
   pub later : IsPastHead old.stage → (result ≡ Ok 0) × (new ≡ old)
   pub failed : has_failed old.stage ≡ true → (result ≡ Ok 0) × (new ≡ old)
-  pub opened : (held : List ℕ) → old.stage ≡ stages.Head → Knows old [] held → OpensAt old bytes result new new.stage
+  pub opened : (held : List ℕ) → old.stage ≡ stages.Head → Knows old [] held → HeaderAt old bytes result new new.stage
 
 -- After a look at bytes that follow those that were worked off: some of them are worked off, or they are refused.
-abbrev pub Looked : ReaderSeen → List ℕ → List ℕ → Result ℕ RecvError → ReaderSeen → Type 0
-Looked old front bytes (Ok at) new = AreKept old.disks new.disks × Knows new (front ++ take at bytes) (drop at bytes)
-Looked old front bytes (Err e) new = AreRefused old.disks new.disks e × Tells e ((at : ℕ) × Fault old.ram (sizes_in old.disks) (front ++ bytes) e at)
+abbrev pub LookedAt : ReaderSeen → List ℕ → List ℕ → Result ℕ RecvError → ReaderSeen → Type 0
+LookedAt old front bytes (Ok at) new = AreKept old.disks new.disks × Knows new (front ++ take at bytes) (drop at bytes)
+LookedAt old front bytes (Err e) new = AreRefused old.disks new.disks e × Tells e ((at : ℕ) × Fault old.ram (sizes_in old.disks) (front ++ bytes) e at)
 
 pub record Looks (old : ReaderSeen) (bytes : List ℕ) (result : Result ℕ RecvError) (new : ReaderSeen) : Type 0 where
   pub ram : new.ram ≡ old.ram
@@ -72,15 +72,15 @@ pub record Looks (old : ReaderSeen) (bytes : List ℕ) (result : Result ℕ Recv
   pub past : IsPastHead old.stage → OnOk result (IsPastHead new.stage)
   pub place : place_of new ≡ place_of old
   pub memory : (front held : List ℕ) → Knows old front held → IsPastHead old.stage → result ≡ Err NoMemory → HasDevice old.ram (sizes_in old.disks) (front ++ bytes) (length front)
-  pub looked : (front held : List ℕ) → Knows old front held → Looked old front bytes result new
+  pub looked : (front held : List ℕ) → Knows old front held → LookedAt old front bytes result new
 
 -- After more bytes, which make these bytes in all.
-abbrev pub Took : {A : Type 0} → ReaderSeen → List ℕ → Result A RecvError → ReaderSeen → List ℕ → Type 0
-Took old bytes (Ok x) new held = AreKept old.disks new.disks × IsTaken new.ram new.disks new.digest bytes held new.stage
-Took old bytes (Err e) new held = AreRefused old.disks new.disks e × Tells e ((at : ℕ) × Fault old.ram (sizes_in old.disks) bytes e at)
+abbrev pub TookBytes : {A : Type 0} → ReaderSeen → List ℕ → Result A RecvError → ReaderSeen → List ℕ → Type 0
+TookBytes old bytes (Ok x) new held = AreKept old.disks new.disks × IsTaken new.ram new.disks new.digest bytes held new.stage
+TookBytes old bytes (Err e) new held = AreRefused old.disks new.disks e × Tells e ((at : ℕ) × Fault old.ram (sizes_in old.disks) bytes e at)
 
 -- Bytes were taken behind those that were held, or refused.
-pub record Takes (old : ReaderSeen) (before bytes : List ℕ) (result : Result (Unit {0}) RecvError) (new : ReaderSeen) (held : List ℕ) : Type 0 where
+pub record TakesBytes (old : ReaderSeen) (before bytes : List ℕ) (result : Result (Unit {0}) RecvError) (new : ReaderSeen) (held : List ℕ) : Type 0 where
   pub ram : new.ram ≡ old.ram
   pub few : OnOk result (length held ≤ 131077)
   pub shorter : OnOk result (length held ≤ length before + length bytes)
@@ -89,7 +89,7 @@ pub record Takes (old : ReaderSeen) (before bytes : List ℕ) (result : Result (
   pub place : place_of new ≡ place_of old
   pub memory : (front : List ℕ) → Knows old front before → IsPastHead old.stage → result ≡ Err NoMemory
       → HasDevice old.ram (sizes_in old.disks) (front ++ (before ++ bytes)) (length front)
-  pub took : (front : List ℕ) → Knows old front before → Took old (front ++ (before ++ bytes)) result new held
+  pub took : (front : List ℕ) → Knows old front before → TookBytes old (front ++ (before ++ bytes)) result new held
 
 -- A whole piece was. `had` and `has` are the room of the buffer, before and after.
 pub record TakesPiece (old : ReaderSeen) (before : List ℕ) (had : ℕ) (piece : List ℕ) (result : Result ℕ RecvError) (new : ReaderSeen) (held : List ℕ) (has : ℕ) : Type 0 where
@@ -101,4 +101,4 @@ pub record TakesPiece (old : ReaderSeen) (before : List ℕ) (had : ℕ) (piece 
   pub already : has_failed old.stage ≡ true → (result ≡ Err AlreadyFailed) × (new ≡ old)
   pub memory : (IsPastHead old.stage → 131078 ≤ had) → (front : List ℕ) → Knows old front before → IsPastHead old.stage → result ≡ Err NoMemory
       → HasDevice old.ram (sizes_in old.disks) (front ++ (before ++ piece)) (length front)
-  pub took : (front : List ℕ) → Knows old front before → Took old (front ++ (before ++ piece)) result new held
+  pub took : (front : List ℕ) → Knows old front before → TookBytes old (front ++ (before ++ piece)) result new held

@@ -60,7 +60,7 @@ impl<D: Disk> Model for Reader<D> {
 impl<D: Disk + Drop> Reader<D> {
     ghost use Rattle.std.specs.Prelude.{◌≡◌, ◌≤◌, ◌<◌, ◌+◌, IfOk, length, map};
     ghost use Rattle.std.specs.Vec.{vec_capacity};
-    ghost use Rattle.receiver.specs.Reading.{Gives, IsFirst, Looks, Opens, Takes, TakesPiece};
+    ghost use Rattle.receiver.specs.Reading.{StandsAside, IsFirst, Looks, ReadsHeader, TakesBytes, TakesPiece};
     ghost use Rattle.receiver.specs.Receiving.{has_ended, has_failed, length_aside, rounds_in};
     ghost use Rattle.receiver.specs.Waiting.{LacksBytes};
 
@@ -140,7 +140,7 @@ impl<D: Disk + Drop> Reader<D> {
 
     /// Takes no more: the RAM stands aside.
     pub fn fail(&mut self)
-        ensures { Gives self.old self.new }
+        ensures { StandsAside self.old self.new }
     {
         match mem::replace(&mut self.stage, Stage::Failed) {
             Stage::Records(intake) => give_up(intake, &mut self.aside),
@@ -151,7 +151,7 @@ impl<D: Disk + Drop> Reader<D> {
     /// Reads the header, if that was not done and it is complete; returns how many bytes it has, and else 0. A refusal leaves what there is
     /// as it was.
     fn open(&mut self, bytes: &[u8]) -> Result<usize, RecvError>
-        ensures { Opens self.old bytes.now result self.new }
+        ensures { ReadsHeader self.old bytes.now result self.new }
     {
         if !self.stage.is_head() {
             return Ok(0);
@@ -210,7 +210,7 @@ impl<D: Disk + Drop> Reader<D> {
     fn take_next(&mut self, held: &mut Vec<u8>, bytes: &[u8]) -> Result<(), RecvError>
         requires room { 131078 ≤ vec_capacity held.old }
         requires fits { 0 < length held.old.items → length held.old.items + length bytes.now ≤ 131078 }
-        ensures takes { Takes self.old held.old.items bytes.now result self.new held.new.items }
+        ensures takes { TakesBytes self.old held.old.items bytes.now result self.new held.new.items }
         ensures capacity { vec_capacity held.old ≤ vec_capacity held.new }
     {
         if held.is_empty() {
@@ -263,7 +263,7 @@ impl<D: Disk + Drop> Reader<D> {
     }
 }
 
-/// Gives up what was taken in: its RAM stands aside.
+/// StandsAside up what was taken in: its RAM stands aside.
 fn give_up(intake: Intake, aside: &mut Option<ArrivingRam>)
     ensures { place_aside aside.new ≡ intake.ram.place }
 {

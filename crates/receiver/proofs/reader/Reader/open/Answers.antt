@@ -5,7 +5,7 @@ use Rattle.wire.specs.Header.{said}
 use Rattle.receiver.specs.Disks.{sizes_of}
 use Rattle.receiver.specs.Fed.{IsUpTo}
 use Rattle.receiver.specs.Opened.{opened}
-use Rattle.receiver.specs.Reading.{Opens}
+use Rattle.receiver.specs.Reading.{ReadsHeader}
 use Rattle.receiver.specs.Receiving.{ReaderSeen, place_aside, place_in}
 use Rattle.receiver.specs.declared.recv_error.RecvError.TheVariants as errors
 use Rattle.receiver.specs.declared.stage.Stage.TheVariants as stages
