@@ -263,7 +263,7 @@ impl<D: Disk + Drop> Reader<D> {
     }
 }
 
-/// StandsAside up what was taken in: its RAM stands aside.
+/// Gives up what was taken in: its RAM stands aside.
 fn give_up(intake: Intake, aside: &mut Option<ArrivingRam>)
     ensures { place_aside aside.new ≡ intake.ram.place }
 {
