@@ -1,15 +1,15 @@
 -- A look at bytes, and the bytes of a piece.
 use Rattle.std.proofs.Common.{◌≡◌, ℕ, ◌+◌, ◌<◌, ◌≤◌, Bool, true, false, List, [], ◌∷◌, ◌++◌, length, take, drop, refl, sym, ap, subst, ◌∙◌, append-nil, arith}
-use Rattle.std.specs.Prelude.{Result, Ok, Err, IfOk, OnOk, ◌≢◌}
+use Rattle.std.specs.Prelude.{Result, Ok, Err}
 use Rattle.std.proofs.lemmas.List.{drop-drop}
 use Rattle.sha2.specs.Hashers.{Holds256}
 use Rattle.blk.specs.Disk.{DiskState}
 use Rattle.sha2.specs.declared.Sha256.{Sha256}
 use Rattle.receiver.specs.Disks.{AreKept, AreRefused, sizes_in}
 use Rattle.receiver.specs.Faults.{Fault, WaitsHead}
-use Rattle.receiver.specs.Fed.{IsKnownIn, IsReading, IsUpTo, Tells}
+use Rattle.receiver.specs.Fed.{IsKnownIn, IsUpTo, Tells}
 use Rattle.receiver.specs.Reading.{StandsAside, LookedAt, HeaderAt, ReadsHeader, TakesPiece}
-use Rattle.receiver.specs.Receiving.{HasDevice, IsKnown, IsPastHead, Knows, ReaderSeen, has_failed, is_head, place_aside, place_in}
+use Rattle.receiver.specs.Receiving.{HasDevice, IsKnown, IsPastHead, Knows, ReaderSeen, has_failed, is_head, place_in}
 use Rattle.receiver.specs.declared.intake.Intake.{Intake}
 use Rattle.receiver.specs.declared.ram_terms.RamTerms.{RamTerms}
 use Rattle.receiver.specs.declared.recv_error.RecvError.{RecvError}
@@ -119,7 +119,7 @@ ready_at old mid front held bytes start i stages.Head is k o at =
     subst (λ (x : List ℕ). IsUpTo i.ended mid.ram mid.disks mid.digest (x ++ take start bytes) i) (sym k.0) opened
 ready_at old mid front held bytes start i (stages.Records j) is k o at =
     let later = o.later (subst IsPastHead (sym is) tt) in
-    let none : start ≡ 0 = cc in
+    let none : start ≡ 0 = (let one : (◌≡◌ {A = Result ℕ RecvError} (Ok start) (Ok 0)) = later.0 in cc) in
     let same : j ≡ i = (let stages_are : stages.Records j ≡ stages.Records i = sym is ∙ ap (λ (r : ReaderSeen). r.stage) (sym later.1) ∙ at in cc) in
     let up : IsUpTo j.ended old.ram old.disks old.digest front j = up_to j.ended old.ram old.disks old.digest front held j k in
     let text : front ++ take start bytes ≡ front = ap (λ (n : ℕ). front ++ take n bytes) none ∙ append-nil front in
@@ -188,7 +188,7 @@ head_refused_as old mid new front held bytes e k o f = by_stage old.stage refl k
           subst (λ (ds : List DiskState). AreRefused old.disks ds e) (sym f.disks) t.0,
           tells_more _ _ e (λ x. subst (λ (b : List ℕ). (at : ℕ) × Fault old.ram (sizes_in old.disks) b e at) text x) t.1,
         )
-    by_stage (stages.Records i) is known = absurd (let no : Err e ≡ Ok 0 = (o.later (subst IsPastHead (sym is) tt)).0 in cc)
+    by_stage (stages.Records i) is known = absurd (let no : (◌≡◌ {A = Result ℕ RecvError} (Err e) (Ok 0)) = (o.later (subst IsPastHead (sym is) tt)).0 in cc)
     by_stage stages.Failed is known = absurd known
 
 -- Memory that a record behind the held bytes wants.
