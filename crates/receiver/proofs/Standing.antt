@@ -377,3 +377,8 @@ some_spelled (heads.RoundEnd n) = omega arith
 some_spelled (heads.Device d len) = omega arith
 some_spelled heads.Commit = omega arith
 some_spelled (heads.ZeroPage n) = omega arith
+
+-- What holds anyway holds where a record was taken.
+pub anyway : {P : Type 0} (r : Result Bool RecvError) → P → OnOk r P
+anyway (Ok took) p = p
+anyway (Err e) p = tt

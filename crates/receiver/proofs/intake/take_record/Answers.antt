@@ -2,7 +2,7 @@ use Rattle.std.proofs.Common.{arith, refl, rules, map, true, false, ◌≡◌, �
 use Rattle.std.specs.Prelude.{Ok, Err}
 use Rattle.wire.specs.declared.record_head.RecordHead.TheVariants as heads
 use Rattle.receiver.specs.declared.recv_error.RecvError.TheVariants as errors
-use Rattle.receiver.proofs.Standing.{all_long, all_short, digest_done, digest_goes_on, digest_untouched, followed_by, followed_end, never_memory}
+use Rattle.receiver.proofs.Standing.{all_long, all_short, anyway, digest_done, digest_goes_on, digest_untouched, followed_by, followed_end, never_memory}
 use Rattle.receiver.proofs.intake.take_record.Goals as goal
 
 pub take_device-requires-clause-next : goal.take_device-requires-clause-next
@@ -96,3 +96,39 @@ returns-clause-untouched g c = λ on. digest_untouched c.take_digest.result _ _ 
 
 pub returns-clause-waits : goal.returns-clause-waits
 returns-clause-waits g c = λ e. digest_goes_on c.take_digest.result _ _ _ c.take_digest.ensures.ended c.requires.goes_on e
+
+pub returns-in-Page-clause-untouched : goal.returns-in-Page-clause-untouched
+returns-in-Page-clause-untouched g c = λ on. anyway c.take_page.result refl
+
+pub returns-in-Page-clause-waits : goal.returns-in-Page-clause-waits
+returns-in-Page-clause-waits g c = λ e. c.take_page.ensures.keeps.ended ∙ c.requires.goes_on
+
+pub returns-in-ZeroPage-clause-untouched : goal.returns-in-ZeroPage-clause-untouched
+returns-in-ZeroPage-clause-untouched g c = λ on. anyway c.take_zero_page.result refl
+
+pub returns-in-ZeroPage-clause-waits : goal.returns-in-ZeroPage-clause-waits
+returns-in-ZeroPage-clause-waits g c = λ e. c.take_zero_page.ensures.keeps.ended ∙ c.requires.goes_on
+
+pub returns-then-is_good-clause-untouched : goal.returns-then-is_good-clause-untouched
+returns-then-is_good-clause-untouched g c = λ on. anyway c.take_good.result refl
+
+pub returns-then-is_good-clause-waits : goal.returns-then-is_good-clause-waits
+returns-then-is_good-clause-waits g c = λ e. c.take_good.ensures.keeps.ended ∙ c.requires.goes_on
+
+pub returns-in-Sector-clause-untouched : goal.returns-in-Sector-clause-untouched
+returns-in-Sector-clause-untouched g c = λ on. anyway c.take_bad.result refl
+
+pub returns-in-Sector-clause-waits : goal.returns-in-Sector-clause-waits
+returns-in-Sector-clause-waits g c = λ e. c.take_bad.ensures.keeps.ended ∙ c.requires.goes_on
+
+pub returns-in-RoundEnd-clause-untouched : goal.returns-in-RoundEnd-clause-untouched
+returns-in-RoundEnd-clause-untouched g c = λ on. anyway c.take_round.result refl
+
+pub returns-in-RoundEnd-clause-waits : goal.returns-in-RoundEnd-clause-waits
+returns-in-RoundEnd-clause-waits g c = λ e. c.take_round.ensures.keeps.ended ∙ c.requires.goes_on
+
+pub returns-in-Device-clause-untouched : goal.returns-in-Device-clause-untouched
+returns-in-Device-clause-untouched g c = λ on. anyway c.take_device.result refl
+
+pub returns-in-Device-clause-waits : goal.returns-in-Device-clause-waits
+returns-in-Device-clause-waits g c = λ e. c.take_device.ensures.keeps.ended ∙ c.requires.goes_on
