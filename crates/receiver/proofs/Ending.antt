@@ -12,13 +12,20 @@ use Rattle.wire.specs.Stream.{texts}
 use Rattle.receiver.specs.Disks.{sizes_in}
 use Rattle.receiver.specs.Opened.{header, said_by}
 use Rattle.receiver.specs.Faults.{WaitsHead}
-use Rattle.receiver.specs.Fed.{IsKnownIn, IsReading}
-use Rattle.receiver.specs.Receiving.{IsTaken, IsWholeFor, NoNext, has_ended, has_failed}
+use Rattle.guestmem.specs.Memory.{Memory}
+use Rattle.machine.specs.Room.{RoomSeen}
+use Rattle.std.specs.Prelude.{Err, Option}
+use Rattle.receiver.specs.Calls.{FinishesOrBack}
+use Rattle.receiver.specs.Disks.{all_marks_in}
+use Rattle.receiver.specs.declared.recv_error.RecvError.TheVariants.{AlreadyFailed, Truncated}
+use Rattle.receiver.specs.Fed.{HasCome, IsKnownIn, IsReading}
+use Rattle.receiver.specs.Receiving.{HasBeenFed, IsFinish, IsGivenUp, IsKnown, IsReceiver, ReaderSeen, Received, end_error, place_in, received_with, IsTaken, IsWholeFor, NoNext, has_ended, has_failed}
 use Rattle.receiver.specs.declared.intake.Intake.{Intake}
 use Rattle.receiver.specs.declared.stage.Stage.{Stage}
 use Rattle.receiver.specs.declared.stage.Stage.TheVariants as stages
 use Rattle.receiver.proofs.Aligned.{one_opening}
 use Rattle.receiver.proofs.Counting.{same_records}
+use Rattle.receiver.proofs.Feeding.{true_false}
 use Rattle.receiver.proofs.Knowing.{come_of, no_other, whole_come}
 use Rattle.receiver.proofs.Streams.{digest_bytes}
 use Rattle.receiver.proofs.Working.{commit_text, front_at, front_of}
@@ -63,3 +70,55 @@ pub not_ended : (stage : Stage) → has_failed stage ≡ true → has_ended stag
 not_ended stages.Head e = refl
 not_ended (stages.Records i) e = absurd cc
 not_ended stages.Failed e = refl
+
+-- What contracts see of a reader with these fields.
+abbrev pub seen_of : RamTerms → List DiskState → Option Memory → Option RoomSeen → Sha256 → Stage → ReaderSeen
+seen_of ram disks aside room digest stage = record { ram = ram; disks = disks; aside = aside; room = room; digest = digest; stage = stage }
+
+-- A receiver that is given back.
+pub given_back_as : (r : ReaderSeen) (held : List ℕ) (new : Received) → new.failed ≡ true → new.ram ≡ r.ram → new.disks ≡ r.disks → new.sizes ≡ sizes_in r.disks → new.marks ≡ all_marks_in r.disks → new.place ≡ place_in r.aside r.stage → IsGivenUp (received_with r held) new
+given_back_as r held new failed ram disks sizes marks place = record { failed = failed; ram = ram; disks = disks; sizes = sizes; marks = marks; place = place }
+
+-- A receiver that has read the digest has come to the end of a whole stream.
+pub has_come : (r : ReaderSeen) (held : List ℕ) (room lacking : ℕ) (i : Intake) → IsReceiver r held room lacking → r.stage ≡ stages.Records i → i.ended ≡ true → (front : List ℕ) × HasCome r.ram r.disks front i
+has_come r held room lacking i kept is done =
+    let some = kept.known (ap has_failed is) in
+    let known : IsKnownIn i.ended r.ram r.disks r.digest some.0 held i = subst (λ (stage : Stage). IsKnown r.ram r.disks r.digest some.0 held stage) is some.1 in
+    let ended : IsKnownIn true r.ram r.disks r.digest some.0 held i = subst (λ (b : Bool). IsKnownIn b r.ram r.disks r.digest some.0 held i) done known in
+    (some.0, ended.1)
+
+-- The end of a stream that is cut off, and an end after a refusal.
+pub ends_cut : (r : ReaderSeen) (held : List ℕ) (back : Received) → has_failed r.stage ≡ false → has_ended r.stage ≡ false → ((b : List ℕ) → HasBeenFed (received_with r held) b → IsFinish b Truncated) → IsGivenUp (received_with r held) back
+    → FinishesOrBack (received_with r held) (Err (Truncated, back))
+ends_cut r held back on not_yet refused given = record {
+  arrived = tt;
+  received = tt;
+  marks = tt;
+  based = tt;
+  fits = tt;
+  refused = refused;
+  whole = tt;
+  told = ap end_error (sym on);
+  lacking = λ is b f. not_whole_taken r.ram r.disks r.digest b held r.stage f.bytes not_yet f.taken;
+  place = tt;
+  already = λ f. absurd (true_false _ f on);
+  goes_on = tt;
+  back = given;
+}
+
+pub ends_again : (r : ReaderSeen) (held : List ℕ) (back : Received) → has_failed r.stage ≡ true → IsGivenUp (received_with r held) back → FinishesOrBack (received_with r held) (Err (AlreadyFailed, back))
+ends_again r held back failed given = record {
+  arrived = tt;
+  received = tt;
+  marks = tt;
+  based = tt;
+  fits = tt;
+  refused = λ b f. absurd (true_false _ failed f.goes_on);
+  whole = tt;
+  told = ap end_error (sym failed);
+  lacking = λ is. absurd cc;
+  place = tt;
+  already = λ f. refl;
+  goes_on = tt;
+  back = given;
+}

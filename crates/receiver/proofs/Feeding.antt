@@ -16,7 +16,7 @@ use Rattle.receiver.specs.Calls.{Feeds, IsNew}
 use Rattle.receiver.specs.Disks.{AreKept, AreRefused, MarksRefused, all_marks_in, disk_marks_of, sizes_in, sizes_of}
 use Rattle.receiver.specs.Faults.{Fault}
 use Rattle.receiver.specs.Reading.{IsFirst, TakesPiece}
-use Rattle.receiver.specs.Receiving.{HasBeenFed, IsGivenUp, IsPastHead, IsKnown, IsReceiver, IsTaken, Knows, NoFault, ReaderSeen, Received, TellsFault, TellsNow, has_failed, place_aside, place_in, received_by, received_with}
+use Rattle.receiver.specs.Receiving.{HasBeenFed, IsPastHead, IsKnown, IsReceiver, IsTaken, Knows, NoFault, ReaderSeen, Received, TellsFault, TellsNow, has_failed, place_aside, place_in, received_by, received_with}
 use Rattle.receiver.specs.Waiting.{LacksBytes}
 use Rattle.receiver.specs.declared.stage.Stage.{Stage}
 use Rattle.receiver.specs.declared.stage.Stage.TheVariants as stages
@@ -208,11 +208,3 @@ first_receiver r held room f none = record {
   roomy = λ past. absurd (subst IsPastHead f.stage past);
   lacks = λ some. absurd (omega (arith, some));
 }
-
--- What contracts see of a reader with these fields.
-abbrev pub seen_of : RamTerms → List DiskState → Option Memory → Option RoomSeen → Sha256 → Stage → ReaderSeen
-seen_of ram disks aside room digest stage = record { ram = ram; disks = disks; aside = aside; room = room; digest = digest; stage = stage }
-
--- A receiver that is given back.
-pub given_back_as : (r : ReaderSeen) (held : List ℕ) (new : Received) → new.failed ≡ true → new.ram ≡ r.ram → new.disks ≡ r.disks → new.sizes ≡ sizes_in r.disks → new.marks ≡ all_marks_in r.disks → new.place ≡ place_in r.aside r.stage → IsGivenUp (received_with r held) new
-given_back_as r held new failed ram disks sizes marks place = record { failed = failed; ram = ram; disks = disks; sizes = sizes; marks = marks; place = place }

@@ -1,5 +1,4 @@
-use Rattle.std.proofs.Common.{arith, true, false, length, refl, Bool, List, ℕ, ◌≡◌, ◌++◌, ap, map, sym, subst, ◌∙◌, Option}
-use Rattle.blk.specs.Disk.{DiskState}
+use Rattle.std.proofs.Common.{arith, false, length, refl, Bool, ◌≡◌, ◌++◌, ap, map, sym, subst, ◌∙◌}
 use Rattle.guestmem.specs.Memory.{Memory}
 use Rattle.machine.specs.First.{dealt_marks}
 use Rattle.machine.specs.Room.{RoomSeen}
@@ -9,12 +8,12 @@ use Rattle.machine.specs.State.{MachineState, base_of}
 use Rattle.wire.specs.Stream.{shapes_in}
 use Rattle.receiver.specs.Fed.{IsKnownIn}
 use Rattle.receiver.specs.Reading.{IsReader}
-use Rattle.receiver.specs.Receiving.{HasBeenFed, IsKnown, IsReceiver, IsTaken, ReaderSeen, Received, end_error, has_ended, has_failed, place_in, received_with}
+use Rattle.receiver.specs.Receiving.{IsTaken, has_ended, has_failed, place_in}
 use Rattle.receiver.specs.declared.ram_terms.RamTerms.{RamTerms}
 use Rattle.receiver.specs.declared.stage.Stage.{Stage}
 use Rattle.receiver.specs.declared.stage.Stage.TheVariants as stages
-use Rattle.receiver.proofs.Ending.{not_whole_taken}
-use Rattle.receiver.proofs.Feeding.{given_back_as, marks_mapped, same_room, seen_of, true_false}
+use Rattle.receiver.proofs.Ending.{ends_again, ends_cut, given_back_as, has_come, seen_of}
+use Rattle.receiver.proofs.Feeding.{marks_mapped, same_room, true_false}
 use Rattle.receiver.proofs.Knowing.{any_arrived, come_of, here_sound, read_based, whole_come, whole_shapes, whole_stream}
 use Rattle.receiver.proofs.Sectors.{marks_count}
 use Rattle.receiver.proofs.Steps.{devices_are}
@@ -24,72 +23,48 @@ use Rattle.receiver.proofs.receiver.Receiver.finish_or_back.Goals as goal
 pub restore_in-requires-clause-sound : goal.restore_in-requires-clause-sound
 restore_in-requires-clause-sound g c =
     let r = c.reader.inside in
-    let ds = map g.D.Disk.state r.disks.items in
-    let kept : IsReceiver (seen_of r.ram ds r.aside r.room r.digest r.stage) c.self.inside.held.items _ _ = rw (← c.reader.view_is) at c.self.invariant in
-    let stage = subst (λ (stage : Stage). (has_failed stage ≡ false) → (front : List ℕ) × IsKnown r.ram ds r.digest front c.self.inside.held.items stage) c.in-Records.is kept.known in
-    let some = stage refl in
-    let known : IsKnownIn true r.ram ds r.digest some.0 c.self.inside.held.items c.in-Records.intake = subst (λ (b : Bool). IsKnownIn b r.ram ds r.digest some.0 c.self.inside.held.items c.in-Records.intake) c.if-not-intake.false some.1 in
-    let h = known.1 in
+    let s = seen_of r.ram (map g.D.Disk.state r.disks.items) r.aside r.room r.digest r.stage in
+    let h = (has_come s c.self.inside.held.items _ _ c.in-Records.intake (rw (← c.reader.view_is) at c.self.invariant) c.in-Records.is c.if-not-intake.false).1 in
     rw c.into_ram-ram.ensures (here_sound h.ended.read (h.ended.complete.devices refl) c.recall.ensures.bytes (rw c.deref.ensures.value at c.recall_disks.ensures))
 
 pub restore_in-requires-clause-shapes : goal.restore_in-requires-clause-shapes
 restore_in-requires-clause-shapes g c =
     let r = c.reader.inside in
-    let ds = map g.D.Disk.state r.disks.items in
-    let kept : IsReceiver (seen_of r.ram ds r.aside r.room r.digest r.stage) c.self.inside.held.items _ _ = rw (← c.reader.view_is) at c.self.invariant in
-    let stage = subst (λ (stage : Stage). (has_failed stage ≡ false) → (front : List ℕ) × IsKnown r.ram ds r.digest front c.self.inside.held.items stage) c.in-Records.is kept.known in
-    let some = stage refl in
-    let known : IsKnownIn true r.ram ds r.digest some.0 c.self.inside.held.items c.in-Records.intake = subst (λ (b : Bool). IsKnownIn b r.ram ds r.digest some.0 c.self.inside.held.items c.in-Records.intake) c.if-not-intake.false some.1 in
-    let h = known.1 in
+    let s = seen_of r.ram (map g.D.Disk.state r.disks.items) r.aside r.room r.digest r.stage in
+    let h = (has_come s c.self.inside.held.items _ _ c.in-Records.intake (rw (← c.reader.view_is) at c.self.invariant) c.in-Records.is c.if-not-intake.false).1 in
     h.ended.read.shapes_are ∙ sym (whole_shapes h.ended.read (h.ended.complete.devices refl))
 
 pub restore_in-requires-clause-bad : goal.restore_in-requires-clause-bad
 restore_in-requires-clause-bad g c =
     let r = c.reader.inside in
-    let ds = map g.D.Disk.state r.disks.items in
-    let kept : IsReceiver (seen_of r.ram ds r.aside r.room r.digest r.stage) c.self.inside.held.items _ _ = rw (← c.reader.view_is) at c.self.invariant in
-    let stage = subst (λ (stage : Stage). (has_failed stage ≡ false) → (front : List ℕ) × IsKnown r.ram ds r.digest front c.self.inside.held.items stage) c.in-Records.is kept.known in
-    let some = stage refl in
-    let known : IsKnownIn true r.ram ds r.digest some.0 c.self.inside.held.items c.in-Records.intake = subst (λ (b : Bool). IsKnownIn b r.ram ds r.digest some.0 c.self.inside.held.items c.in-Records.intake) c.if-not-intake.false some.1 in
-    let h = known.1 in
+    let s = seen_of r.ram (map g.D.Disk.state r.disks.items) r.aside r.room r.digest r.stage in
+    let h = (has_come s c.self.inside.held.items _ _ c.in-Records.intake (rw (← c.reader.view_is) at c.self.invariant) c.in-Records.is c.if-not-intake.false).1 in
     h.ended.read.written.marks
 
 pub restore_in-requires-clause-devices : goal.restore_in-requires-clause-devices
 restore_in-requires-clause-devices g c =
     let r = c.reader.inside in
-    let ds = map g.D.Disk.state r.disks.items in
-    let kept : IsReceiver (seen_of r.ram ds r.aside r.room r.digest r.stage) c.self.inside.held.items _ _ = rw (← c.reader.view_is) at c.self.invariant in
-    let stage = subst (λ (stage : Stage). (has_failed stage ≡ false) → (front : List ℕ) × IsKnown r.ram ds r.digest front c.self.inside.held.items stage) c.in-Records.is kept.known in
-    let some = stage refl in
-    let known : IsKnownIn true r.ram ds r.digest some.0 c.self.inside.held.items c.in-Records.intake = subst (λ (b : Bool). IsKnownIn b r.ram ds r.digest some.0 c.self.inside.held.items c.in-Records.intake) c.if-not-intake.false some.1 in
-    let h = known.1 in
-    let room = (subst (λ (stage : Stage). IsReader r.ram ds r.aside r.room stage) c.in-Records.is c.reader.invariant).2 in
+    let s = seen_of r.ram (map g.D.Disk.state r.disks.items) r.aside r.room r.digest r.stage in
+    let h = (has_come s c.self.inside.held.items _ _ c.in-Records.intake (rw (← c.reader.view_is) at c.self.invariant) c.in-Records.is c.if-not-intake.false).1 in
+    let room = (subst (λ (stage : Stage). IsReader s.ram s.disks s.aside s.room stage) c.in-Records.is c.reader.invariant).2 in
     let count : length c.in-Records.intake.shapes.items ≡ length c.in-Records.intake.devices.items = ap length h.ended.read.shapes_are ∙ sym (h.ended.complete.devices refl) ∙ devices_are h.ended.read in
     ap (λ (r : RoomSeen). r.devices) (same_room c.unwrap-room.ensures room) ∙ count
 
 pub restore_in-requires-clause-disks : goal.restore_in-requires-clause-disks
 restore_in-requires-clause-disks g c =
     let r = c.reader.inside in
-    let ds = map g.D.Disk.state r.disks.items in
-    let kept : IsReceiver (seen_of r.ram ds r.aside r.room r.digest r.stage) c.self.inside.held.items _ _ = rw (← c.reader.view_is) at c.self.invariant in
-    let stage = subst (λ (stage : Stage). (has_failed stage ≡ false) → (front : List ℕ) × IsKnown r.ram ds r.digest front c.self.inside.held.items stage) c.in-Records.is kept.known in
-    let some = stage refl in
-    let known : IsKnownIn true r.ram ds r.digest some.0 c.self.inside.held.items c.in-Records.intake = subst (λ (b : Bool). IsKnownIn b r.ram ds r.digest some.0 c.self.inside.held.items c.in-Records.intake) c.if-not-intake.false some.1 in
-    let h = known.1 in
-    let room = (subst (λ (stage : Stage). IsReader r.ram ds r.aside r.room stage) c.in-Records.is c.reader.invariant).2 in
+    let s = seen_of r.ram (map g.D.Disk.state r.disks.items) r.aside r.room r.digest r.stage in
+    let h = (has_come s c.self.inside.held.items _ _ c.in-Records.intake (rw (← c.reader.view_is) at c.self.invariant) c.in-Records.is c.if-not-intake.false).1 in
+    let room = (subst (λ (stage : Stage). IsReader s.ram s.disks s.aside s.room stage) c.in-Records.is c.reader.invariant).2 in
     let count = marks_count _ c.in-Records.intake.bad.items h.ended.read.written.marks in
     omega (arith, count, ap (λ (r : RoomSeen). r.disks) (same_room c.unwrap-room.ensures room))
 
 pub returns-in-Records : goal.returns-in-Records
 returns-in-Records g c =
     let r = c.reader.inside in
-    let ds = map g.D.Disk.state r.disks.items in
-    let kept : IsReceiver (seen_of r.ram ds r.aside r.room r.digest r.stage) c.self.inside.held.items _ _ = rw (← c.reader.view_is) at c.self.invariant in
-    let stage = subst (λ (stage : Stage). (has_failed stage ≡ false) → (front : List ℕ) × IsKnown r.ram ds r.digest front c.self.inside.held.items stage) c.in-Records.is kept.known in
-    let some = stage refl in
-    let known : IsKnownIn true r.ram ds r.digest some.0 c.self.inside.held.items c.in-Records.intake = subst (λ (b : Bool). IsKnownIn b r.ram ds r.digest some.0 c.self.inside.held.items c.in-Records.intake) c.if-not-intake.false some.1 in
-    let h = known.1 in
-    let come = λ b (t : IsTaken r.ram ds r.digest b c.self.inside.held.items r.stage). come_of r.ram ds r.digest b c.self.inside.held.items c.in-Records.intake c.if-not-intake.false (subst (λ (stage : Stage). IsTaken r.ram ds r.digest b c.self.inside.held.items stage) c.in-Records.is t) in
+    let s = seen_of r.ram (map g.D.Disk.state r.disks.items) r.aside r.room r.digest r.stage in
+    let h = (has_come s c.self.inside.held.items _ _ c.in-Records.intake (rw (← c.reader.view_is) at c.self.invariant) c.in-Records.is c.if-not-intake.false).1 in
+    let come = λ b (t : IsTaken s.ram s.disks s.digest b c.self.inside.held.items s.stage). come_of s.ram s.disks s.digest b c.self.inside.held.items c.in-Records.intake c.if-not-intake.false (subst (λ (stage : Stage). IsTaken s.ram s.disks s.digest b c.self.inside.held.items stage) c.in-Records.is t) in
     let on : has_failed r.stage ≡ false = ap has_failed c.in-Records.is in
     let shapes : c.in-Records.intake.shapes.items ≡ shapes_in (state_of c.restore_in.result).devices =
     h.ended.read.shapes_are ∙ sym (whole_shapes h.ended.read (h.ended.complete.devices refl)) ∙ sym (ap (λ (m : MachineState). shapes_in m.devices) c.restore_in.ensures.restored) in
@@ -104,7 +79,7 @@ returns-in-Records g c =
       based = ap (λ (m : MachineState). base_of m.devices) c.restore_in.ensures.restored ∙ read_based h.ended.read (h.ended.complete.devices refl) ∙ ap (λ (t : RamTerms). t.base) h.based;
       fits = h.ended.read.fits ∙ ap disk_sizes (sym h.ended.read.shapes_are) ∙ ap disk_sizes shapes;
       refused = tt;
-      whole = λ b f. whole_come r.ram ds b c.in-Records.intake (come b f.taken);
+      whole = λ b f. whole_come s.ram s.disks b c.in-Records.intake (come b f.taken);
       told = tt;
       lacking = λ is. absurd is;
       place = c.restore_in.ensures.place ∙ ap (λ (m : Memory). m.place) c.into_ram-ram.ensures ∙ sym (ap (place_in r.aside) c.in-Records.is);
@@ -117,70 +92,37 @@ returns-in-Records g c =
 pub returns-then-not-intake : goal.returns-then-not-intake
 returns-then-not-intake g c =
     let r = c.reader.inside in
-    let ds = map g.D.Disk.state r.disks.items in
-    let on : has_failed r.stage ≡ false = ap has_failed c.in-Records.is in
-    let not_yet : has_ended r.stage ≡ false = ap has_ended c.in-Records.is ∙ c.if-not-intake.true in
-    rw (← c.self.view_is, ← c.reader.view_is) (record {
-      arrived = tt;
-      received = tt;
-      marks = tt;
-      based = tt;
-      fits = tt;
-      refused = λ b f m s.
-          let t : IsTaken r.ram ds r.digest b c.self.inside.held.items (stages.Records c.in-Records.intake) = subst (λ (stage : Stage). IsTaken r.ram ds r.digest b c.self.inside.held.items stage) c.in-Records.is f.taken in
-          let known : IsKnownIn false r.ram ds r.digest t.front c.self.inside.held.items c.in-Records.intake = subst (λ (b : Bool). IsKnownIn b r.ram ds r.digest t.front c.self.inside.held.items c.in-Records.intake) c.if-not-intake.true t.known in
-          no_stream_reading r.ram _ t.front c.self.inside.held.items b c.in-Records.intake m f.bytes t.whole known.1 s;
-      whole = tt;
-      told = ap end_error (sym on);
-      lacking = λ is b f. not_whole_taken r.ram ds r.digest b c.self.inside.held.items r.stage f.bytes not_yet f.taken;
-      place = tt;
-      already = λ f. absurd (true_false _ f on);
-      goes_on = tt;
-      back = given_back_as (seen_of r.ram ds r.aside r.room r.digest r.stage) c.self.inside.held.items c.given_up.result c.given_up.ensures.failed c.given_up.ensures.ram c.given_up.ensures.disks c.given_up.ensures.sizes c.given_up.ensures.marks (c.given_up.ensures.place ∙ sym (ap (place_in r.aside) c.in-Records.is));
-    })
+    let s = seen_of r.ram (map g.D.Disk.state r.disks.items) r.aside r.room r.digest r.stage in
+    let held = c.self.inside.held.items in
+    let new = c.given_up.ensures in
+    let not_yet : has_ended s.stage ≡ false = ap has_ended c.in-Records.is ∙ c.if-not-intake.true in
+    rw (← c.self.view_is, ← c.reader.view_is)
+    (ends_cut s held c.given_up.result (ap has_failed c.in-Records.is) not_yet
+    (λ b f m stream.
+    let t : IsTaken s.ram s.disks s.digest b held (stages.Records c.in-Records.intake) = subst (λ (stage : Stage). IsTaken s.ram s.disks s.digest b held stage) c.in-Records.is f.taken in
+    let known : IsKnownIn false s.ram s.disks s.digest t.front held c.in-Records.intake = subst (λ (ended : Bool). IsKnownIn ended s.ram s.disks s.digest t.front held c.in-Records.intake) c.if-not-intake.true t.known in
+    no_stream_reading s.ram _ t.front held b c.in-Records.intake m f.bytes t.whole known.1 stream)
+    (given_back_as s held c.given_up.result new.failed new.ram new.disks new.sizes new.marks (new.place ∙ sym (ap (place_in s.aside) c.in-Records.is))))
 
 pub returns-in-Failed : goal.returns-in-Failed
 returns-in-Failed g c =
     let r = c.reader.inside in
-    let ds = map g.D.Disk.state r.disks.items in
-    let failed : has_failed r.stage ≡ true = ap has_failed c.in-Failed.is in
-    rw (← c.self.view_is, ← c.reader.view_is) (record {
-      arrived = tt;
-      received = tt;
-      marks = tt;
-      based = tt;
-      fits = tt;
-      refused = λ b f. absurd (true_false _ failed f.goes_on);
-      whole = tt;
-      told = ap end_error (sym failed);
-      lacking = λ is. absurd cc;
-      place = tt;
-      already = λ f. refl;
-      goes_on = tt;
-      back = given_back_as (seen_of r.ram ds r.aside r.room r.digest r.stage) c.self.inside.held.items c.given_up-in-Failed.result c.given_up-in-Failed.ensures.failed c.given_up-in-Failed.ensures.ram c.given_up-in-Failed.ensures.disks c.given_up-in-Failed.ensures.sizes c.given_up-in-Failed.ensures.marks (c.given_up-in-Failed.ensures.place ∙ sym (ap (place_in r.aside) c.in-Failed.is));
-    })
+    let s = seen_of r.ram (map g.D.Disk.state r.disks.items) r.aside r.room r.digest r.stage in
+    let held = c.self.inside.held.items in
+    let new = c.given_up-in-Failed.ensures in
+    rw (← c.self.view_is, ← c.reader.view_is)
+    (ends_again s held c.given_up-in-Failed.result (ap has_failed c.in-Failed.is) (given_back_as s held c.given_up-in-Failed.result new.failed new.ram new.disks new.sizes new.marks (new.place ∙ sym (ap (place_in s.aside) c.in-Failed.is))))
 
 pub returns : goal.returns
 returns g c =
     let r = c.reader.inside in
-    let ds = map g.D.Disk.state r.disks.items in
-    let on : has_failed r.stage ≡ false = ap has_failed c.in-Head.is in
-    let not_yet : has_ended r.stage ≡ false = ap has_ended c.in-Head.is in
-    rw (← c.self.view_is, ← c.reader.view_is) (record {
-      arrived = tt;
-      received = tt;
-      marks = tt;
-      based = tt;
-      fits = tt;
-      refused = λ b f m s.
-          let t : IsTaken r.ram ds r.digest b c.self.inside.held.items stages.Head = subst (λ (stage : Stage). IsTaken r.ram ds r.digest b c.self.inside.held.items stage) c.in-Head.is f.taken in
-          let same : b ≡ c.self.inside.held.items = t.whole ∙ ap (λ x. x ++ c.self.inside.held.items) t.known.0 in
-          no_stream_head c.self.inside.held.items m t.known.2 (rw same at s);
-      whole = tt;
-      told = ap end_error (sym on);
-      lacking = λ is b f. not_whole_taken r.ram ds r.digest b c.self.inside.held.items r.stage f.bytes not_yet f.taken;
-      place = tt;
-      already = λ f. absurd (true_false _ f on);
-      goes_on = tt;
-      back = given_back_as (seen_of r.ram ds r.aside r.room r.digest r.stage) c.self.inside.held.items c.given_up-in-Head.result c.given_up-in-Head.ensures.failed c.given_up-in-Head.ensures.ram c.given_up-in-Head.ensures.disks c.given_up-in-Head.ensures.sizes c.given_up-in-Head.ensures.marks (c.given_up-in-Head.ensures.place ∙ sym (ap (place_in r.aside) c.in-Head.is));
-    })
+    let s = seen_of r.ram (map g.D.Disk.state r.disks.items) r.aside r.room r.digest r.stage in
+    let held = c.self.inside.held.items in
+    let new = c.given_up-in-Head.ensures in
+    rw (← c.self.view_is, ← c.reader.view_is)
+    (ends_cut s held c.given_up-in-Head.result (ap has_failed c.in-Head.is) (ap has_ended c.in-Head.is)
+    (λ b f m stream.
+    let t : IsTaken s.ram s.disks s.digest b held stages.Head = subst (λ (stage : Stage). IsTaken s.ram s.disks s.digest b held stage) c.in-Head.is f.taken in
+    let same : b ≡ held = t.whole ∙ ap (λ x. x ++ held) t.known.0 in
+    no_stream_head held m t.known.2 (rw same at stream))
+    (given_back_as s held c.given_up-in-Head.result new.failed new.ram new.disks new.sizes new.marks (new.place ∙ sym (ap (place_in s.aside) c.in-Head.is))))
