@@ -138,9 +138,8 @@ worked_on old mid new front bytes start at j disks ram stage w =
     let text = more_taken front bytes start at in
     let rest = drop-drop at start bytes in
     let moved : IsKnownIn j.ended mid.ram new.disks new.digest (front ++ take (start + at) bytes) (drop (start + at) bytes) j = subst (λ (x : List ℕ). IsKnownIn j.ended mid.ram new.disks new.digest (front ++ take (start + at) bytes) x j) rest
-        (subst (λ (x : List ℕ). IsKnownIn j.ended mid.ram new.disks new.digest x (drop at (drop start bytes)) j) text w.1) in
-    let known : IsKnown mid.ram new.disks new.digest (front ++ take (start + at) bytes) (drop (start + at) bytes) new.stage = subst (λ (stage : Stage). IsKnown mid.ram new.disks new.digest (front ++ take (start + at) bytes) (drop (start + at) bytes) stage) (sym stage) moved in
-    (
+    (subst (λ (x : List ℕ). IsKnownIn j.ended mid.ram new.disks new.digest x (drop at (drop start bytes)) j) text w.1) in
+    let known : IsKnown mid.ram new.disks new.digest (front ++ take (start + at) bytes) (drop (start + at) bytes) new.stage = subst (λ (stage : Stage). IsKnown mid.ram new.disks new.digest (front ++ take (start + at) bytes) (drop (start + at) bytes) stage) (sym stage) moved in (
       subst (λ (ds : List DiskState). AreKept ds new.disks) disks w.0,
       subst (λ (t : RamTerms). IsKnown t new.disks new.digest (front ++ take (start + at) bytes) (drop (start + at) bytes) new.stage) (sym ram) known,
     )
@@ -160,8 +159,7 @@ pub head_waits : (old mid : ReaderSeen) (front held bytes : List ℕ) (start : �
 head_waits old mid front held bytes start k o was is =
     let known : IsKnown old.ram old.disks old.digest front held stages.Head = subst (λ (stage : Stage). IsKnown old.ram old.disks old.digest front held stage) was k in
     let knows : Knows old [] held = subst (λ (x : List ℕ). Knows old x held) known.0 k in
-    let waits : HeaderAt old bytes (Ok start) mid stages.Head = subst (λ (stage : Stage). HeaderAt old bytes (Ok start) mid stage) is (o.opened held was knows) in
-    (
+    let waits : HeaderAt old bytes (Ok start) mid stages.Head = subst (λ (stage : Stage). HeaderAt old bytes (Ok start) mid stage) is (o.opened held was knows) in (
       subst (λ (ds : List DiskState). AreKept old.disks ds) (sym o.disks) (kept old.disks),
       subst (λ (stage : Stage). IsKnown mid.ram mid.disks mid.digest (front ++ take 0 bytes) (drop 0 bytes) stage) (sym is) (append-nil front ∙ known.0, subst (λ (d : Sha256). Holds256 d []) (sym waits.2) known.1, waits.1),
     )
@@ -183,8 +181,7 @@ head_refused_as old mid new front held bytes e k o f = by_stage old.stage refl k
     by_stage stages.Head is known =
         let knows : Knows old [] held = subst (λ (x : List ℕ). Knows old x held) known.0 k in
         let t = o.opened held is knows in
-        let text : bytes ≡ front ++ bytes = ap (λ (x : List ℕ). x ++ bytes) (sym known.0) in
-        (
+        let text : bytes ≡ front ++ bytes = ap (λ (x : List ℕ). x ++ bytes) (sym known.0) in (
           subst (λ (ds : List DiskState). AreRefused old.disks ds e) (sym f.disks) t.0,
           tells_more _ _ e (λ x. subst (λ (b : List ℕ). (at : ℕ) × Fault old.ram (sizes_in old.disks) b e at) text x) t.1,
         )

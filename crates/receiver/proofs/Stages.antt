@@ -140,8 +140,7 @@ pub trailing_in : (ram : RamTerms) (old ds : List DiskState) (i : Intake) (diges
 trailing_in ram old ds i digest front bytes at done more s =
     let come : HasCome ram ds (front ++ take at bytes) i = subst (λ (b : Bool). IsUpTo b ram ds digest (front ++ take at bytes) i) done s.known in
     let t = trailing_piece ram ds (front ++ take at bytes) (drop at bytes) i come (omega (arith, more, length-drop at bytes)) in
-    let parts : (front ++ take at bytes) ++ drop at bytes ≡ front ++ bytes = sym (cut front bytes at) in
-    (
+    let parts : (front ++ take at bytes) ++ drop at bytes ≡ front ++ bytes = sym (cut front bytes at) in (
       then_refused old ds ds errors.Trailing s.same t.0,
       subst (λ (sizes : List ℕ). (k : ℕ) × Fault ram sizes (front ++ bytes) errors.Trailing k) s.same.sizes (subst (λ (x : List ℕ). (k : ℕ) × Fault ram (sizes_in ds) x errors.Trailing k) parts t.1),
     )

@@ -193,8 +193,7 @@ followed_by old ds opening before new front tail behind head (Ok true) on o long
     let many : length body ≡ body_len head = omega (arith, long refl, length-take (body_len head) behind) in
     let whole : tail ≡ spelled_head head ++ (body ++ drop (body_len head) behind) = o.whole ∙ ap (λ (x : List ℕ). spelled_head head ++ x) (sym (take-append-drop (body_len head) behind)) in
     let text : take (length (spelled_head head) + body_len head) tail ≡ spelled_record (record_behind head behind) =
-    ap (λ (n : ℕ). take (length (spelled_head head) + n) tail) (sym many) ∙ taken_with tail body (drop (body_len head) behind) head whole many in
-    (
+    ap (λ (n : ℕ). take (length (spelled_head head) + n) tail) (sym many) ∙ taken_with tail body (drop (body_len head) behind) head whole many in (
       t.0,
       subst (λ (b : Bool). TookRecord b ds opening before new front tail (length (spelled_head head) + body_len head)) (sym on)
           (record_behind head behind, subst (λ (x : List ℕ). HasRead ds opening (before ++ record_behind head behind ∷ []) new (front ++ x)) (sym text) t.1),

@@ -65,12 +65,7 @@ impl<D: Disk + Drop> Reader<D> {
     ghost use Rattle.receiver.specs.Waiting.{LacksBytes};
 
     /// A reader that has read nothing. It takes no memory.
-    pub fn new(
-        alloc: Global,
-        disks: Vec<D>,
-        ram: RamTerms,
-        aside: Option<ArrivingRam>,
-    ) -> Reader<D>
+    pub fn new(alloc: Global, disks: Vec<D>, ram: RamTerms, aside: Option<ArrivingRam>) -> Reader<D>
         requires { ram.len ≡ length_aside aside }
         ensures { IsFirst ram (map D.state disks.items) aside result }
     {
@@ -168,7 +163,8 @@ impl<D: Disk + Drop> Reader<D> {
             return Err(RecvError::NoMemory);
         };
         let len = heading.len;
-        let Ok(intake) = new_intake(self.alloc, self.ram, &mut self.aside, &self.disks, heading) else {
+        let Ok(intake) = new_intake(self.alloc, self.ram, &mut self.aside, &self.disks, heading)
+        else {
             return Err(RecvError::NoMemory);
         };
         let (header, _) = bytes.split_at(len);

@@ -11,9 +11,11 @@ returns-then-behind-DIGEST_LEN-clause-closed c = λ ds front tail opening before
 pub returns-then-not-is_digest-clause-closed : goal.returns-then-not-is_digest-clause-closed
 returns-then-not-is_digest-clause-closed c = λ ds front tail opening before are d h o.
     let digest : c.split_at.result.0.now ≡ take 32 c.args.behind.now = search rules in
-    let many : length c.split_at.result.0.now ≡ 32 = search rules in
-    (refl, digest_refused opening before tail c.args.behind.now o (rw digest at many)
-    (λ same. not_both_ways c.is_digest.result ((c.is_digest.ensures front d).1 (rw (digest, same, ← h.whole) refl)) c.if-not-is_digest.true))
+    let many : length c.split_at.result.0.now ≡ 32 = search rules in (
+      refl,
+      digest_refused opening before tail c.args.behind.now o (rw digest at many)
+          (λ same. not_both_ways c.is_digest.result ((c.is_digest.ensures front d).1 (rw (digest, same, ← h.whole) refl)) c.if-not-is_digest.true),
+    )
 
 pub returns-clause-closed : goal.returns-clause-closed
 returns-clause-closed c = λ ds front tail opening before are d h o.

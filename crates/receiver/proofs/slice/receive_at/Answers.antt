@@ -27,7 +27,7 @@ pub returns-in-Ok : goal.returns-in-Ok
 returns-in-Ok g c = record {
   arrived = c.in-Ok.ensures.arrived c.args.bytes.now (c.in_default.ensures.fed [] c.new_at-receiver.ensures.fed);
   received =
-   λ honest.
+      λ honest.
       let fed = c.in_default.ensures.fed [] c.new_at-receiver.ensures.fed in
       let m = state_of c.in-Ok.machine in
       let same : c.feed.new.self.marks ≡ disk_marks_of g.D.Disk.state c.args.disks.items = c.in_default.ensures.marks ∙ c.new_at-receiver.ensures.marks in

@@ -87,5 +87,5 @@ returns g c =
           let known = rw head at k in
           let digested : Holds256 c.update.new.self (take len c.args.bytes.now) = rw c.split_at.ensures.front at (c.update.ensures [] known.1) in
           subst (λ (ended : Bool). IsUpTo ended i.ram ds c.update.new.self (take len c.args.bytes.now) c.in-Ok-new_intake.intake) (sym c.in-Ok-new_intake.ensures.goes_on)
-              (digested, record { opening = opened i.ram (said c.in-Ok-Some.heading); based = refl; before = []; read = rw front read });
+          (digested, record { opening = opened i.ram (said c.in-Ok-Some.heading); based = refl; before = []; read = rw front read });
     })
