@@ -1,5 +1,5 @@
 -- The rounds that ended in what was read, and what a slice is refused for.
-use Rattle.std.proofs.Common.{◌≡◌, ℕ, ◌<◌, ◌⊎◌, inl, inr, true, List, [], ◌∷◌, ◌++◌, refl, sym, ap, ◌∙◌, append_assoc, append-nil}
+use Rattle.std.proofs.Common.{◌≡◌, ℕ, ◌<◌, ◌⊎◌, inl, inr, Bool, true, false, List, [], ◌∷◌, ◌++◌, refl, sym, ap, ◌∙◌, append_assoc, append-nil}
 use Rattle.sha2.specs.Sha256.{sha256}
 use Rattle.sha2.specs.declared.Sha256.{Sha256}
 use Rattle.wire.specs.Records.{Record, spelled_record}
@@ -9,6 +9,8 @@ use Rattle.machine.specs.Seen.{Marks}
 use Rattle.receiver.specs.Disks.{MarksRefused, sizes_in}
 use Rattle.receiver.specs.Good.{AreGood}
 use Rattle.receiver.specs.Faults.{IsFront, Fault}
+use Rattle.receiver.specs.Fed.{IsKnownIn}
+use Rattle.receiver.specs.declared.intake.Intake.{Intake}
 use Rattle.receiver.specs.Receiving.{IsFinish, IsTaken, HasRounds, NoNext, NoFault, RefusesSlice, TellsFault, TellsNow, rounds_in, has_failed}
 use Rattle.receiver.specs.declared.stage.Stage.{Stage}
 use Rattle.receiver.specs.declared.stage.Stage.TheVariants as stages
@@ -16,7 +18,7 @@ use Rattle.receiver.specs.declared.ram_terms.RamTerms.{RamTerms}
 use Rattle.receiver.specs.declared.recv_error.RecvError.{RecvError}
 use Rattle.receiver.specs.declared.recv_error.RecvError.TheVariants as errors
 use Rattle.receiver.proofs.Aligned.{LongerRecords, one_opening, records_led, good_spell, next_good}
-use Rattle.receiver.proofs.Knowing.{come_of, no_other}
+use Rattle.receiver.proofs.Knowing.{no_other, none_held}
 use Rattle.receiver.proofs.Working.{front_at, front_of, commit_text, tells_more}
 use Rattle.receiver.specs.Opened.{Opened, ram_at, said_by}
 
@@ -45,25 +47,28 @@ rounds_by ram sizes b o before tail n f none e = record {
   some = λ p others rest g nothing. e ∙ ap rounds (sym (same_records ram sizes b o p before others tail rest f none g nothing));
 }
 
+rounds_in_intake : (ended : Bool) (ram : RamTerms) (ds : List DiskState) (digest : Sha256) (front bytes held : List ℕ) (i : Intake) → bytes ≡ front ++ held → IsKnownIn ended ram ds digest front held i → HasRounds ram (sizes_in ds) bytes i.rounds
+rounds_in_intake false ram ds digest front bytes held i parts k =
+    let r = k.1 in
+    let o = r.open_at in
+    rounds_by ram (sizes_in ds) bytes r.opening o.before held i.rounds (front_at r.based (front_of bytes held o.read parts)) (λ r y g e. o.waits.no_record r y g.spells g.has e) o.read.rounds_are
+rounds_in_intake true ram ds digest front bytes held i parts k =
+    let h = k.1 in
+    let w = h.ended in
+    let all : bytes ≡ front = parts ∙ none_held front held k.0 in
+    let whole : bytes ≡ w.front ++ (5 ∷ sha256 w.front) = all ∙ w.whole ∙ ap (λ (x : List ℕ). w.front ++ x) (commit_text (sha256 w.front)) in
+    rounds_by ram (sizes_in ds) bytes h.opening w.before (5 ∷ sha256 w.front) i.rounds (front_at h.based (front_of bytes (5 ∷ sha256 w.front) w.read whole)) (λ r y g e. no_other h.opening w.before (sha256 w.front) r y g e) w.read.rounds_are
+
 pub rounds_known : (ram : RamTerms) (ds : List DiskState) (digest : Sha256) (bytes held : List ℕ) (stage : Stage) → IsTaken ram ds digest bytes held stage → HasRounds ram (sizes_in ds) bytes (rounds_in stage)
 rounds_known ram ds digest bytes held stages.Head t =
     let same : bytes ≡ held = t.whole ∙ ap (λ (x : List ℕ). x ++ held) t.known.0 in
     rw same (record { none = λ never. refl; some = λ o before tail g none. absurd (t.known.2.no_header (said_by o) (texts before ++ tail) g.begins) })
-rounds_known ram ds digest bytes held (stages.Records i) t =
-    let r = t.known.1 in
-    let o = r.open_at in
-    rounds_by ram (sizes_in ds) bytes r.opening o.before held i.rounds (front_at r.based (front_of bytes held o.read t.whole)) (λ r y g e. o.waits.no_record r y g.spells g.has e) o.read.rounds_are
-rounds_known ram ds digest bytes held (stages.Ended i) t =
-    let h = come_of ram ds digest bytes held i t in
-    let w = h.ended in
-    let whole : bytes ≡ w.front ++ (5 ∷ sha256 w.front) = w.whole ∙ ap (λ (x : List ℕ). w.front ++ x) (commit_text (sha256 w.front)) in
-    rounds_by ram (sizes_in ds) bytes h.opening w.before (5 ∷ sha256 w.front) i.rounds (front_at h.based (front_of bytes (5 ∷ sha256 w.front) w.read whole)) (λ r y g e. no_other h.opening w.before (sha256 w.front) r y g e) w.read.rounds_are
+rounds_known ram ds digest bytes held (stages.Records i) t = rounds_in_intake i.ended ram ds digest t.front bytes held i t.whole t.known
 rounds_known ram ds digest bytes held stages.Failed t = absurd t.known
 
 pub none_failed : (stage : Stage) → has_failed stage ≡ true → rounds_in stage ≡ 0
 none_failed stages.Head e = refl
 none_failed (stages.Records i) e = absurd cc
-none_failed (stages.Ended i) e = absurd cc
 none_failed stages.Failed e = refl
 
 no_truncation : (ram : RamTerms) (sizes bytes : List ℕ) (at : ℕ) → ¬ (Fault ram sizes bytes errors.Truncated at)

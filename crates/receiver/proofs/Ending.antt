@@ -1,6 +1,6 @@
 -- Whether all of a stream was fed.
 use Rattle.receiver.specs.declared.ram_terms.RamTerms.{RamTerms}
-use Rattle.std.proofs.Common.{◌≡◌, ℕ, true, false, List, [], ◌∷◌, ◌++◌, refl, ap, sym, ◌∙◌, append_assoc, append-nil}
+use Rattle.std.proofs.Common.{◌≡◌, ℕ, Bool, true, false, List, [], ◌∷◌, ◌++◌, refl, ap, sym, subst, ◌∙◌, append_assoc, append-nil}
 use Rattle.std.proofs.lemmas.List.{append_cancel_left}
 use Rattle.sha2.specs.Sha256.{sha256}
 use Rattle.sha2.specs.declared.Sha256.{Sha256}
@@ -12,12 +12,20 @@ use Rattle.wire.specs.Stream.{texts}
 use Rattle.receiver.specs.Disks.{sizes_in}
 use Rattle.receiver.specs.Opened.{header, said_by}
 use Rattle.receiver.specs.Faults.{WaitsHead}
-use Rattle.receiver.specs.Receiving.{IsReading, IsTaken, IsWholeFor, NoNext, has_ended, has_failed}
+use Rattle.guestmem.specs.Memory.{Memory}
+use Rattle.machine.specs.Room.{RoomSeen}
+use Rattle.std.specs.Prelude.{Err, Option}
+use Rattle.receiver.specs.Calls.{FinishesOrBack}
+use Rattle.receiver.specs.Disks.{all_marks_in}
+use Rattle.receiver.specs.declared.recv_error.RecvError.TheVariants.{AlreadyFailed, Truncated}
+use Rattle.receiver.specs.Fed.{HasCome, IsKnownIn, IsReading}
+use Rattle.receiver.specs.Receiving.{HasBeenFed, IsFinish, IsGivenUp, IsKnown, IsReceiver, ReaderSeen, Received, end_error, place_in, received_with, IsTaken, IsWholeFor, NoNext, has_ended, has_failed}
 use Rattle.receiver.specs.declared.intake.Intake.{Intake}
 use Rattle.receiver.specs.declared.stage.Stage.{Stage}
 use Rattle.receiver.specs.declared.stage.Stage.TheVariants as stages
 use Rattle.receiver.proofs.Aligned.{one_opening}
 use Rattle.receiver.proofs.Counting.{same_records}
+use Rattle.receiver.proofs.Feeding.{true_false}
 use Rattle.receiver.proofs.Knowing.{come_of, no_other, whole_come}
 use Rattle.receiver.proofs.Streams.{digest_bytes}
 use Rattle.receiver.proofs.Working.{commit_text, front_at, front_of}
@@ -48,18 +56,69 @@ pub not_whole_taken : (ram : RamTerms) (ds : List DiskState) (digest : Sha256) (
 not_whole_taken ram ds digest bytes held stages.Head are not_yet t h =
     let same : bytes ≡ held = t.whole ∙ ap (λ (x : List ℕ). x ++ held) t.known.0 in
     not_whole_head ram (sizes_in ds) held t.known.2 (rw same at h)
-not_whole_taken ram ds digest bytes held (stages.Records i) are not_yet t h = not_whole_reading ram ds t.front held bytes i are t.whole t.known.1 h
-not_whole_taken ram ds digest bytes held (stages.Ended i) are not_yet t h = absurd cc
+not_whole_taken ram ds digest bytes held (stages.Records i) are not_yet t h =
+    let known : IsKnownIn false ram ds digest t.front held i = subst (λ (b : Bool). IsKnownIn b ram ds digest t.front held i) not_yet t.known in
+    not_whole_reading ram ds t.front held bytes i are t.whole known.1 h
 not_whole_taken ram ds digest bytes held stages.Failed are not_yet t h = t.known
 
 pub whole_taken : (ram : RamTerms) (ds : List DiskState) (digest : Sha256) (bytes held : List ℕ) (stage : Stage) → has_ended stage ≡ true → IsTaken ram ds digest bytes held stage → IsWholeFor ram (sizes_in ds) bytes
 whole_taken ram ds digest bytes held stages.Head done t = absurd cc
-whole_taken ram ds digest bytes held (stages.Records i) done t = absurd cc
-whole_taken ram ds digest bytes held (stages.Ended i) done t = whole_come ram ds bytes i (come_of ram ds digest bytes held i t)
+whole_taken ram ds digest bytes held (stages.Records i) done t = whole_come ram ds bytes i (come_of ram ds digest bytes held i done t)
 whole_taken ram ds digest bytes held stages.Failed done t = absurd cc
 
 pub not_ended : (stage : Stage) → has_failed stage ≡ true → has_ended stage ≡ false
 not_ended stages.Head e = refl
-not_ended (stages.Records i) e = refl
-not_ended (stages.Ended i) e = absurd cc
+not_ended (stages.Records i) e = absurd cc
 not_ended stages.Failed e = refl
+
+-- What contracts see of a reader with these fields.
+abbrev pub seen_of : RamTerms → List DiskState → Option Memory → Option RoomSeen → Sha256 → Stage → ReaderSeen
+seen_of ram disks aside room digest stage = record { ram = ram; disks = disks; aside = aside; room = room; digest = digest; stage = stage }
+
+-- A receiver that is given back.
+pub given_back_as : (r : ReaderSeen) (held : List ℕ) (new : Received) → new.failed ≡ true → new.ram ≡ r.ram → new.disks ≡ r.disks → new.sizes ≡ sizes_in r.disks → new.marks ≡ all_marks_in r.disks → new.place ≡ place_in r.aside r.stage → IsGivenUp (received_with r held) new
+given_back_as r held new failed ram disks sizes marks place = record { failed = failed; ram = ram; disks = disks; sizes = sizes; marks = marks; place = place }
+
+-- A receiver that has read the digest has come to the end of a whole stream.
+pub has_come : (r : ReaderSeen) (held : List ℕ) (room lacking : ℕ) (i : Intake) → IsReceiver r held room lacking → r.stage ≡ stages.Records i → i.ended ≡ true → (front : List ℕ) × HasCome r.ram r.disks front i
+has_come r held room lacking i kept is done =
+    let some = kept.known (ap has_failed is) in
+    let known : IsKnownIn i.ended r.ram r.disks r.digest some.0 held i = subst (λ (stage : Stage). IsKnown r.ram r.disks r.digest some.0 held stage) is some.1 in
+    let ended : IsKnownIn true r.ram r.disks r.digest some.0 held i = subst (λ (b : Bool). IsKnownIn b r.ram r.disks r.digest some.0 held i) done known in
+    (some.0, ended.1)
+
+-- The end of a stream that is cut off, and an end after a refusal.
+pub ends_cut : (r : ReaderSeen) (held : List ℕ) (back : Received) → has_failed r.stage ≡ false → has_ended r.stage ≡ false → ((b : List ℕ) → HasBeenFed (received_with r held) b → IsFinish b Truncated) → IsGivenUp (received_with r held) back
+    → FinishesOrBack (received_with r held) (Err (Truncated, back))
+ends_cut r held back on not_yet refused given = record {
+  arrived = tt;
+  received = tt;
+  marks = tt;
+  based = tt;
+  fits = tt;
+  refused = refused;
+  whole = tt;
+  told = ap end_error (sym on);
+  lacking = λ is b f. not_whole_taken r.ram r.disks r.digest b held r.stage f.bytes not_yet f.taken;
+  place = tt;
+  already = λ f. absurd (true_false _ f on);
+  goes_on = tt;
+  back = given;
+}
+
+pub ends_again : (r : ReaderSeen) (held : List ℕ) (back : Received) → has_failed r.stage ≡ true → IsGivenUp (received_with r held) back → FinishesOrBack (received_with r held) (Err (AlreadyFailed, back))
+ends_again r held back failed given = record {
+  arrived = tt;
+  received = tt;
+  marks = tt;
+  based = tt;
+  fits = tt;
+  refused = λ b f. absurd (true_false _ failed f.goes_on);
+  whole = tt;
+  told = ap end_error (sym failed);
+  lacking = λ is. absurd cc;
+  place = tt;
+  already = λ f. refl;
+  goes_on = tt;
+  back = given;
+}

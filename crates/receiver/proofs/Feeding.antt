@@ -1,6 +1,6 @@
 -- A piece more, and the end.
-use Rattle.std.proofs.Common.{◌≡◌, ℕ, ◌<◌, ◌≤◌, ◌⊎◌, inl, inr, Bool, true, false, suc, Some, List, [], ◌∷◌, ◌++◌, length, map, take, drop, refl, sym, ap, subst, ◌∙◌, append_assoc, append-nil}
-use Rattle.std.specs.Prelude.{Ok, Err, Option}
+use Rattle.std.proofs.Common.{◌≡◌, ℕ, ◌<◌, ◌≤◌, ◌⊎◌, inl, inr, Bool, true, false, suc, Some, List, [], ◌∷◌, ◌++◌, length, map, take, drop, refl, sym, ap, subst, ◌∙◌, append_assoc, append-nil, arith}
+use Rattle.std.specs.Prelude.{Ok, Err, Option, Result}
 use denote.RawPtr.{Ptr}
 use Rattle.std.proofs.lemmas.Bool.{cases_lt}
 use Rattle.std.proofs.lemmas.List.{take_at}
@@ -12,25 +12,22 @@ use Rattle.guestmem.proofs.ByteLaws.{IsBytes-append}
 use Rattle.wire.proofs.Spelling.{tail_same}
 use Rattle.machine.specs.First.{marks_in}
 use Rattle.machine.specs.Room.{RoomSeen}
-use Rattle.receiver.specs.Disks.{MarksRefused, all_marks_in, disk_marks_of, sizes_in, sizes_of}
+use Rattle.receiver.specs.Calls.{Feeds, IsNew}
+use Rattle.receiver.specs.Disks.{AreKept, AreRefused, MarksRefused, all_marks_in, disk_marks_of, sizes_in, sizes_of}
 use Rattle.receiver.specs.Faults.{Fault}
-use Rattle.receiver.specs.Receiving.{HasBeenFed, IsPastHead, IsReady, IsKnown, IsReceiver, IsTaken, NoFault, Received, TellsFault, TellsNow, Took, devices_at, has_failed, place_aside, place_in, received_by}
+use Rattle.receiver.specs.Reading.{IsFirst, TakesPiece}
+use Rattle.receiver.specs.Receiving.{HasBeenFed, IsPastHead, IsKnown, IsReceiver, IsTaken, Knows, NoFault, ReaderSeen, Received, TellsFault, TellsNow, has_failed, place_aside, place_in, received_by, received_with}
 use Rattle.receiver.specs.Waiting.{LacksBytes}
 use Rattle.receiver.specs.declared.stage.Stage.{Stage}
 use Rattle.receiver.specs.declared.stage.Stage.TheVariants as stages
 use Rattle.receiver.specs.declared.ram_terms.RamTerms.{RamTerms}
 use Rattle.receiver.specs.declared.recv_error.RecvError.{RecvError}
+use Rattle.receiver.specs.declared.recv_error.RecvError.TheVariants.{AlreadyFailed, NoMemory}
 use Rattle.receiver.proofs.Knowing.{no_fault_known}
 use Rattle.receiver.proofs.Lists.{empty}
 use Rattle.receiver.proofs.Prefixes.{holds}
-use Rattle.receiver.proofs.Working.{front_of, tells_more}
-use Rattle.receiver.proofs.Aligned.{one_opening}
-use Rattle.receiver.specs.Fed.{HasRead}
-use Rattle.receiver.specs.Opened.{Begins, Opened, header}
-use Rattle.receiver.specs.declared.intake.Intake.{Intake}
-use Rattle.sha2.specs.Sha256.{sha256}
-use Rattle.wire.specs.Records.{Record, commit, spelled_record}
-use Rattle.wire.specs.Stream.{texts}
+use Rattle.receiver.proofs.Wanting.{err_again, fed_wants, ok_not_err}
+use Rattle.receiver.proofs.Working.{tells_more}
 
 pub true_false : (b : Bool) → b ≡ true → b ≡ false → ⊥
 true_false b t f = let no : true ≡ false = sym t ∙ f in cc
@@ -38,7 +35,6 @@ true_false b t f = let no : true ≡ false = sym t ∙ f in cc
 pub not_failed : (ram : RamTerms) (ds : List DiskState) (digest : Sha256) (front held : List ℕ) (stage : Stage) → IsKnown ram ds digest front held stage → has_failed stage ≡ false
 not_failed ram ds digest front held stages.Head k = refl
 not_failed ram ds digest front held (stages.Records i) k = refl
-not_failed ram ds digest front held (stages.Ended i) k = refl
 not_failed ram ds digest front held stages.Failed k = absurd k
 
 later_by : (ram : RamTerms) (sizes old piece : List ℕ) (e : RecvError) (at : ℕ) → NoFault ram sizes old → Fault ram sizes (old ++ piece) e at → (length old < at) ⊎ (at ≤ length old) → length old < at
@@ -69,13 +65,13 @@ pub record IsRefused (r : Received) (piece : List ℕ) (disks : List DiskState) 
 all_bytes : (front held piece b : List ℕ) → b ≡ front ++ held → b ++ piece ≡ front ++ (held ++ piece)
 all_bytes front held piece b is = ap (λ (x : List ℕ). x ++ piece) is ∙ append_assoc front held piece
 
-taken_on : (ram : RamTerms) (old ds : List DiskState) (digest : Sha256) (front held piece b rest : List ℕ) (next : Stage) → b ≡ front ++ held → Took ram old ds digest (front ++ (held ++ piece)) rest (Ok next) → IsTaken ram ds digest (b ++ piece) rest next
+taken_on : (ram : RamTerms) (old ds : List DiskState) (digest : Sha256) (front held piece b rest : List ℕ) (next : Stage) → b ≡ front ++ held → AreKept old ds × IsTaken ram ds digest (front ++ (held ++ piece)) rest next → IsTaken ram ds digest (b ++ piece) rest next
 taken_on ram old ds digest front held piece b rest next is t =
     let P : List ℕ → Type 0 = λ x. IsTaken ram ds digest x rest next in
     subst P (sym (all_bytes front held piece b is)) t.1
 
 pub goes_on : (ram : RamTerms) (place placed : Option Ptr) (ds new : List DiskState) (stage next : Stage) (d e : Sha256) (held rest piece : List ℕ) → IsBytes piece → (front : List ℕ) × IsKnown ram ds d front held stage
-    → ((front : List ℕ) → IsKnown ram ds d front held stage → Took ram ds new e (front ++ (held ++ piece)) rest (Ok next)) → GoesOn (received_by ram place ds stage d held) piece (received_by ram placed new next e rest)
+    → ((front : List ℕ) → IsKnown ram ds d front held stage → AreKept ds new × IsTaken ram new e (front ++ (held ++ piece)) rest next) → GoesOn (received_by ram place ds stage d held) piece (received_by ram placed new next e rest)
 goes_on ram place placed ds new stage next d e held rest piece are some took =
     let first = took some.0 some.1 in
     let more : (b : List ℕ) → HasBeenFed (received_by ram place ds stage d held) b → IsTaken ram new e (b ++ piece) rest next =
@@ -88,9 +84,9 @@ goes_on ram place placed ds new stage next d e held rest piece are some took =
       quiet = λ b h. rw (← first.0.sizes) (no_fault_known ram new e (b ++ piece) rest next (more b h));
     }
 
-pub is_refused : (ram : RamTerms) (place : Option Ptr) (ds new : List DiskState) (stage : Stage) (d f : Sha256) (held rest piece : List ℕ) (e : RecvError) → (front : List ℕ) × IsKnown ram ds d front held stage
-    → ((front : List ℕ) → IsKnown ram ds d front held stage → Took ram ds new f (front ++ (held ++ piece)) rest (Err e)) → IsRefused (received_by ram place ds stage d held) piece new e
-is_refused ram place ds new stage d f held rest piece e some took =
+pub is_refused : (ram : RamTerms) (place : Option Ptr) (ds new : List DiskState) (stage : Stage) (d : Sha256) (held piece : List ℕ) (e : RecvError) → (front : List ℕ) × IsKnown ram ds d front held stage
+    → ((front : List ℕ) → IsKnown ram ds d front held stage → AreRefused ds new e × TellsFault ram (sizes_in ds) (front ++ (held ++ piece)) e) → IsRefused (received_by ram place ds stage d held) piece new e
+is_refused ram place ds new stage d held piece e some took =
     let first = took some.0 some.1 in
     record {
       sizes = first.0.sizes;
@@ -101,27 +97,29 @@ is_refused ram place ds new stage d f held rest piece e some took =
           told_more ram (sizes_in ds) b piece e told (no_fault_known ram ds d b held stage h.taken);
     }
 
-pub is_receiver : (ram : RamTerms) (aside : Option Memory) (reserved : Option RoomSeen) (ds : List DiskState) (digest : Sha256) (held : List ℕ) (room lacking : ℕ) (stage : Stage) (front : List ℕ) → IsReady ram aside stage → (IsPastHead stage → reserved ≡ Some (record { devices = devices_at stage; disks = length ds })) → IsKnown ram ds digest front held stage → length held ≤ 131077 → 131078 ≤ room → (0 < lacking → LacksBytes stage held lacking) → IsReceiver ram aside reserved ds digest held room lacking stage
-is_receiver ram aside reserved ds digest held room lacking stage front ready roomed known few roomy lacks = record {
-  ready = ready;
-  roomed = roomed;
+past_on : (stage : Stage) → has_failed stage ≡ true → IsPastHead stage → ⊥
+past_on stages.Head failed past = past
+past_on (stages.Records i) failed past = cc
+past_on stages.Failed failed past = past
+
+pub is_receiver : (r : ReaderSeen) (held : List ℕ) (room lacking : ℕ) (front : List ℕ) → Knows r front held → length held ≤ 131077 → (IsPastHead r.stage → 131078 ≤ room) → (0 < lacking → LacksBytes r.stage held lacking) → IsReceiver r held room lacking
+is_receiver r held room lacking front known few roomy lacks = record {
   known = λ on. (front, known);
   few = few;
-  gone = λ failed. absurd (true_false _ failed (not_failed ram ds digest front held stage known));
-  roomy = λ past. roomy;
+  gone = λ failed. absurd (true_false _ failed (not_failed r.ram r.disks r.digest front held r.stage known));
+  roomy = roomy;
   lacks = lacks;
 }
 
--- An empty piece.
-pub nothing_more : (r : Received) (piece b : List ℕ) → length piece ≡ 0 → HasBeenFed r b → HasBeenFed r (b ++ piece)
-nothing_more r piece b none h =
-    let same : b ++ piece ≡ b = ap (λ (x : List ℕ). b ++ x) (empty piece none) ∙ append-nil b in
-    rw same h
-
-pub quiet_still : (ram : RamTerms) (place : Option Ptr) (ds : List DiskState) (stage : Stage) (d : Sha256) (held piece b : List ℕ) → length piece ≡ 0 → HasBeenFed (received_by ram place ds stage d held) b → NoFault ram (sizes_in ds) (b ++ piece)
-quiet_still ram place ds stage d held piece b none h =
-    let same : b ++ piece ≡ b = ap (λ (x : List ℕ). b ++ x) (empty piece none) ∙ append-nil b in
-    rw same (no_fault_known ram ds d b held stage h.taken)
+-- A receiver that was refused.
+pub is_refused_one : (r : ReaderSeen) (held : List ℕ) (room : ℕ) → has_failed r.stage ≡ true → held ≡ [] → IsReceiver r held room 0
+is_refused_one r held room failed none = record {
+  known = λ on. absurd (true_false _ failed on);
+  few = omega (arith, ap length none);
+  gone = λ f. none;
+  roomy = λ past. absurd (past_on r.stage failed past);
+  lacks = λ some. absurd (omega (arith, some));
+}
 
 -- The disks that were lent, as they come back.
 pub same_count : {D : Type 0} (state : D → DiskState) (old new : List D) → sizes_of state new ≡ sizes_of state old → length new ≡ length old
@@ -137,57 +135,76 @@ pub marks_mapped : {D : Type 0} (state : D → DiskState) (disks : List D) → m
 marks_mapped state [] = refl
 marks_mapped state (d ∷ disks) = ap (λ ms. marks_in (state d) ∷ ms) (marks_mapped state disks)
 
--- A piece more changes no device's number: the header is the same.
-record HasHeader (ram : RamTerms) (bytes : List ℕ) (count : ℕ) : Type 0 where
-  opening : Opened
-  rest : List ℕ
-  is_of : opening.ram ≡ ram
-  begins : Begins bytes opening rest
-  count_is : count ≡ length opening.shapes
-
-read_header : {ds : List DiskState} {opening : Opened} {before : List Record} {i : Intake} {front : List ℕ} (ram : RamTerms) (bytes tail : List ℕ) → opening.ram ≡ ram → HasRead ds opening before i front → bytes ≡ front ++ tail → HasHeader ram bytes (length i.shapes.items)
-read_header {opening = opening} {before = before} ram bytes tail is h e = record {
-  opening = opening;
-  rest = texts before ++ tail;
-  is_of = is;
-  begins = (front_of bytes tail h e).begins;
-  count_is = ap length h.shapes_are;
-}
-
-has_header : (ram : RamTerms) (ds : List DiskState) (digest : Sha256) (front held bytes : List ℕ) (stage : Stage) → IsPastHead stage → IsKnown ram ds digest front held stage → bytes ≡ front ++ held → HasHeader ram bytes (devices_at stage)
-has_header ram ds digest front held bytes stages.Head past k e = absurd past
-has_header ram ds digest front held bytes (stages.Records i) past k e = read_header ram bytes held k.1.based k.1.open_at.read e
-has_header ram ds digest front held bytes (stages.Ended i) past k e =
-    let w = k.1.ended in
-    let all : bytes ≡ w.front ++ (spelled_record (commit (sha256 w.front)) ++ held) = e ∙ ap (λ (x : List ℕ). x ++ held) w.whole ∙ append_assoc w.front (spelled_record (commit (sha256 w.front))) held in
-    read_header ram bytes (spelled_record (commit (sha256 w.front)) ++ held) k.1.based w.read all
-has_header ram ds digest front held bytes stages.Failed past k e = absurd k
-
-same_header : (ram : RamTerms) (bytes : List ℕ) (m n : ℕ) → HasHeader ram bytes m → HasHeader ram bytes n → m ≡ n
-same_header ram bytes m n a b =
-    let one = one_opening bytes a.opening b.opening a.rest b.rest (a.is_of ∙ sym b.is_of) a.begins b.begins in
-    a.count_is ∙ ap (λ (o : Opened). length o.shapes) one.0 ∙ sym b.count_is
-
-pub same_devices : (ram : RamTerms) (old ds : List DiskState) (digest sum : Sha256) (front held piece rest : List ℕ) (stage next : Stage) → IsPastHead stage → IsPastHead next → IsKnown ram old digest front held stage
-    → IsTaken ram ds sum (front ++ (held ++ piece)) rest next → devices_at stage ≡ devices_at next
-same_devices ram old ds digest sum front held piece rest stage next past later k t =
-    let bytes = front ++ (held ++ piece) in
-    let a = has_header ram old digest front held (front ++ held) stage past k refl in
-    let begins : Begins bytes a.opening (a.rest ++ piece) = record { good = a.begins.good; whole = sym (append_assoc front held piece) ∙ ap (λ (x : List ℕ). x ++ piece) a.begins.whole ∙ append_assoc (header a.opening) a.rest piece } in
-    same_header ram bytes (devices_at stage) (devices_at next) (record { opening = a.opening; rest = a.rest ++ piece; is_of = a.is_of; begins = begins; count_is = a.count_is }) (has_header ram ds sum t.front rest bytes next later t.known t.whole)
-
 pub same_room : {o : Option RoomSeen} {a b : RoomSeen} → o ≡ Some a → o ≡ Some b → a ≡ b
 same_room {o} {a} {b} e f = let same : Some a ≡ Some b = sym e ∙ f in cc
 
--- The memory that was reserved stays, or was reserved just now.
-pub room_kept : (first : Bool) (stage next : Stage) (old new : Option RoomSeen) (count disks : ℕ) → (first ≡ true → IsPastHead next → new ≡ Some (record { devices = devices_at next; disks = disks })) → (first ≡ false → new ≡ old) → (first ≡ false → IsPastHead stage)
-    → (IsPastHead stage → old ≡ Some (record { devices = devices_at stage; disks = count })) → (IsPastHead stage → IsPastHead next → devices_at stage ≡ devices_at next) → count ≡ disks
-    → IsPastHead next → new ≡ Some (record { devices = devices_at next; disks = disks })
-room_kept true stage next old new count disks now later past was same is p = now refl p
-room_kept false stage next old new count disks now later past was same is p = later refl ∙ was (past refl) ∙ rw (same (past refl) p, is) refl
+-- A piece that was taken came before any refusal.
+pub not_failed_before : (old new : ReaderSeen) (before : List ℕ) (had : ℕ) (piece held : List ℕ) (has : ℕ) {x : ℕ} → TakesPiece old before had piece (Ok x) new held has → has_failed old.stage ≡ false
+not_failed_before old new before had piece held has p = by_flag (has_failed old.stage) refl
+  where
+    by_flag : (b : Bool) → has_failed old.stage ≡ b → b ≡ false
+    by_flag true e = absurd (ok_not_err (p.already e).0)
+    by_flag false e = refl
 
-pub failed_place : (aside : Option Memory) (stage : Stage) → has_failed stage ≡ true → place_in aside stage ≡ place_aside aside
-failed_place aside stages.Head f = absurd cc
-failed_place aside (stages.Records i) f = absurd cc
-failed_place aside (stages.Ended i) f = absurd cc
-failed_place aside stages.Failed f = refl
+-- A piece that was refused: now, or after a refusal before.
+refused_now : (old new : ReaderSeen) (before held none piece : List ℕ) (had has lacking : ℕ) (e : RecvError) → IsReceiver old before had lacking → TakesPiece old before had piece (Err e) new held has → has_failed old.stage ≡ false
+    → Feeds (received_with old before) piece (Err e) (received_with new none)
+refused_now old new before held none piece had has lacking e kept p on =
+    let some = kept.known on in
+    let told = is_refused old.ram (place_in old.aside old.stage) old.disks new.disks old.stage old.digest before piece e some p.took in
+    record {
+      ram = p.ram;
+      sizes = told.sizes;
+      marks = told.marks;
+      fed = tt;
+      quiet = tt;
+      told = told.told;
+      failed = p.failed;
+      place = p.place;
+      already = λ f. absurd (true_false _ f on);
+      memory = λ is b fed opening rest begins from at. fed_wants old.ram (place_in old.aside old.stage) old.disks old.stage old.digest before piece b opening rest from (λ front known past. p.memory kept.roomy front known past (err_again is)) fed begins at;
+    }
+
+refused_then : (old new : ReaderSeen) (before held none piece : List ℕ) (had has : ℕ) (e : RecvError) → TakesPiece old before had piece (Err e) new held has → has_failed old.stage ≡ true → Feeds (received_with old before) piece (Err e) (received_with new none)
+refused_then old new before held none piece had has e p failed =
+    let is : e ≡ AlreadyFailed = (let same : (◌≡◌ {A = Result ℕ RecvError} (Err e) (Err AlreadyFailed)) = (p.already failed).0 in cc) in
+    let same : new ≡ old = (p.already failed).1 in
+    record {
+      ram = p.ram;
+      sizes = ap (λ (r : ReaderSeen). sizes_in r.disks) same;
+      marks = rw is (ap (λ (r : ReaderSeen). all_marks_in r.disks) same);
+      fed = tt;
+      quiet = tt;
+      told = λ b h. absurd (true_false _ failed h.goes_on);
+      failed = p.failed;
+      place = p.place;
+      already = λ f. rw is refl;
+      memory = λ none_left. absurd (let no : AlreadyFailed ≡ NoMemory = sym is ∙ (let one : e ≡ NoMemory = cc in one) in cc);
+    }
+
+pub fed_as_told : (old new : ReaderSeen) (before held none piece : List ℕ) (had has lacking : ℕ) (e : RecvError) → IsReceiver old before had lacking → TakesPiece old before had piece (Err e) new held has → Feeds (received_with old before) piece (Err e) (received_with new none)
+fed_as_told old new before held none piece had has lacking e kept p = by_flag (has_failed old.stage) refl
+  where
+    by_flag : (b : Bool) → has_failed old.stage ≡ b → Feeds (received_with old before) piece (Err e) (received_with new none)
+    by_flag true failed = refused_then old new before held none piece had has e p failed
+    by_flag false on = refused_now old new before held none piece had has lacking e kept p on
+
+-- A receiver that was fed nothing.
+pub first_new : {D : Type 0} {ram : RamTerms} {aside : Option Memory} (state : D → DiskState) (disks : List D) (r : ReaderSeen) (held : List ℕ) → IsFirst ram (map state disks) aside r → held ≡ [] → IsNew state disks ram (place_aside aside) (received_with r held)
+first_new state disks r held f none = record {
+  fed = record { goes_on = ap has_failed f.stage; bytes = λ i. omega arith; taken = record { front = []; whole = sym none; known = subst (λ (x : List ℕ). Knows r [] x) (sym none) f.known } };
+  ram = f.ram;
+  sizes = ap sizes_in f.disks;
+  marks = ap all_marks_in f.disks;
+  disks = f.disks;
+  place = ap (place_in r.aside) f.stage ∙ ap place_aside f.aside;
+}
+
+pub first_receiver : {ram : RamTerms} {ds : List DiskState} {aside : Option Memory} (r : ReaderSeen) (held : List ℕ) (room : ℕ) → IsFirst ram ds aside r → held ≡ [] → IsReceiver r held room 0
+first_receiver r held room f none = record {
+  known = λ on. ([], subst (λ (x : List ℕ). Knows r [] x) (sym none) f.known);
+  few = omega (arith, ap length none);
+  gone = λ failed. none;
+  roomy = λ past. absurd (subst IsPastHead f.stage past);
+  lacks = λ some. absurd (omega (arith, some));
+}

@@ -1,13 +1,11 @@
 -- Bytes that wait for a body wait on, while it is incomplete.
-use Rattle.std.proofs.Common.{◌≡◌, ℕ, ◌+◌, ◌<◌, ◌≤◌, inl, inr, false, List, ◌∷◌, ◌++◌, length, drop, refl, sym, ap, ◌∙◌, append_assoc, arith, Option}
+use Rattle.std.proofs.Common.{◌≡◌, ℕ, ◌+◌, ◌<◌, ◌≤◌, inl, inr, Bool, true, false, List, ◌∷◌, ◌++◌, length, drop, refl, sym, ap, ◌∙◌, append_assoc, arith, Option}
 use denote.RawPtr.{Ptr}
 use Rattle.std.proofs.lemmas.List.{length-append}
 use Rattle.sha2.specs.Sha256.{sha256}
 use Rattle.sha2.specs.declared.Sha256.{Sha256}
 use Rattle.sha2.proofs.Facts256.{length-sha256}
 use Rattle.blk.specs.Disk.{DiskState}
-use Rattle.guestmem.specs.Memory.{Memory}
-use Rattle.machine.specs.Room.{RoomSeen}
 use Rattle.guestmem.specs.Number.{IsBytes}
 use Rattle.guestmem.proofs.ByteLaws.{IsBytes-append}
 use Rattle.receiver.specs.Opened.{header, Opened}
@@ -19,9 +17,10 @@ use Rattle.wire.specs.declared.record_head.RecordHead.TheVariants as heads
 use Rattle.wire.proofs.Heads.{begins, no_body, one_head}
 use Rattle.receiver.specs.Good.{devices_in}
 use Rattle.receiver.specs.Faults.{IsFault}
-use Rattle.receiver.specs.Fed.{Waits}
-use Rattle.receiver.specs.Receiving.{HasBeenFed, IsKnown, IsPastHead, IsReceiver, IsTaken, has_failed, received_by}
+use Rattle.receiver.specs.Fed.{IsKnownIn, Waits}
+use Rattle.receiver.specs.Receiving.{HasBeenFed, IsKnown, IsReceiver, IsTaken, ReaderSeen, has_failed, received_by}
 use Rattle.receiver.specs.Waiting.{LacksBytes, ReadsRecords}
+use Rattle.receiver.specs.declared.intake.Intake.{Intake}
 use Rattle.receiver.specs.declared.stage.Stage.{Stage}
 use Rattle.receiver.specs.declared.stage.Stage.TheVariants as stages
 use Rattle.receiver.specs.declared.ram_terms.RamTerms.{RamTerms}
@@ -104,9 +103,8 @@ waits_on opening before stage held piece w waits = record {
 }
 
 -- What is known of the bytes stays known.
-known_on : (ram : RamTerms) (ds : List DiskState) (digest : Sha256) (front held piece : List ℕ) (stage : Stage) → IsWithinBody stage held piece → IsKnown ram ds digest front held stage → IsKnown ram ds digest front (held ++ piece) stage
-known_on ram ds digest front held piece stages.Head w known = absurd w.reads
-known_on ram ds digest front held piece (stages.Records i) w known =
+known_in : (ended : Bool) (ram : RamTerms) (ds : List DiskState) (digest : Sha256) (front held piece : List ℕ) (i : Intake) → IsWithinBody (stages.Records i) held piece → IsKnownIn ended ram ds digest front held i → IsKnownIn ended ram ds digest front (held ++ piece) i
+known_in false ram ds digest front held piece i w known =
     let reading = known.1 in
     let here = reading.open_at in (
       known.0,
@@ -116,7 +114,11 @@ known_on ram ds digest front held piece (stages.Records i) w known =
         open_at = record { before = here.before; read = here.read; waits = waits_on reading.opening here.before (stages.Records i) held piece w here.waits };
       },
     )
-known_on ram ds digest front held piece (stages.Ended i) w known = absurd w.reads
+known_in true ram ds digest front held piece i w known = absurd (omega (arith, w.long, ap length known.0))
+
+known_on : (ram : RamTerms) (ds : List DiskState) (digest : Sha256) (front held piece : List ℕ) (stage : Stage) → IsWithinBody stage held piece → IsKnown ram ds digest front held stage → IsKnown ram ds digest front (held ++ piece) stage
+known_on ram ds digest front held piece stages.Head w known = absurd w.reads
+known_on ram ds digest front held piece (stages.Records i) w known = known_in i.ended ram ds digest front held piece i w known
 known_on ram ds digest front held piece stages.Failed w known = absurd w.reads
 
 -- The piece is taken, and the receiver is one still.
@@ -148,21 +150,14 @@ lacks_on stage held piece lacking left are is l = record {
   few = omega (arith, l.few, is, length-append held piece);
 }
 
-past_reading : (stage : Stage) → ReadsRecords stage → IsPastHead stage
-past_reading stages.Head reads = absurd reads
-past_reading (stages.Records i) reads = tt
-past_reading (stages.Ended i) reads = absurd reads
-past_reading stages.Failed reads = absurd reads
-
 pub on_reading : (stage : Stage) → ReadsRecords stage → has_failed stage ≡ false
 on_reading stages.Head reads = absurd reads
 on_reading (stages.Records i) reads = refl
-on_reading (stages.Ended i) reads = absurd reads
 on_reading stages.Failed reads = absurd reads
 
-pub receiver_on : (ram : RamTerms) (aside : Option Memory) (reserved : Option RoomSeen) (ds : List DiskState) (digest : Sha256) (held piece : List ℕ) (room more lacking left : ℕ) (stage : Stage) → IsBytes piece → length piece < lacking → left + length piece ≡ lacking → IsReceiver ram aside reserved ds digest held room lacking stage → room ≤ more → IsReceiver ram aside reserved ds digest (held ++ piece) more left stage
-receiver_on ram aside reserved ds digest held piece room more lacking left stage are less is kept le =
+pub receiver_on : (r : ReaderSeen) (held piece : List ℕ) (room more lacking left : ℕ) → IsBytes piece → length piece < lacking → left + length piece ≡ lacking → IsReceiver r held room lacking → room ≤ more → IsReceiver r (held ++ piece) more left
+receiver_on r held piece room more lacking left are less is kept le =
     let l = kept.lacks (omega (arith, less)) in
-    let w = within_body stage held piece lacking are less l in
-    let some = kept.known (on_reading stage l.reads) in
-    is_receiver ram aside reserved ds digest (held ++ piece) more left stage some.0 kept.ready kept.roomed (known_on ram ds digest some.0 held piece stage w some.1) (omega (arith, w.few, length-append held piece)) (omega (arith, kept.roomy (past_reading stage l.reads), le)) (λ some_left. lacks_on stage held piece lacking left are is l)
+    let w = within_body r.stage held piece lacking are less l in
+    let some = kept.known (on_reading r.stage l.reads) in
+    is_receiver r (held ++ piece) more left some.0 (known_on r.ram r.disks r.digest some.0 held piece r.stage w some.1) (omega (arith, w.few, length-append held piece)) (λ past. omega (arith, kept.roomy past, le)) (λ some_left. lacks_on r.stage held piece lacking left are is l)

@@ -31,8 +31,8 @@ use Rattle.receiver.specs.Disks.{AreHonestDisks, all_marks_in, sizes_in}
 use Rattle.receiver.proofs.Sectors.{dealt_bad, marked_bad, marked_sizes, marked_whole, marks_count, written_sizes}
 use Rattle.receiver.specs.Good.{Follows, devices_in}
 use Rattle.receiver.specs.Faults.{IsComplete, IsBadDigest, IsTrailing, IsFault, IsFront, WaitsHead}
-use Rattle.receiver.specs.Fed.{HasRead, IsEnded, device_records}
-use Rattle.receiver.specs.Receiving.{IsArrived, IsKnown, IsReading, IsTaken, HasCome, IsWholeFor, NoFault}
+use Rattle.receiver.specs.Fed.{HasCome, HasRead, IsEnded, IsKnownIn, IsReading, device_records}
+use Rattle.receiver.specs.Receiving.{IsArrived, IsKnown, IsTaken, IsWholeFor, NoFault}
 use Rattle.receiver.specs.declared.intake.Intake.{Intake}
 use Rattle.receiver.specs.declared.stage.Stage.{Stage}
 use Rattle.receiver.specs.declared.stage.Stage.TheVariants as stages
@@ -101,22 +101,27 @@ no_fault_come ram ds bytes i h =
     quiet_front ram (sizes_in ds) bytes h.opening w.before (5 ∷ sha256 w.front) (front_at h.based (front_of bytes (5 ∷ sha256 w.front) w.read whole))
     (λ s y f e. no_other h.opening w.before (sha256 w.front) s y f e) (end_quiet h.opening w.before (sha256 w.front) w.complete (ap sha256 w.read.whole))
 
-none_held : (front held : List ℕ) → held ≡ [] → front ++ held ≡ front
+pub none_held : (front held : List ℕ) → held ≡ [] → front ++ held ≡ front
 none_held front held none = ap (λ (x : List ℕ). front ++ x) none ∙ append-nil front
+
+no_fault_in : (ended : Bool) (ram : RamTerms) (ds : List DiskState) (digest : Sha256) (front held : List ℕ) (i : Intake) → IsKnownIn ended ram ds digest front held i → NoFault ram (sizes_in ds) (front ++ held)
+no_fault_in false ram ds digest front held i k = no_fault_reading ram ds front held i k.1
+no_fault_in true ram ds digest front held i k = rw (none_held front held k.0) (no_fault_come ram ds front i k.1)
 
 -- No fault stands in what was fed while no refusal came.
 no_fault_in_stage : (ram : RamTerms) (ds : List DiskState) (digest : Sha256) (front held : List ℕ) (stage : Stage) → IsKnown ram ds digest front held stage → NoFault ram (sizes_in ds) (front ++ held)
 no_fault_in_stage ram ds digest front held stages.Head k = rw (k.0) (no_fault_head ram (sizes_in ds) held k.2)
-no_fault_in_stage ram ds digest front held (stages.Records i) k = no_fault_reading ram ds front held i k.1
-no_fault_in_stage ram ds digest front held (stages.Ended i) k = rw (none_held front held k.0) (no_fault_come ram ds front i k.1)
+no_fault_in_stage ram ds digest front held (stages.Records i) k = no_fault_in i.ended ram ds digest front held i k
 no_fault_in_stage ram ds digest front held stages.Failed k = absurd k
 
 pub no_fault_known : (ram : RamTerms) (ds : List DiskState) (digest : Sha256) (bytes held : List ℕ) (stage : Stage) → IsTaken ram ds digest bytes held stage → NoFault ram (sizes_in ds) bytes
 no_fault_known ram ds digest bytes held stage t = rw (t.whole) (no_fault_in_stage ram ds digest t.front held stage t.known)
 
 -- All bytes of a stream that has ended.
-pub come_of : (ram : RamTerms) (ds : List DiskState) (digest : Sha256) (bytes held : List ℕ) (i : Intake) → IsTaken ram ds digest bytes held (stages.Ended i) → HasCome ram ds bytes i
-come_of ram ds digest bytes held i t = rw (t.whole ∙ none_held t.front held t.known.0) t.known.1
+pub come_of : (ram : RamTerms) (ds : List DiskState) (digest : Sha256) (bytes held : List ℕ) (i : Intake) → i.ended ≡ true → IsTaken ram ds digest bytes held (stages.Records i) → HasCome ram ds bytes i
+come_of ram ds digest bytes held i done t =
+    let known : IsKnownIn true ram ds digest t.front held i = subst (λ (b : Bool). IsKnownIn b ram ds digest t.front held i) done t.known in
+    rw (t.whole ∙ none_held t.front held known.0) known.1
 
 -- A whole stream.
 

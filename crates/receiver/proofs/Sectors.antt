@@ -134,6 +134,12 @@ marked_whole (x ∷ ds) [] h k d below = absurd (omega (arith, below))
 marked_whole (x ∷ ds) (b ∷ bad) h zero d below = are_whole x.sectors b (h 0 x (omega arith))
 marked_whole (x ∷ ds) (b ∷ bad) h (suc k) d below = marked_whole ds bad (λ j e lt. h (suc j) e (omega (arith, lt))) k d (omega (arith, below))
 
+-- A device that has a sector of this number has a disk of so many.
+pub disk_at : (shapes : List Shape) (dev n : ℕ) → All IsSoundShape shapes → n < get_or (map sector_count shapes) dev 0 → (disks_before shapes dev < length (disk_sizes shapes)) × (n < get_or (disk_sizes shapes) (disks_before shapes dev) 0)
+disk_at shapes dev n good there =
+    let dealt = dealt_to shapes (replicate (length (disk_sizes shapes)) []) dev [] (recursion_from_All IsSoundShape shapes good) (length-replicate (length (disk_sizes shapes)) []) (omega (arith, there)) in
+    (dealt.below, omega (arith, there, dealt.size))
+
 pub disk_below : (shapes : List Shape) (ds : List DiskState) (dev n : ℕ) → All IsSoundShape shapes → sizes_in ds ≡ disk_sizes shapes → n < get_or (map sector_count shapes) dev 0 → disks_before shapes dev < length ds
 disk_below shapes ds dev n good fits there =
     let dealt = dealt_to shapes (replicate (length (disk_sizes shapes)) []) dev [] (recursion_from_All IsSoundShape shapes good) (length-replicate (length (disk_sizes shapes)) []) (omega (arith, there)) in

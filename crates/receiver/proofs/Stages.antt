@@ -2,7 +2,6 @@
 use Rattle.std.proofs.Common.{◌≡◌, ◌≢◌, ℕ, ◌+◌, ◌*◌, ◌<◌, ◌≤◌, Bool, false, inl, List, [], ◌∷◌, ◌++◌, length, take, drop, map, replicate, refl, sym, ap, subst, ◌∙◌, append_assoc, append-nil, arith}
 use Rattle.std.proofs.lemmas.List.{take_at, length-append, length-drop, length-replicate, take-append-drop, drop-drop}
 use Rattle.std.proofs.Math.Seq.{take-add}
-use Rattle.sha2.specs.Hashers.{Holds256}
 use Rattle.sha2.specs.Sha256.{sha256}
 use Rattle.sha2.specs.declared.Sha256.{Sha256}
 use Rattle.receiver.specs.Opened.{Begins, HasPages, Opened, header, layout_in, ram_at, said_by}
@@ -13,26 +12,24 @@ use Rattle.machine.specs.First.{AreMarksOf, dealt_sectors, marked_sectors}
 use Rattle.receiver.proofs.Sectors.{marked_bad, marked_whole}
 use Rattle.std.specs.Prelude.{All}
 use Rattle.machine.specs.Layout.{firsts_of, size_of}
-use Rattle.receiver.proofs.Lists.{empty, take_all}
 use Rattle.receiver.proofs.Takings.{new_taken}
 use Rattle.receiver.specs.Good.{AreGood}
 use Rattle.machine.specs.Shapes.{disk_sizes}
 use Rattle.receiver.specs.Disks.{AreKept, AreRefused, sizes_in}
 use Rattle.receiver.specs.Faults.{IsComplete, IsTrailing, IsHeaderFault, Fault, TellsHead}
-use Rattle.receiver.specs.Fed.{AreWritten, HasRead, Tells, IsOpen, IsEnded, device_records}
-use Rattle.receiver.specs.Receiving.{HasCome, IsKnown}
+use Rattle.receiver.specs.Fed.{AreWritten, HasCome, HasRead, IsUpTo, Tells, device_records}
+use Rattle.receiver.specs.Receiving.{IsKnown}
 use Rattle.receiver.specs.declared.stage.Stage.{Stage}
-use Rattle.receiver.specs.declared.stage.Stage.TheVariants as stages
 use Rattle.receiver.specs.declared.intake.Intake.{Intake}
 use Rattle.receiver.specs.declared.ram_terms.RamTerms.{RamTerms}
 use Rattle.receiver.specs.declared.recv_error.RecvError.{RecvError}
 use Rattle.receiver.specs.declared.recv_error.RecvError.TheVariants as errors
 use Rattle.receiver.proofs.Aligned.{not_early}
-use Rattle.receiver.proofs.Working.{refused_kept, fault_here, commit_text}
+use Rattle.receiver.proofs.Working.{SoFar, commit_text, cut, fault_here, refused_kept, then_refused}
 
 -- A header was read.
 
-new_marks_fit : (sizes : List ℕ) → map length (map (λ n. replicate n false) sizes) ≡ sizes
+pub new_marks_fit : (sizes : List ℕ) → map length (map (λ n. replicate n false) sizes) ≡ sizes
 new_marks_fit [] = refl
 new_marks_fit (n ∷ sizes) = rw (length-replicate n false, new_marks_fit sizes) refl
 
@@ -100,27 +97,15 @@ never_disk_head held e f same = let g : (ram : RamTerms) (sizes : List ℕ) → 
 pub header_refused : (ram : RamTerms) (ds : List DiskState) (held : List ℕ) (e : RecvError) → TellsHead e ((ram : RamTerms) (sizes : List ℕ) → (at : ℕ) × IsHeaderFault ram sizes held e at) → AreRefused ds ds e × Tells e ((at : ℕ) × Fault ram (sizes_in ds) held e at)
 header_refused ram ds held e t = (refused_kept ds e (never_disk_head held e t), header_told ram (sizes_in ds) held e t)
 
--- Records were worked off.
-
-pub now_ended : (ds : List DiskState) (digest : Sha256) (front bytes : List ℕ) (opening : Opened) (i : Intake) (at : ℕ) → at ≡ length bytes → IsEnded ds opening i (front ++ bytes)
-    → IsKnown opening.ram ds digest (front ++ take at bytes) (drop at bytes) (stages.Ended i)
-now_ended ds digest front bytes opening i at all h =
-    let rest : drop at bytes ≡ [] = empty (drop at bytes) (omega (arith, all, length-drop at bytes)) in
-    let same : front ++ take at bytes ≡ front ++ bytes = ap (λ (x : List ℕ). front ++ x) (take_all at bytes (omega (arith, all))) in
-    (rest, record { opening = opening; based = refl; ended = rw same h })
-
-pub now_reading : (ds : List DiskState) (digest : Sha256) (front held : List ℕ) (opening : Opened) (i : Intake) → Holds256 digest front → IsOpen ds opening i front held → IsKnown opening.ram ds digest front held (stages.Records i)
-now_reading ds digest front held opening i d h = (d, record { opening = opening; based = refl; open_at = h })
-
 -- The records after the header, which has `len` bytes.
 headed : (len at : ℕ) (bytes : List ℕ) → take len bytes ++ take at (drop len bytes) ≡ take (len + at) bytes
 headed len at bytes = sym (take-add len at bytes)
 
-pub behind_header : (ram : RamTerms) (old ds : List DiskState) (digest : Sha256) (bytes : List ℕ) (len at : ℕ) (stage : Stage) → AreKept old ds × IsKnown ram ds digest (take len bytes ++ take at (drop len bytes)) (drop at (drop len bytes)) stage
-    → AreKept old ds × IsKnown ram ds digest (take (len + at) bytes) (drop (len + at) bytes) stage
-behind_header ram old ds digest bytes len at stage h =
+pub behind_header : (ram : RamTerms) (ds : List DiskState) (digest : Sha256) (bytes : List ℕ) (len at : ℕ) (stage : Stage) → IsKnown ram ds digest (take len bytes ++ take at (drop len bytes)) (drop at (drop len bytes)) stage
+    → IsKnown ram ds digest (take (len + at) bytes) (drop (len + at) bytes) stage
+behind_header ram ds digest bytes len at stage h =
     let rest : drop at (drop len bytes) ≡ drop (len + at) bytes = drop-drop at len bytes in
-    (h.0, rw (← headed len at bytes, ← rest) h.1)
+    rw (← headed len at bytes, ← rest) h
 
 pub refused_behind : (ram : RamTerms) (old ds : List DiskState) (bytes : List ℕ) (len : ℕ) (e : RecvError) → AreRefused old ds e × Tells e ((at : ℕ) × Fault ram (sizes_in old) (take len bytes ++ drop len bytes) e at) → AreRefused old ds e × Tells e ((at : ℕ) × Fault ram (sizes_in old) bytes e at)
 refused_behind ram old ds bytes len e h = rw (take-append-drop len bytes) at h
@@ -149,7 +134,13 @@ trailing_piece ram ds old piece i h some =
     let fault = fault_here (old ++ piece) ((5 ∷ sha256 w.front) ++ piece) errors.Trailing w.read whole (34, trailing_of h.opening w.before (sha256 w.front) w.front piece w.complete w.read.whole some refl) in
     (refused_kept ds errors.Trailing (λ same. cc), subst (λ (r : RamTerms). (k : ℕ) × Fault r (sizes_in ds) (old ++ piece) errors.Trailing k) h.based fault)
 
-pub still_come : (ram : RamTerms) (ds : List DiskState) (digest : Sha256) (front bytes : List ℕ) (i : Intake) → HasCome ram ds front i → length bytes ≡ 0 → IsKnown ram ds digest (front ++ take 0 bytes) (drop 0 bytes) (stages.Ended i)
-still_come ram ds digest front bytes i h none =
-    let same : front ++ take 0 bytes ≡ front = append-nil front in
-    (empty bytes none, rw same h)
+-- A byte after the digest.
+pub trailing_in : (ram : RamTerms) (old ds : List DiskState) (i : Intake) (digest : Sha256) (front bytes : List ℕ) (at : ℕ) → i.ended ≡ true → at < length bytes → SoFar ram old ds i digest (front ++ take at bytes)
+    → AreRefused old ds errors.Trailing × ((k : ℕ) × Fault ram (sizes_in old) (front ++ bytes) errors.Trailing k)
+trailing_in ram old ds i digest front bytes at done more s =
+    let come : HasCome ram ds (front ++ take at bytes) i = subst (λ (b : Bool). IsUpTo b ram ds digest (front ++ take at bytes) i) done s.known in
+    let t = trailing_piece ram ds (front ++ take at bytes) (drop at bytes) i come (omega (arith, more, length-drop at bytes)) in
+    let parts : (front ++ take at bytes) ++ drop at bytes ≡ front ++ bytes = sym (cut front bytes at) in (
+      then_refused old ds ds errors.Trailing s.same t.0,
+      subst (λ (sizes : List ℕ). (k : ℕ) × Fault ram sizes (front ++ bytes) errors.Trailing k) s.same.sizes (subst (λ (x : List ℕ). (k : ℕ) × Fault ram (sizes_in ds) x errors.Trailing k) parts t.1),
+    )

@@ -1,9 +1,9 @@
 -- Which head may come next, and the record with it.
-use Rattle.std.proofs.Common.{◌≡◌, ℕ, ◌+◌, ◌<◌, ◌≤◌, ◌⊎◌, inl, inr, Bool, true, false, List, [], ◌∷◌, ◌++◌, length, take, drop, refl, sym, ap, subst, ◌∙◌, append_assoc, append-nil, arith, ◌^◌}
-use Rattle.std.specs.Prelude.{IfErr, Result, Ok, Err, ◌≢◌}
+use Rattle.std.proofs.Common.{◌≡◌, ℕ, zero, suc, ◌+◌, ◌*◌, ◌<◌, ◌≤◌, ◌⊎◌, ◌↔◌, inl, inr, Bool, true, false, List, [], ◌∷◌, ◌++◌, length, take, drop, map, get_or, refl, sym, ap, subst, ◌∙◌, append_assoc, append-nil, arith, ◌^◌}
+use Rattle.std.specs.Prelude.{IfErr, IfOk, OnOk, Result, Ok, Err, ◌≢◌, set}
+use Rattle.std.specs.Vec.{vec_capacity}
 use Rattle.std.proofs.lemmas.Bool.{cases_lt}
-use Rattle.std.proofs.lemmas.List.{take-append-drop, take_at, length-append}
-use Rattle.std.proofs.Math.Seq.{take-length}
+use Rattle.std.proofs.lemmas.List.{take-append-drop, take_at, length-append, length-take}
 use Rattle.sha2.specs.Sha256.{sha256}
 use Rattle.sha2.proofs.Facts256.{length-sha256}
 use Rattle.guestmem.specs.Number.{IsBytes}
@@ -20,19 +20,16 @@ use Rattle.blk.specs.Disk.{DiskState}
 use Rattle.receiver.specs.Disks.{AreKept, AreRefused}
 use Rattle.receiver.specs.Good.{devices_in}
 use Rattle.receiver.specs.Faults.{IsBadBody, IsBadDigest, IsBadHead, IsBadPage, IsFault, IsLongZeros, IsPageTag, IsTrailing, Opens}
-use Rattle.receiver.specs.Fed.{After, HasRead, IsLong, Tells, Waits, size_of}
-use Rattle.receiver.specs.Spots.{Taking}
-use Rattle.receiver.specs.Standing.{Entered, HasRoom, IsDeviceHead, IsNoBody, MayHead, OpensHead, TakingDevice, refusal_of}
+use Rattle.receiver.specs.Fed.{Ends, HasRead, TookRecord, Waits}
+use Rattle.receiver.specs.Standing.{Closed, Entered, TookHead, IsDeviceHead, IsLong, IsNoBody, IsShort, IsSized, MayHead, OpensHead, record_behind, refusal_of}
 use Rattle.receiver.specs.declared.intake.Intake.{Intake}
-use Rattle.receiver.specs.declared.part.Part.{Part}
-use Rattle.receiver.specs.declared.part.Part.TheVariants as parts
 use Rattle.receiver.specs.declared.recv_error.RecvError.{RecvError}
 use Rattle.receiver.specs.declared.recv_error.RecvError.TheVariants as errors
-use Rattle.receiver.proofs.Lists.{empty}
+use Rattle.machine.specs.Shapes.{sector_count}
+use Rattle.receiver.proofs.Lists.{empty, not_both_ways}
 use Rattle.receiver.proofs.Quiet.{quiet}
-use Rattle.receiver.proofs.Working.{kept, refused_kept}
-use Rattle.receiver.proofs.Writing.{disk_refused}
-use Rattle.machine.proofs.Numbering.{either_way}
+use Rattle.receiver.proofs.Working.{fault_refused, kept, refused_kept}
+use Rattle.machine.proofs.Numbering.{either_way, size_grows}
 
 pub opens_at : {opening : Opened} {before : List Record} {tail : List ℕ} {tag : ℕ} {more : List ℕ} (t : ℕ) (x : List ℕ) → Opens opening before tail tag more → tail ≡ t ∷ x → Opens opening before tail t x
 opens_at {tag = tag} {more = more} t x o e =
@@ -152,9 +149,6 @@ head_refused opening before tail rest heads.Commit o never = absurd (never tt)
 head_refused opening before tail rest (heads.ZeroPage n) o never =
     (5, inl (record { tag = 6; number = n; more = rest; names = inr refl; opens = opens_at 6 (digits 4 n ++ rest) o.opens o.whole; fits = o.fits; never = at_least n opening.pages (cases_lt n opening.pages) never; there = refl }))
 
-pub refused_as : (opening : Opened) (before : List Record) (tail rest : List ℕ) (head : RecordHead) (e : RecvError) → OpensHead opening before tail head rest → (e ≡ refusal_of head) × ¬ (MayHead opening before head) → (place : ℕ) × IsFault opening before tail e place
-refused_as opening before tail rest head e o h = rw h.0 (head_refused opening before tail rest head o h.1)
-
 pub mark_refused : (opening : Opened) (before : List Record) (tail : List ℕ) (tag : ℕ) (more : List ℕ) → Opens opening before tail tag more → BeginsNoMark tail → (place : ℕ) × IsFault opening before tail errors.BadSector place
 mark_refused opening before tail tag more o b =
     (7, record { disk = b.device; number = b.number; mark = b.mark; more = b.more; opens = opens_at 2 (b.device ∷ (digits 4 b.number ++ (b.mark ∷ b.more))) o b.whole; fits = b.fits; never = λ x. omega (arith, x.1, b.never); there = refl })
@@ -173,26 +167,15 @@ found_head opening before tail tag more head o b = record { tag = tag; more = mo
 pub opens_head : (opening : Opened) (before : List Record) (tail : List ℕ) (tag : ℕ) (more rest : List ℕ) (head : RecordHead) → Opens opening before tail tag more → FitsHead head → tail ≡ spelled_head head ++ rest → OpensHead opening before tail head rest
 opens_head opening before tail tag more rest head o fits e = record { tag = tag; more = more; opens = o; fits = fits; whole = e }
 
-pub room_few : (i : Intake) (head : RecordHead) → HasRoom i head → length (spelled_head head) + body_len head ≤ 131078
-room_few i (heads.Page n) h = omega arith
-room_few i (heads.Sector d n true) h = omega arith
-room_few i (heads.Sector d n false) h = omega arith
-room_few i (heads.RoundEnd n) h = omega arith
-room_few i (heads.Device d len) h = omega (arith, h.1)
-room_few i heads.Commit h = omega arith
-room_few i (heads.ZeroPage n) h = omega arith
-
-pub long_part : (part : Part) (n : ℕ) → size_of part ≡ n → 0 < n → IsLong part
-long_part parts.Wait n e some = tt
-long_part (parts.Record len) n e some = omega (arith, e, some)
-long_part parts.End n e some = tt
-
 -- The body, and what is behind it.
-pub cut_body : (rest body : List ℕ) (n : ℕ) → body ≡ take n rest → rest ≡ body ++ drop n rest
-cut_body rest body n e = sym (take-append-drop n rest) ∙ ap (λ (x : List ℕ). x ++ drop n rest) (sym e)
-
-pub with_body : {opening : Opened} {before : List Record} {tail rest : List ℕ} {head : RecordHead} (other : List ℕ) → OpensHead opening before tail head rest → rest ≡ other → OpensHead opening before tail head other
-with_body other o e = rw e at o
+pub cut_behind : {opening : Opened} {before : List Record} {tail behind : List ℕ} {head : RecordHead} (n : ℕ) → OpensHead opening before tail head behind → OpensHead opening before tail head (take n behind ++ drop n behind)
+cut_behind {behind = behind} {head = head} n o = record {
+  tag = o.tag;
+  more = o.more;
+  opens = o.opens;
+  fits = o.fits;
+  whole = o.whole ∙ ap (λ (x : List ℕ). spelled_head head ++ x) (sym (take-append-drop n behind));
+}
 
 -- Records that were taken.
 
@@ -202,11 +185,38 @@ taken_with tail body more head e many =
     let all : tail ≡ (front ++ body) ++ more = e ∙ sym (append_assoc front body more) in
     ap (take (length front + length body)) all ∙ take_at (front ++ body) more (length front + length body) (length-append front body) ∙ sym (spelled_with head body many)
 
-pub took_with : (old ds : List DiskState) (opening : Opened) (before : List Record) (new : Intake) (front tail body more : List ℕ) (head : RecordHead) → OpensHead opening before tail head (body ++ more) → length body ≡ body_len head → AreKept old ds
-    → HasRead ds opening (before ++ record_with head body ∷ []) new (front ++ spelled_record (record_with head body)) → After old ds opening before new front tail (Ok (parts.Record (length (spelled_head head) + length body)))
-took_with old ds opening before new front tail body more head o many same read =
-    let r = record_with head body in
-    (same, (r, subst (λ (x : List ℕ). HasRead ds opening (before ++ r ∷ []) new (front ++ x)) (sym (taken_with tail body more head o.whole many)) read))
+-- What came of a record is what came of its head.
+pub followed_by : (old ds : List DiskState) (opening : Opened) (before : List Record) (new : Intake) (front tail behind : List ℕ) (head : RecordHead) (r : Result Bool RecvError) → new.ended ≡ false → OpensHead opening before tail head behind → IsLong head behind r
+    → Entered old ds opening before new front tail head behind r → TookHead old ds opening before new front tail head r
+followed_by old ds opening before new front tail behind head (Ok true) on o long t =
+    let body = take (body_len head) behind in
+    let many : length body ≡ body_len head = omega (arith, long refl, length-take (body_len head) behind) in
+    let whole : tail ≡ spelled_head head ++ (body ++ drop (body_len head) behind) = o.whole ∙ ap (λ (x : List ℕ). spelled_head head ++ x) (sym (take-append-drop (body_len head) behind)) in
+    let text : take (length (spelled_head head) + body_len head) tail ≡ spelled_record (record_behind head behind) =
+    ap (λ (n : ℕ). take (length (spelled_head head) + n) tail) (sym many) ∙ taken_with tail body (drop (body_len head) behind) head whole many in (
+      t.0,
+      subst (λ (b : Bool). TookRecord b ds opening before new front tail (length (spelled_head head) + body_len head)) (sym on)
+          (record_behind head behind, subst (λ (x : List ℕ). HasRead ds opening (before ++ record_behind head behind ∷ []) new (front ++ x)) (sym text) t.1),
+    )
+followed_by old ds opening before new front tail behind head (Ok false) on o long t = t
+followed_by old ds opening before new front tail behind head (Err e) on o long t = t
+
+-- What came of the digest.
+pub followed_end : (ds : List DiskState) (opening : Opened) (before : List Record) (new : Intake) (front tail : List ℕ) (r : Result Bool RecvError) → IfOk r (λ took. took ≡ true → new.ended ≡ true)
+    → Closed ds opening before new front tail r → TookHead ds ds opening before new front tail heads.Commit r
+followed_end ds opening before new front tail (Ok true) done t =
+    (kept ds, subst (λ (b : Bool). TookRecord b ds opening before new front tail 33) (sym (done refl)) (refl, t.0, t.1))
+followed_end ds opening before new front tail (Ok false) done t = (kept ds, t.0, t.1)
+followed_end ds opening before new front tail (Err e) done t = rw t.0 (refused_kept ds errors.BadDigest (λ e. cc), t.1)
+
+-- A head that may not come, and one that waits.
+pub entered_refused : (ds : List DiskState) (opening : Opened) (before : List Record) (new : Intake) (front tail behind : List ℕ) (head : RecordHead) → OpensHead opening before tail head behind → ¬ (MayHead opening before head)
+    → Entered ds ds opening before new front tail head behind (Err (refusal_of head))
+entered_refused ds opening before new front tail behind head o never = fault_refused ds opening before tail (refusal_of head) (head_refused opening before tail behind head o never)
+
+pub entered_waits : (ds : List DiskState) (opening : Opened) (before : List Record) (new : Intake) (front tail behind : List ℕ) (head : RecordHead) → IsBytes tail → HasRead ds opening before new front → OpensHead opening before tail head behind → MayHead opening before head → length behind < body_len head
+    → Entered ds ds opening before new front tail head behind (Ok false)
+entered_waits ds opening before new front tail behind head are h o may short = (kept ds, h, body_waits opening before tail behind head are o may short)
 
 bad_body : (opening : Opened) (before : List Record) (tail body more : List ℕ) (d len : ℕ) → OpensHead opening before tail (heads.Device d len) (body ++ more) → MayHead opening before (heads.Device d len) → length body ≡ len → IsNoBody opening d body
     → (place : ℕ) × (IsBadHead opening before tail place ⊎ IsBadBody opening before tail place)
@@ -226,24 +236,12 @@ bad_body opening before tail body more d len o may many refused =
       }),
     )
 
-pub device_refused : (ds : List DiskState) (opening : Opened) (before : List Record) (new : Intake) (front tail body more : List ℕ) (d len : ℕ) (e : RecvError) → OpensHead opening before tail (heads.Device d len) (body ++ more) → MayHead opening before (heads.Device d len)
-    → length body ≡ len → TakingDevice ds opening before new front d body (Err e) → AreRefused ds ds e × Tells e ((place : ℕ) × IsFault opening before tail e place)
-device_refused ds opening before new front tail body more d len errors.BadMagic o may many t = absurd t
-device_refused ds opening before new front tail body more d len errors.BadVersion o may many t = absurd t
-device_refused ds opening before new front tail body more d len errors.BadShape o may many t = absurd t
-device_refused ds opening before new front tail body more d len errors.ShapeMismatch o may many t = absurd t
-device_refused ds opening before new front tail body more d len errors.BadTag o may many t = absurd t
-device_refused ds opening before new front tail body more d len errors.BadPage o may many t = absurd t
-device_refused ds opening before new front tail body more d len errors.BadSector o may many t = absurd t
-device_refused ds opening before new front tail body more d len errors.BadRound o may many t = absurd t
-device_refused ds opening before new front tail body more d len errors.BadDevice o may many t = (refused_kept ds errors.BadDevice (λ e. cc), bad_body opening before tail body more d len o may many t)
-device_refused ds opening before new front tail body more d len errors.BadDigest o may many t = absurd t
-device_refused ds opening before new front tail body more d len errors.Missing o may many t = absurd t
-device_refused ds opening before new front tail body more d len errors.Trailing o may many t = absurd t
-device_refused ds opening before new front tail body more d len errors.Truncated o may many t = absurd t
-device_refused ds opening before new front tail body more d len errors.DiskFailed o may many t = absurd t
-device_refused ds opening before new front tail body more d len errors.NoMemory o may many t = (refused_kept ds errors.NoMemory (λ e. cc), tt)
-device_refused ds opening before new front tail body more d len errors.AlreadyFailed o may many t = absurd t
+pub device_refused : (ds : List DiskState) (opening : Opened) (before : List Record) (tail behind : List ℕ) (d len : ℕ) → OpensHead opening before tail (heads.Device d len) behind → MayHead opening before (heads.Device d len) → len ≤ length behind
+    → IsNoBody opening d (take len behind) → AreRefused ds ds errors.BadDevice × ((place : ℕ) × IsFault opening before tail errors.BadDevice place)
+device_refused ds opening before tail behind d len o may long never =
+    let body = take len behind in
+    let many : length body ≡ len = omega (arith, long, length-take len behind) in
+    (refused_kept ds errors.BadDevice (λ e. cc), bad_body opening before tail body (drop len behind) d len (cut_behind len o) may many never)
 
 -- A page of zeros that is encoded as another page.
 pub zeros_refused : (ds : List DiskState) (opening : Opened) (before : List Record) (tail body more : List ℕ) (n : ℕ) → OpensHead opening before tail (heads.Page n) (body ++ more) → MayHead opening before (heads.Page n) → length body ≡ 4096
@@ -270,37 +268,116 @@ zeros_refused ds opening before tail body more n o may long zeros = (
     is_true b (inl e) never = e
     is_true b (inr e) never = absurd (never e)
 
--- What was taken, or refused, of a sector or a device.
+-- An intake of the same sizes.
+pub sized_on : (i j : Intake) → IsSized i → length j.ram.bytes ≡ length i.ram.bytes → length j.named ≡ length i.named → j.firsts.items ≡ i.firsts.items → map length j.bad.items ≡ map length i.bad.items → j.shapes.items ≡ i.shapes.items
+    → length i.shapes.items ≤ vec_capacity j.devices → IsSized j
+sized_on i j s ram named firsts marks shapes roomy = record {
+  pages = s.pages;
+  ram_size = ram ∙ s.ram_size;
+  named_size = rw shapes (named ∙ s.named_size);
+  firsts_are = rw shapes (firsts ∙ s.firsts_are);
+  marks = rw shapes (marks ∙ s.marks);
+  sound = rw shapes s.sound;
+  roomy = rw shapes roomy;
+}
 
-pub entered_sector : (old ds : List DiskState) (opening : Opened) (before : List Record) (new : Intake) (front tail body : List ℕ) (head : RecordHead) (r : Result (Unit {0}) RecvError) → Taking old ds opening before new front (record_with head body) r
-    → Entered old ds opening before new front tail head body r
-entered_sector old ds opening before new front tail body head (Ok x) t = t
-entered_sector old ds opening before new front tail body head (Err e) t = disk_refused _ old ds e t
+-- The marks of one disk changed, and not their number.
+pub marks_long : (bad : List (List Bool)) (k : ℕ) (m : List Bool) → k < length bad → length m ≡ length (get_or bad k []) → map length (set bad k m) ≡ map length bad
+marks_long [] k m below e = absurd (omega (arith, below))
+marks_long (x ∷ bad) zero m below e = ap (λ (n : ℕ). n ∷ map length bad) e
+marks_long (x ∷ bad) (suc k) m below e = ap (λ (ns : List ℕ). length x ∷ ns) (marks_long bad k m (omega (arith, below)) e)
 
-pub entered_device : (ds : List DiskState) (opening : Opened) (before : List Record) (new : Intake) (front tail body more : List ℕ) (d len : ℕ) (r : Result (Unit {0}) RecvError) → OpensHead opening before tail (heads.Device d len) (body ++ more)
-    → MayHead opening before (heads.Device d len) → length body ≡ len → TakingDevice ds opening before new front d body r → Entered ds ds opening before new front tail (heads.Device d len) body r
-entered_device ds opening before new front tail body more d len (Ok x) o may many t = (kept ds, t)
-entered_device ds opening before new front tail body more d len (Err e) o may many t = device_refused ds opening before new front tail body more d len e o may many t
+-- A page that RAM has is one of the header's, and has a mark.
+pub page_there : {ds : List DiskState} {opening : Opened} {before : List Record} {i : Intake} {front : List ℕ} (n : ℕ) → HasRead ds opening before i front → (4096 * n + 4096 ≤ length i.ram.bytes) ↔ (n < opening.pages)
+page_there n h = (λ low. omega (arith, low, h.taken.ram_size), λ low. omega (arith, low, h.taken.ram_size))
 
--- Memory is refused to devices alone.
+pub page_marked : (i : Intake) (n : ℕ) → IsSized i → 4096 * n + 4096 ≤ length i.ram.bytes → n < length i.named
+page_marked i n s low = omega (arith, low, s.ram_size, s.named_size, size_grows (map sector_count i.shapes.items) s.pages)
 
-pub never_memory : (head : RecordHead) (r : Result (Unit {0}) RecvError) → IfErr r (λ e. e ≢ errors.NoMemory) → IfErr r (λ e. e ≡ errors.NoMemory → IsDeviceHead head)
-never_memory head (Ok x) h = tt
-never_memory head (Err e) h = λ same. absurd (h same)
+-- The head of a device has its tag.
+pub device_tag : (tail more : List ℕ) (tag : ℕ) (head : RecordHead) → IsDeviceHead head → tail ≡ tag ∷ more → BeginsHead tail head → tag ≡ 4
+device_tag tail more tag (heads.Page n) is e b = absurd is
+device_tag tail more tag (heads.Sector d n good) is e b = absurd is
+device_tag tail more tag (heads.RoundEnd n) is e b = absurd is
+device_tag tail more tag (heads.Device d len) is e b = head_same (sym e ∙ b.whole)
+device_tag tail more tag heads.Commit is e b = absurd is
+device_tag tail more tag (heads.ZeroPage n) is e b = absurd is
 
-pub device_memory : (d len : ℕ) (r : Result (Unit {0}) RecvError) → IfErr r (λ e. e ≡ errors.NoMemory → IsDeviceHead (heads.Device d len))
-device_memory d len (Ok x) = tt
-device_memory d len (Err e) = λ same. tt
+-- The digest that comes.
+pub digest_refused : (opening : Opened) (before : List Record) (tail behind : List ℕ) → OpensHead opening before tail heads.Commit behind → length (take 32 behind) ≡ 32 → take 32 behind ≢ sha256 (header opening ++ texts before)
+    → (place : ℕ) × IsFault opening before tail errors.BadDigest place
+digest_refused opening before tail behind o many never =
+    let parts = cut_behind 32 o in
+    (33, record { digest = take 32 behind; more = drop 32 behind; opens = opens_at 5 (take 32 behind ++ drop 32 behind) parts.opens parts.whole; long = many; never = never; there = refl })
 
--- The body of a sector.
+pub digest_there : (opening : Opened) (before : List Record) (tail behind : List ℕ) → OpensHead opening before tail heads.Commit behind → take 32 behind ≡ sha256 (header opening ++ texts before) → Ends opening before tail
+digest_there opening before tail behind o same =
+    let parts = cut_behind 32 o in
+    record { more = drop 32 behind; opens = opens_at 5 (sha256 (header opening ++ texts before) ++ drop 32 behind) parts.opens (parts.whole ∙ ap (λ (x : List ℕ). 5 ∷ (x ++ drop 32 behind)) same) }
 
-pub good_body : (d n : ℕ) (good : Bool) (body : List ℕ) → length body ≡ body_len (heads.Sector d n good) → 512 ≤ length body → (good ≡ true) × (length body ≡ 512)
-good_body d n true body e long = (refl, e)
-good_body d n false body e long = absurd (omega (arith, e, long))
+-- Whether it has ended is nothing of what was read.
+pub ended_on : (ds : List DiskState) (opening : Opened) (before : List Record) (i : Intake) (ended : Bool) (front : List ℕ) → HasRead ds opening before i front → HasRead ds opening before (record i { ended = ended }) front
+ended_on ds opening before i ended front h = record {
+  head = h.head;
+  fits = h.fits;
+  suits = h.suits;
+  good = h.good;
+  whole = h.whole;
+  version_is = h.version_is;
+  ram_is = h.ram_is;
+  shapes_are = h.shapes_are;
+  firsts_are = h.firsts_are;
+  sectors = h.sectors;
+  written = h.written;
+  entries = h.entries;
+  split = h.split;
+  each = h.each;
+  numbered = h.numbered;
+  rounds_are = h.rounds_are;
+  taken = h.taken;
+  devices_are = h.devices_are;
+  sound = h.sound;
+  has = h.has;
+}
 
-pub bad_body_by : (d n : ℕ) (good : Bool) (body : List ℕ) → length body ≡ body_len (heads.Sector d n good) → length body < 512 → good ≡ false
-bad_body_by d n true body e short = absurd (omega (arith, e, short))
-bad_body_by d n false body e short = refl
+-- A record without a body never waits.
+pub all_long : (head : RecordHead) (behind : List ℕ) (r : Result Bool RecvError) → body_len head ≡ 0 → IsLong head behind r
+all_long head behind (Ok took) none = λ e. omega (arith, none)
+all_long head behind (Err e) none = tt
 
-pub all_taken : (n : ℕ) (body : List ℕ) → length body ≡ n → take n body ≡ body
-all_taken n body e = ap (λ (k : ℕ). take k body) (sym e) ∙ take-length body
+pub all_short : (head : RecordHead) (behind : List ℕ) (r : Result Bool RecvError) → OnOk r (r ≡ Ok true) → IsShort head behind r
+all_short head behind (Ok true) all = λ e. absurd cc
+all_short head behind (Ok false) all = absurd cc
+all_short head behind (Err e) all = tt
+
+pub never_memory : (r : Result Bool RecvError) → IfErr r (λ e. e ≢ errors.NoMemory) → r ≡ Err errors.NoMemory → ⊥
+never_memory (Ok took) h e = cc
+never_memory (Err x) h e = h (let same : x ≡ errors.NoMemory = cc in same)
+
+-- What came of the digest, as its reader tells it: `ended` and `was`, after and before, and whether the digest of what came before is as it was.
+pub digest_done : {ended was : Bool} {A : Type 0} (r : Result Bool RecvError) → IfOk r (λ took. (took ≡ true → ended ≡ true) × (took ≡ false → (ended ≡ was) × A)) → IfOk r (λ took. took ≡ true → ended ≡ true)
+digest_done (Ok took) h = h.0
+digest_done (Err e) h = tt
+
+pub digest_untouched : (r : Result Bool RecvError) (ended was : Bool) (A : Type 0) → IfOk r (λ took. (took ≡ true → ended ≡ true) × (took ≡ false → (ended ≡ was) × A)) → ended ≡ false → OnOk r A
+digest_untouched (Ok true) ended was A h on = absurd (not_both_ways ended (h.0 refl) on)
+digest_untouched (Ok false) ended was A h on = (h.1 refl).1
+digest_untouched (Err e) ended was A h on = tt
+
+pub digest_goes_on : (r : Result Bool RecvError) (ended was : Bool) (A : Type 0) → IfOk r (λ took. (took ≡ true → ended ≡ true) × (took ≡ false → (ended ≡ was) × A)) → was ≡ false → r ≡ Ok false → ended ≡ false
+digest_goes_on (Ok true) ended was A h on e = absurd cc
+digest_goes_on (Ok false) ended was A h on e = (h.1 refl).0 ∙ on
+digest_goes_on (Err x) ended was A h on e = absurd cc
+
+pub some_spelled : (head : RecordHead) → 0 < length (spelled_head head)
+some_spelled (heads.Page n) = omega arith
+some_spelled (heads.Sector d n good) = omega arith
+some_spelled (heads.RoundEnd n) = omega arith
+some_spelled (heads.Device d len) = omega arith
+some_spelled heads.Commit = omega arith
+some_spelled (heads.ZeroPage n) = omega arith
+
+-- What holds anyway holds where a record was taken.
+pub anyway : {P : Type 0} (r : Result Bool RecvError) → P → OnOk r P
+anyway (Ok took) p = p
+anyway (Err e) p = tt

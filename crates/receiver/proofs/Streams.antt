@@ -17,9 +17,8 @@ use Rattle.guestmem.proofs.ByteLaws.{IsBytes-drop}
 use Rattle.wire.proofs.Unique.{body_spells, stream_begins, alike}
 use Rattle.wire.proofs.HeaderLemmas.{header_of-spelled}
 use Rattle.receiver.specs.Good.{AreGood}
-use Rattle.receiver.specs.Fed.{device_records}
+use Rattle.receiver.specs.Fed.{IsReading, device_records}
 use Rattle.receiver.specs.Faults.{WaitsHead}
-use Rattle.receiver.specs.Receiving.{IsReading}
 use Rattle.receiver.specs.declared.intake.Intake.{Intake}
 use Rattle.receiver.proofs.Aligned.{records_led, LongerRecords, good_spell, next_good}
 use Rattle.receiver.proofs.Knowing.{texts-append, texts_devices, no_other}

@@ -106,7 +106,7 @@ taken_item v ram ram2 disks disks2 named l es r here h names there size is other
       ∙ shown_at (same_item i here) l r (record_in v ram disks i) (record_in v ram2 disks2 i) here i named (last_named i es) refl there has h.named_size (λ e. ap (record_in v ram2 disks2) e ∙ is) (others i has) (h.last i has);
 }
 
-put_size : (ram b : List ℕ) (i : ℕ) → 4096 * i + 4096 ≤ length ram → length b ≡ 4096 → length (put_page ram i b) ≡ length ram
+pub put_size : (ram b : List ℕ) (i : ℕ) → 4096 * i + 4096 ≤ length ram → length b ≡ 4096 → length (put_page ram i b) ≡ length ram
 put_size ram b i le e = omega (arith, le, e, length-append (take (4096 * i) ram) (b ++ drop (4096 * i + 4096) ram), length-append b (drop (4096 * i + 4096) ram), length-take (4096 * i) ram, length-drop (4096 * i + 4096) ram)
 
 pub taken_page : (v : ℕ) (ram b : List ℕ) (disks : List (List Sector)) (named : List Bool) (l : Layout) (i : ℕ) (es : List Record) (r : Record) → AreTaken v ram disks named l es → i < l.pages → 4096 * i + 4096 ≤ length ram → length b ≡ 4096

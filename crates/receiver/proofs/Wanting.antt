@@ -1,14 +1,14 @@
 -- Memory is wanted for devices alone.
-use Rattle.std.proofs.Common.{◌≡◌, ℕ, ◌+◌, ◌≤◌, List, [], ◌++◌, length, refl, sym, ap, subst, ◌∙◌, append_assoc, append-nil, arith, Option}
+use Rattle.std.proofs.Common.{◌≡◌, ℕ, ◌+◌, ◌≤◌, List, [], ◌++◌, length, take, drop, refl, sym, ap, subst, ◌∙◌, append_assoc, append-nil, arith, Option}
 use denote.RawPtr.{Ptr}
 use Rattle.std.specs.Prelude.{Result, Ok, Err, OnErr, true}
 use Rattle.std.specs.Result.{is_err}
-use Rattle.std.proofs.lemmas.List.{length-append}
+use Rattle.std.proofs.lemmas.List.{length-append, length-take, take-append-drop}
 use Rattle.sha2.specs.declared.Sha256.{Sha256}
 use Rattle.blk.specs.Disk.{DiskState}
 use Rattle.wire.specs.Header.{Begins, Opening}
 use Rattle.receiver.specs.Opened.{Opened, header}
-use Rattle.wire.specs.RecordHeads.{body_len, spelled_head}
+use Rattle.wire.specs.RecordHeads.{spelled_head}
 use Rattle.wire.specs.Records.{Record, device, spelled_record}
 use Rattle.wire.specs.Stream.{texts}
 use Rattle.wire.specs.declared.record_head.RecordHead.{RecordHead}
@@ -17,7 +17,7 @@ use Rattle.wire.proofs.Heads.{spelled_with}
 use Rattle.receiver.specs.Disks.{sizes_in}
 use Rattle.receiver.specs.Fed.{HasRead}
 use Rattle.receiver.specs.Receiving.{HasBeenFed, HasDevice, IsKnown, IsPastHead, IsTaken, Received, received_by}
-use Rattle.receiver.specs.Standing.{BeginsDevice, IsDeviceHead}
+use Rattle.receiver.specs.Standing.{BeginsDevice, IsWholeDevice}
 use Rattle.receiver.specs.declared.intake.Intake.{Intake}
 use Rattle.receiver.specs.declared.ram_terms.RamTerms.{RamTerms}
 use Rattle.receiver.specs.declared.recv_error.RecvError.{RecvError}
@@ -37,18 +37,22 @@ pub on_err : {A E : Type 0} (r : Result A E) (P : Type 0) → OnErr r P → true
 on_err (Ok x) P h e = absurd cc
 on_err (Err x) P h e = h
 
-pub device_begins : (tail rest body more : List ℕ) (head : RecordHead) → IsDeviceHead head → tail ≡ spelled_head head ++ rest → rest ≡ body ++ more → length body ≡ body_len head → BeginsDevice tail
-device_begins tail rest body more (heads.Page n) is e parts many = absurd is
-device_begins tail rest body more (heads.Sector d n good) is e parts many = absurd is
-device_begins tail rest body more (heads.RoundEnd n) is e parts many = absurd is
-device_begins tail rest body more (heads.Device d len) is e parts many = record {
-  number = d;
-  body = body;
-  more = more;
-  whole = e ∙ ap (λ (x : List ℕ). spelled_head (heads.Device d len) ++ x) parts ∙ sym (append_assoc (spelled_head (heads.Device d len)) body more) ∙ ap (λ (x : List ℕ). x ++ more) (sym (spelled_with (heads.Device d len) body many));
-}
-device_begins tail rest body more heads.Commit is e parts many = absurd is
-device_begins tail rest body more (heads.ZeroPage n) is e parts many = absurd is
+pub device_begins : (tail behind : List ℕ) (head : RecordHead) → IsWholeDevice head behind → tail ≡ spelled_head head ++ behind → BeginsDevice tail
+device_begins tail behind (heads.Page n) is e = absurd is
+device_begins tail behind (heads.Sector d n good) is e = absurd is
+device_begins tail behind (heads.RoundEnd n) is e = absurd is
+device_begins tail behind (heads.Device d len) is e =
+    let body = take len behind in
+    let many : length body ≡ len = omega (arith, is, length-take len behind) in
+    record {
+      number = d;
+      body = body;
+      more = drop len behind;
+      whole = e ∙ ap (λ (x : List ℕ). spelled_head (heads.Device d len) ++ x) (sym (take-append-drop len behind)) ∙ sym (append_assoc (spelled_head (heads.Device d len)) body (drop len behind))
+          ∙ ap (λ (x : List ℕ). x ++ drop len behind) (sym (spelled_with (heads.Device d len) body many));
+    }
+device_begins tail behind heads.Commit is e = absurd is
+device_begins tail behind (heads.ZeroPage n) is e = absurd is
 
 pub device_here : {ds : List DiskState} {opening : Opened} {before : List Record} {i : Intake} {front : List ℕ} (bytes tail : List ℕ) (from : ℕ) → HasRead ds opening before i front → bytes ≡ front ++ tail → BeginsDevice tail → from ≤ length front → HasDevice opening.ram (sizes_in ds) bytes from
 device_here {opening = opening} {before = before} {front = front} bytes tail from h e b le = record {
@@ -86,11 +90,7 @@ past_head ram ds digest b held stages.Head opening rest t begins =
     let same : b ≡ held = t.whole ∙ ap (λ (x : List ℕ). x ++ held) k.0 in
     absurd (k.2.no_header opening rest (rw same at begins))
 past_head ram ds digest b held (stages.Records i) opening rest t begins = tt
-past_head ram ds digest b held (stages.Ended i) opening rest t begins = tt
 past_head ram ds digest b held stages.Failed opening rest t begins = absurd t.known
-
-abbrev pub WantsAt : Received → List ℕ → Type 0
-WantsAt r piece = (b : List ℕ) → HasBeenFed r b → (opening : Opening) (rest : List ℕ) → Begins b opening rest → (from : ℕ) → from + length r.held ≡ length b → HasDevice r.ram r.sizes (b ++ piece) from
 
 pub fed_wants : (ram : RamTerms) (place : Option Ptr) (ds : List DiskState) (stage : Stage) (digest : Sha256) (held piece b : List ℕ) (opening : Opening) (rest : List ℕ) (from : ℕ)
     → ((front : List ℕ) → IsKnown ram ds digest front held stage → IsPastHead stage → HasDevice ram (sizes_in ds) (front ++ (held ++ piece)) (length front))

@@ -1,6 +1,6 @@
 -- Records taken one after the other.
-use Rattle.std.proofs.Common.{◌≡◌, ◌≢◌, ℕ, ◌+◌, ◌<◌, ◌≤◌, inr, List, [], ◌∷◌, ◌++◌, length, take, drop, refl, sym, ap, subst, ◌∙◌, append_assoc, append-nil, arith}
-use Rattle.std.proofs.lemmas.List.{take-append-drop, length-append, length-drop}
+use Rattle.std.proofs.Common.{◌≡◌, ◌≢◌, ℕ, ◌+◌, ◌<◌, ◌≤◌, inr, Bool, true, false, List, [], ◌∷◌, ◌++◌, length, take, drop, refl, sym, ap, subst, ◌∙◌, append_assoc, append-nil, arith}
+use Rattle.std.proofs.lemmas.List.{take-append-drop, take_at, length-append, length-drop}
 use Rattle.std.proofs.Math.Seq.{take-add}
 use Rattle.sha2.specs.Hashers.{Holds256}
 use Rattle.sha2.specs.Sha256.{sha256}
@@ -12,12 +12,13 @@ use Rattle.wire.specs.Stream.{texts}
 use Rattle.blk.specs.Disk.{DiskState}
 use Rattle.machine.specs.Seen.{Marks}
 use Rattle.receiver.specs.Disks.{AreKept, AreRefused, MarksRefused, all_marks_in, sizes_in}
-use Rattle.receiver.specs.Faults.{Opens, IsTrailing, IsFault, IsFront, Fault}
-use Rattle.receiver.specs.Fed.{HasRead, Tells, Waits, Ends, IsOpen, IsEnded}
+use Rattle.receiver.specs.Faults.{Opens, IsFault, IsFront, Fault}
+use Rattle.receiver.specs.Fed.{Ends, HasRead, IsEnded, IsKnownIn, IsRead, IsUpTo, Tells, TookRecord, Waits}
 use Rattle.receiver.specs.declared.intake.Intake.{Intake}
 use Rattle.receiver.specs.declared.ram_terms.RamTerms.{RamTerms}
 use Rattle.receiver.specs.declared.recv_error.RecvError.{RecvError}
 use Rattle.receiver.specs.declared.recv_error.RecvError.TheVariants as errors
+use Rattle.receiver.proofs.Lists.{empty}
 use Rattle.receiver.proofs.Quiet.{nothing_waits}
 
 pub tells : (F : Type 0) (e : RecvError) → F → Tells e F
@@ -94,27 +95,20 @@ pub fault_refused : (ds : List DiskState) (opening : Opened) (before : List Reco
     → AreRefused ds ds e × Tells e ((place : ℕ) × IsFault opening before tail e place)
 fault_refused ds opening before tail e f = (refused_kept ds e (never_disk opening before tail e f.0 f.1), tells _ e f)
 
--- Whole good records so far.
-pub record SoFar (old ds : List DiskState) (opening : Opened) (i : Intake) (digest : Sha256) (front : List ℕ) : Type 0 where
-  pub before : List Record
+-- What was known of an intake is known with the bytes that were worked off behind it.
+pub record SoFar (ram : RamTerms) (old ds : List DiskState) (i : Intake) (digest : Sha256) (front : List ℕ) : Type 0 where
   pub same : AreKept old ds
-  pub digested : Holds256 digest front
-  pub read : HasRead ds opening before i front
+  pub known : IsUpTo i.ended ram ds digest front i
 
-pub nothing_yet : (ds : List DiskState) (opening : Opened) (before : List Record) (i : Intake) (digest : Sha256) (front bytes : List ℕ) → Holds256 digest front → HasRead ds opening before i front → SoFar ds ds opening i digest (front ++ take 0 bytes)
-nothing_yet ds opening before i digest front bytes d h =
-    let same : front ++ take 0 bytes ≡ front = append-nil front in
-    record { before = before; same = kept ds; digested = rw same d; read = rw same h }
+pub nothing_yet : (ram : RamTerms) (ds : List DiskState) (i : Intake) (digest : Sha256) (front bytes : List ℕ) → IsUpTo i.ended ram ds digest front i → SoFar ram ds ds i digest (front ++ take 0 bytes)
+nothing_yet ram ds i digest front bytes k = record { same = kept ds; known = subst (λ (x : List ℕ). IsUpTo i.ended ram ds digest x i) (sym (append-nil front)) k }
 
-more_taken : (front bytes : List ℕ) (at len : ℕ) → (front ++ take at bytes) ++ take len (drop at bytes) ≡ front ++ take (at + len) bytes
+-- So far no digest was read.
+pub reads_on : (ram : RamTerms) (ds : List DiskState) (i : Intake) (digest : Sha256) (front : List ℕ) → i.ended ≡ false → IsUpTo i.ended ram ds digest front i → Holds256 digest front × IsRead ram ds front i
+reads_on ram ds i digest front on k = subst (λ (b : Bool). IsUpTo b ram ds digest front i) on k
+
+pub more_taken : (front bytes : List ℕ) (at len : ℕ) → (front ++ take at bytes) ++ take len (drop at bytes) ≡ front ++ take (at + len) bytes
 more_taken front bytes at len = append_assoc front (take at bytes) (take len (drop at bytes)) ∙ ap (λ (x : List ℕ). front ++ x) (sym (take-add at len bytes))
-
-pub one_more : (old ds new : List DiskState) (opening : Opened) (before : List Record) (i : Intake) (digest : Sha256) (front bytes : List ℕ) (at len : ℕ) → AreKept old ds → Holds256 digest ((front ++ take at bytes) ++ take len (drop at bytes))
-    → AreKept ds new × ((r : Record) × HasRead new opening (before ++ r ∷ []) i ((front ++ take at bytes) ++ take len (drop at bytes))) → SoFar old new opening i digest (front ++ take (at + len) bytes)
-one_more old ds new opening before i digest front bytes at len same d h =
-    let P : List ℕ → Type 0 = λ x. Holds256 digest x in
-    let Q : List ℕ → Type 0 = λ x. HasRead new opening (before ++ h.1.0 ∷ []) i x in
-    record { before = before ++ h.1.0 ∷ []; same = then_kept old ds new same h.0; digested = subst P (more_taken front bytes at len) d; read = subst Q (more_taken front bytes at len) h.1.1 }
 
 pub front_of : {ds : List DiskState} {opening : Opened} {before : List Record} {i : Intake} {front : List ℕ} (bytes tail : List ℕ) → HasRead ds opening before i front → bytes ≡ front ++ tail → IsFront opening.ram (sizes_in ds) bytes opening before tail
 front_of {opening = opening} {before = before} bytes tail h e = record {
@@ -136,54 +130,62 @@ fault_here {opening = opening} {before = before} bytes tail e h is f =
 pub cut : (front bytes : List ℕ) (at : ℕ) → front ++ bytes ≡ (front ++ take at bytes) ++ drop at bytes
 cut front bytes at = ap (λ (x : List ℕ). front ++ x) (sym (take-append-drop at bytes)) ∙ sym (append_assoc front (take at bytes) (drop at bytes))
 
-pub refused : (old ds new : List DiskState) (opening : Opened) (before : List Record) (i : Intake) (front bytes : List ℕ) (at : ℕ) (e : RecvError) → AreKept old ds → HasRead ds opening before i (front ++ take at bytes)
-    → AreRefused ds new e × Tells e ((place : ℕ) × IsFault opening before (drop at bytes) e place) → AreRefused old new e × Tells e ((k : ℕ) × Fault opening.ram (sizes_in old) (front ++ bytes) e k)
-refused old ds new opening before i front bytes at e same h t =
-    (then_refused old ds new e same t.0, tells_more _ _ e (λ f. subst (λ sizes. (k : ℕ) × Fault opening.ram sizes (front ++ bytes) e k) same.sizes (fault_here (front ++ bytes) (drop at bytes) e h (cut front bytes at) f)) t.1)
+pub refused : (ram : RamTerms) (old ds new : List DiskState) (opening : Opened) (before : List Record) (i : Intake) (front bytes : List ℕ) (at : ℕ) (e : RecvError) → opening.ram ≡ ram → AreKept old ds → HasRead ds opening before i (front ++ take at bytes)
+    → AreRefused ds new e × Tells e ((place : ℕ) × IsFault opening before (drop at bytes) e place) → AreRefused old new e × Tells e ((k : ℕ) × Fault ram (sizes_in old) (front ++ bytes) e k)
+refused ram old ds new opening before i front bytes at e based same h t =
+    let here = λ f. fault_here (front ++ bytes) (drop at bytes) e h (cut front bytes at) f in
+    let at_ram = λ f. subst (λ (r : RamTerms). (k : ℕ) × Fault r (sizes_in ds) (front ++ bytes) e k) based (here f) in
+    (then_refused old ds new e same t.0, tells_more _ _ e (λ f. subst (λ sizes. (k : ℕ) × Fault ram sizes (front ++ bytes) e k) same.sizes (at_ram f)) t.1)
 
-pub waiting : (old ds new : List DiskState) (opening : Opened) (before : List Record) (i : Intake) (digest : Sha256) (front tail : List ℕ) → AreKept old ds → Holds256 digest front → AreKept ds new × HasRead new opening before i front × Waits opening before tail
-    → AreKept old new × Holds256 digest front × IsOpen new opening i front tail
-waiting old ds new opening before i digest front tail same d h = (then_kept old ds new same h.0, d, record { before = before; read = h.1; waits = h.2 })
+-- The record at the front waits.
+pub waiting : (ram : RamTerms) (old ds new : List DiskState) (opening : Opened) (before : List Record) (i : Intake) (digest : Sha256) (front tail : List ℕ) → opening.ram ≡ ram → i.ended ≡ false → AreKept old ds → Holds256 digest front
+    → AreKept ds new × HasRead new opening before i front × Waits opening before tail → AreKept old new × IsKnownIn i.ended ram new digest front tail i
+waiting ram old ds new opening before i digest front tail based on same d h =
+    (then_kept old ds new same h.0, subst (λ (b : Bool). IsKnownIn b ram new digest front tail i) (sym on) (d, record { opening = opening; based = based; open_at = record { before = before; read = h.1; waits = h.2 } }))
 
-pub at_end : (old ds : List DiskState) (opening : Opened) (i : Intake) (digest : Sha256) (front bytes : List ℕ) (at : ℕ) → SoFar old ds opening i digest (front ++ take at bytes) → length bytes ≤ at
-    → AreKept old ds × Holds256 digest (front ++ take at bytes) × IsOpen ds opening i (front ++ take at bytes) (drop at bytes)
-at_end old ds opening i digest front bytes at h le = (h.same, h.digested, record { before = h.before; read = h.read; waits = nothing_waits opening h.before (drop at bytes) (omega (arith, le, length-drop at bytes)) })
+-- No bytes are left.
+left_in : (ended : Bool) (ram : RamTerms) (ds : List DiskState) (digest : Sha256) (front held : List ℕ) (i : Intake) → held ≡ [] → IsUpTo ended ram ds digest front i → IsKnownIn ended ram ds digest front held i
+left_in false ram ds digest front held i none k =
+    let r = k.1 in
+    (k.0, record { opening = r.opening; based = r.based; open_at = record { before = r.before; read = r.read; waits = nothing_waits r.opening r.before held (ap length none) } })
+left_in true ram ds digest front held i none k = (none, k)
 
-trailing_by : (opening : Opened) (before : List Record) (tail more : List ℕ) → Opens opening before tail 5 (sha256 (header opening ++ texts before) ++ more) → 33 < length tail → IsTrailing opening before tail 34
-trailing_by opening before tail [] o long = absurd (omega (arith, long, ap length o.whole, length-append (sha256 (header opening ++ texts before)) [], length-sha256 (header opening ++ texts before)))
-trailing_by opening before tail (byte ∷ more) o long = record { byte = byte; more = more; opens = o; there = refl }
+pub at_end : (ram : RamTerms) (old ds : List DiskState) (i : Intake) (digest : Sha256) (front bytes : List ℕ) (at : ℕ) → SoFar ram old ds i digest (front ++ take at bytes) → length bytes ≤ at
+    → AreKept old ds × IsKnownIn i.ended ram ds digest (front ++ take at bytes) (drop at bytes) i
+at_end ram old ds i digest front bytes at h le = (h.same, left_in i.ended ram ds digest (front ++ take at bytes) (drop at bytes) i (empty (drop at bytes) (omega (arith, le, length-drop at bytes))) h.known)
 
-pub trailing : (old ds new : List DiskState) (opening : Opened) (before : List Record) (i : Intake) (front bytes : List ℕ) (at : ℕ) → AreKept old ds → AreKept ds new × HasRead new opening before i (front ++ take at bytes) × Ends opening before (drop at bytes) → at + 33 < length bytes
-    → AreRefused old new errors.Trailing × ((k : ℕ) × Fault opening.ram (sizes_in old) (front ++ bytes) errors.Trailing k)
-trailing old ds new opening before i front bytes at same h long =
-    let both = then_kept old ds new same h.0 in (
-      record { sizes = both.sizes; marks = both.marks },
-      subst (λ sizes. (k : ℕ) × Fault opening.ram sizes (front ++ bytes) errors.Trailing k) both.sizes (fault_here (front ++ bytes) (drop at bytes) errors.Trailing h.1 (cut front bytes at) (34, trailing_by opening before (drop at bytes) h.2.more h.2.opens (omega (arith, long, length-drop at bytes)))),
-    )
-
-ended_by : (opening : Opened) (before : List Record) (tail more : List ℕ) → Opens opening before tail 5 (sha256 (header opening ++ texts before) ++ more) → length tail ≤ 33 → tail ≡ 5 ∷ sha256 (header opening ++ texts before)
-ended_by opening before tail [] o short = o.whole ∙ ap (λ (x : List ℕ). 5 ∷ x) (append-nil (sha256 (header opening ++ texts before)))
-ended_by opening before tail (byte ∷ more) o short = absurd (omega (arith, short, ap length o.whole, length-append (sha256 (header opening ++ texts before)) (byte ∷ more), length-sha256 (header opening ++ texts before)))
+ended_by : (opening : Opened) (before : List Record) (tail more : List ℕ) → Opens opening before tail 5 (sha256 (header opening ++ texts before) ++ more) → take 33 tail ≡ 5 ∷ sha256 (header opening ++ texts before)
+ended_by opening before tail more o =
+    let sum = sha256 (header opening ++ texts before) in
+    ap (take 33) o.whole ∙ take_at (5 ∷ sum) more 33 (omega (arith, length-sha256 (header opening ++ texts before)))
 
 pub commit_text : (digest : List ℕ) → spelled_record (commit digest) ≡ 5 ∷ digest
 unfolding spelled_record
 commit_text digest = refl
 
-pub ended : (old ds new : List DiskState) (opening : Opened) (before : List Record) (i : Intake) (front bytes : List ℕ) (at : ℕ) → AreKept old ds → AreKept ds new × HasRead new opening before i (front ++ take at bytes) × Ends opening before (drop at bytes) → length bytes ≤ at + 33
-    → at + 33 ≡ length bytes → AreKept old new × (at + 33 ≡ length bytes) × IsEnded new opening i (front ++ bytes)
-ended old ds new opening before i front bytes at same h short all =
-    let tail = ended_by opening before (drop at bytes) h.2.more h.2.opens (omega (arith, short, length-drop at bytes)) in
-    let read = front ++ take at bytes in (
-      then_kept old ds new same h.0,
-      all,
-      record {
-        before = before;
-        front = read;
-        read = h.1;
-        complete = h.2.opens.complete (omega arith, omega arith);
-        whole = cut front bytes at ∙ ap (λ (x : List ℕ). read ++ x) (tail ∙ ap (λ (x : List ℕ). 5 ∷ sha256 x) (sym h.1.whole) ∙ sym (commit_text (sha256 read)));
-      },
-    )
+-- The digest was read: the bytes up to its end are a whole stream.
+pub ended : (ds : List DiskState) (opening : Opened) (before : List Record) (i : Intake) (front tail : List ℕ) → HasRead ds opening before i front → Ends opening before tail → IsEnded ds opening i (front ++ take 33 tail)
+ended ds opening before i front tail h e = record {
+  before = before;
+  front = front;
+  read = h;
+  complete = e.opens.complete (omega arith, omega arith);
+  whole = ap (λ (x : List ℕ). front ++ x) (ended_by opening before tail e.more e.opens ∙ ap (λ (x : List ℕ). 5 ∷ sha256 x) (sym h.whole) ∙ sym (commit_text (sha256 front)));
+}
+
+-- One record more, or the digest.
+more_in : (ended : Bool) (ram : RamTerms) (ds : List DiskState) (opening : Opened) (before : List Record) (i : Intake) (digest : Sha256) (front tail : List ℕ) (len : ℕ) → opening.ram ≡ ram → (ended ≡ false → Holds256 digest (front ++ take len tail))
+    → TookRecord ended ds opening before i front tail len → IsUpTo ended ram ds digest (front ++ take len tail) i
+more_in false ram ds opening before i digest front tail len based d t = (d refl, record { opening = opening; based = based; before = before ++ t.0 ∷ []; read = t.1 })
+more_in true ram ds opening before i digest front tail len based d t =
+    record { opening = opening; based = based; ended = subst (λ (n : ℕ). IsEnded ds opening i (front ++ take n tail)) (sym t.0) (ended ds opening before i front tail t.1 t.2) }
+
+pub one_more : (ram : RamTerms) (old ds new : List DiskState) (opening : Opened) (before : List Record) (i : Intake) (digest : Sha256) (front bytes : List ℕ) (at len : ℕ) → opening.ram ≡ ram → AreKept old ds
+    → (i.ended ≡ false → Holds256 digest ((front ++ take at bytes) ++ take len (drop at bytes))) → AreKept ds new × TookRecord i.ended new opening before i (front ++ take at bytes) (drop at bytes) len → SoFar ram old new i digest (front ++ take (at + len) bytes)
+one_more ram old ds new opening before i digest front bytes at len based same d h = record {
+  same = then_kept old ds new same h.0;
+  known = subst (λ (x : List ℕ). IsUpTo i.ended ram new digest x i) (more_taken front bytes at len) (more_in i.ended ram new opening before i digest (front ++ take at bytes) (drop at bytes) len based d h.1);
+}
 
 pub within : (held rest : List ℕ) (at len : ℕ) → rest ≡ drop at held → at ≤ length held → len ≤ length rest → at + len ≤ length held
 within held rest at len e low room = omega (arith, ap length e, length-drop at held, low, room)

@@ -10,7 +10,7 @@ use Rattle.machine.specs.First.{marks_in}
 use Rattle.machine.specs.Seen.{Marks, failed_once, marks_at, or_no_marks}
 use Rattle.wire.specs.Records.{HasSpelling, Record, sector, spelled_record}
 use Rattle.receiver.specs.Disks.{AreKept, AreRefused, all_marks_in, sizes_of}
-use Rattle.receiver.specs.Fed.{HasRead, Tells}
+use Rattle.receiver.specs.Fed.{HasRead}
 use Rattle.receiver.specs.Good.{devices_in}
 use Rattle.receiver.specs.Spots.{IsSpotOf, disks_before}
 use Rattle.receiver.specs.declared.intake.Intake.{Intake}
@@ -68,9 +68,6 @@ write_failed ds k n b e d lt w =
         rose = map-set marks_in ds k d ∙ ap (set (all_marks_in ds) k) (now ∙ ap failed_once (sym at));
       };
     }
-
-pub disk_refused : (F : Type 0) (a b : List DiskState) (e : RecvError) → (e ≡ errors.DiskFailed) × AreRefused a b errors.DiskFailed → AreRefused a b e × Tells e F
-disk_refused F a b e h = rw h.0 (h.1, tt)
 
 -- One that succeeded.
 pub took_good : {T E : Type 0} (ds : List DiskState) (d : DiskState) (front : List ℕ) (opening : Opened) (before : List Record) (i j : Intake) (dev n : ℕ) (b : List ℕ) (spot : Spot) (u : T) → HasRead ds opening before i front → devices_in before ≡ 0

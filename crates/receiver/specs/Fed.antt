@@ -1,5 +1,5 @@
 -- What a receiver has read of the bytes that it was fed.
-use Rattle.std.specs.Prelude.{All, ◌≡◌, ◌<◌, ℕ, ◌+◌, ◌*◌, Bool, true, false, List, [], ◌∷◌, ◌++◌, length, take, drop, Result, Ok, Err}
+use Rattle.std.specs.Prelude.{All, ◌≡◌, ◌<◌, ℕ, ◌+◌, ◌*◌, Bool, true, false, List, [], ◌∷◌, ◌++◌, length, take, drop, Option, Some, None, Result, Ok, Err}
 use Rattle.std.specs.List.{AllByRecursion}
 use Rattle.sha2.specs.Hashers.{Holds256}
 use Rattle.sha2.specs.Sha256.{sha256}
@@ -21,8 +21,7 @@ use Rattle.receiver.specs.Good.{AreGood}
 use Rattle.receiver.specs.Taken.{AreTaken}
 use Rattle.receiver.specs.Faults.{IsComplete, Opens, IsFault, Fault}
 use Rattle.receiver.specs.declared.intake.Intake.{Intake}
-use Rattle.receiver.specs.declared.part.Part.{Part}
-use Rattle.receiver.specs.declared.part.Part.TheVariants as parts
+use Rattle.receiver.specs.declared.ram_terms.RamTerms.{RamTerms}
 use Rattle.receiver.specs.declared.recv_error.RecvError.{RecvError}
 use Rattle.receiver.specs.declared.recv_error.RecvError.TheVariants.{DiskFailed, NoMemory}
 
@@ -83,29 +82,21 @@ abbrev pub Checked : Opened → List Record → ℕ → List ℕ → Result (Uni
 Checked opening before tag more (Ok x) = Opens opening before (tag ∷ more) tag more
 Checked opening before tag more (Err e) = (place : ℕ) × IsFault opening before (tag ∷ more) e place
 
-abbrev pub size_of : Part → ℕ
-size_of parts.Wait = 0
-size_of (parts.Record len) = len
-size_of parts.End = 33
+-- A record of `len` bytes was taken in at the front of these bytes; or, where the intake has ended, the digest.
+abbrev pub TookRecord : Bool → List DiskState → Opened → List Record → Intake → List ℕ → List ℕ → ℕ → Type 0
+TookRecord false disks opening before new front tail len = (r : Record) × HasRead disks opening (before ++ r ∷ []) new (front ++ take len tail)
+TookRecord true disks opening before new front tail len = (len ≡ 33) × HasRead disks opening before new front × Ends opening before tail
 
--- A record is not empty.
-abbrev pub IsLong : Part → Type 0
-IsLong parts.Wait = Unit {0}
-IsLong (parts.Record len) = 0 < len
-IsLong parts.End = Unit {0}
-
--- The digest of the bytes taken in is as before, except at the end of the stream.
-abbrev pub IsUntouched : Sha256 → Sha256 → Result Part RecvError → Type 0
-IsUntouched old new (Ok parts.Wait) = new ≡ old
-IsUntouched old new (Ok (parts.Record len)) = new ≡ old
-IsUntouched old new _ = Unit {0}
-
--- The disks and the intake, after it looked at the bytes that follow those that it has taken in.
-abbrev pub After : List DiskState → List DiskState → Opened → List Record → Intake → List ℕ → List ℕ → Result Part RecvError → Type 0
-After old disks opening before new front tail (Ok parts.Wait) = AreKept old disks × HasRead disks opening before new front × Waits opening before tail
-After old disks opening before new front tail (Ok (parts.Record len)) = AreKept old disks × ((r : Record) × HasRead disks opening (before ++ r ∷ []) new (front ++ take len tail))
-After old disks opening before new front tail (Ok parts.End) = AreKept old disks × HasRead disks opening before new front × Ends opening before tail
+-- The disks and the intake, after it looked at the bytes that follow those that it has taken in: it has taken the record at their front,
+-- or that waits, or was refused.
+abbrev pub After : List DiskState → List DiskState → Opened → List Record → Intake → List ℕ → List ℕ → Result (Option ℕ) RecvError → Type 0
+After old disks opening before new front tail (Ok None) = AreKept old disks × HasRead disks opening before new front × Waits opening before tail
+After old disks opening before new front tail (Ok (Some len)) = AreKept old disks × TookRecord new.ended disks opening before new front tail len
 After old disks opening before new front tail (Err e) = AreRefused old disks e × Tells e ((place : ℕ) × IsFault opening before tail e place)
+
+-- The same for all bytes that were taken in before, which have this digest.
+abbrev pub TakesPart : List DiskState → List DiskState → Intake → Intake → Sha256 → List ℕ → Result (Option ℕ) RecvError → Type 0
+TakesPart old disks i new digest bytes result = (front : List ℕ) (opening : Opened) (before : List Record) → Holds256 digest front → HasRead old opening before i front → After old disks opening before new front bytes result
 
 -- The intake has taken in the front of the bytes, and waits for more.
 pub record IsOpen (disks : List DiskState) (opening : Opened) (i : Intake) (front tail : List ℕ) : Type 0 where
@@ -121,8 +112,36 @@ pub record IsEnded (disks : List DiskState) (opening : Opened) (i : Intake) (byt
   pub complete : IsComplete opening before 5
   pub whole : bytes ≡ front ++ spelled_record (commit (sha256 front))
 
+-- The intake of a receiver that was told this of RAM has taken in these bytes, and not the digest.
+pub record IsRead (ram : RamTerms) (disks : List DiskState) (front : List ℕ) (i : Intake) : Type 0 where
+  pub opening : Opened
+  pub based : opening.ram ≡ ram
+  pub before : List Record
+  pub read : HasRead disks opening before i front
+
+-- The intake has taken the front of the bytes in, and those after it wait.
+pub record IsReading (ram : RamTerms) (disks : List DiskState) (front held : List ℕ) (i : Intake) : Type 0 where
+  pub opening : Opened
+  pub based : opening.ram ≡ ram
+  pub open_at : IsOpen disks opening i front held
+
+-- The intake has taken in a whole stream.
+pub record HasCome (ram : RamTerms) (disks : List DiskState) (bytes : List ℕ) (i : Intake) : Type 0 where
+  pub opening : Opened
+  pub based : opening.ram ≡ ram
+  pub ended : IsEnded disks opening i bytes
+
+-- These bytes were taken in, and have this digest; or, with the digest that ends them, they are a whole stream.
+abbrev pub IsUpTo : Bool → RamTerms → List DiskState → Sha256 → List ℕ → Intake → Type 0
+IsUpTo false ram disks digest front i = Holds256 digest front × IsRead ram disks front i
+IsUpTo true ram disks digest front i = HasCome ram disks front i
+
+-- What is known of the bytes of which those of `front` were taken in and those after it are held.
+abbrev pub IsKnownIn : Bool → RamTerms → List DiskState → Sha256 → List ℕ → List ℕ → Intake → Type 0
+IsKnownIn false ram disks digest front held i = Holds256 digest front × IsReading ram disks front held i
+IsKnownIn true ram disks digest front held i = (held ≡ []) × HasCome ram disks front i
+
 -- The disks, the digest and the intake, after it worked through these bytes, which follow those of `front`, up to `at`.
-abbrev pub Worked : List DiskState → List DiskState → Opened → Intake → Sha256 → List ℕ → List ℕ → Result (ℕ × Bool) RecvError → Type 0
-Worked old disks opening new digest front bytes (Ok (at, false)) = AreKept old disks × Holds256 digest (front ++ take at bytes) × IsOpen disks opening new (front ++ take at bytes) (drop at bytes)
-Worked old disks opening new digest front bytes (Ok (at, true)) = AreKept old disks × (at ≡ length bytes) × IsEnded disks opening new (front ++ bytes)
-Worked old disks opening new digest front bytes (Err e) = AreRefused old disks e × Tells e ((at : ℕ) × Fault opening.ram (sizes_in old) (front ++ bytes) e at)
+abbrev pub Worked : RamTerms → List DiskState → List DiskState → Intake → Sha256 → List ℕ → List ℕ → Result ℕ RecvError → Type 0
+Worked ram old disks new digest front bytes (Ok at) = AreKept old disks × IsKnownIn new.ended ram disks digest (front ++ take at bytes) (drop at bytes) new
+Worked ram old disks new digest front bytes (Err e) = AreRefused old disks e × Tells e ((at : ℕ) × Fault ram (sizes_in old) (front ++ bytes) e at)

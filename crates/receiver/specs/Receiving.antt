@@ -1,5 +1,5 @@
 -- What a receiver knows of the bytes that it was fed.
-use Rattle.std.specs.Prelude.{◌≡◌, ◌<◌, ◌≤◌, ℕ, List, [], ◌++◌, length, take, drop, Result, Ok, Err, Bool, true, false, Option, Some, None}
+use Rattle.std.specs.Prelude.{◌≡◌, ◌<◌, ◌≤◌, ℕ, List, [], ◌++◌, length, Bool, true, false, Option, Some, None}
 use denote.RawPtr.{Ptr}
 use Rattle.sha2.specs.Hashers.{Holds256}
 use Rattle.sha2.specs.Sha256.{sha256}
@@ -14,39 +14,37 @@ use Rattle.machine.specs.Applied.{bad_on}
 use Rattle.machine.specs.Room.{RoomSeen}
 use Rattle.machine.specs.Seen.{Marks}
 use Rattle.machine.specs.State.{MachineState}
-use Rattle.receiver.specs.Disks.{AreKept, AreRefused, IsUnsteady, all_marks_in, sizes_in}
+use Rattle.receiver.specs.Disks.{IsUnsteady, all_marks_in, sizes_in}
 use Rattle.receiver.specs.Opened.{Opened, header, ram_at}
 use Rattle.receiver.specs.Good.{Follows}
 use Rattle.receiver.specs.Faults.{Fault, IsComplete, IsFront, WaitsHead}
-use Rattle.receiver.specs.Fed.{IsOpen, IsEnded, Tells}
-use Rattle.receiver.specs.Standing.{HasDeviceRoom}
+use Rattle.receiver.specs.Fed.{IsKnownIn, Tells}
 use Rattle.receiver.specs.Waiting.{LacksBytes}
-use Rattle.receiver.specs.declared.intake.Intake.{Intake}
 use Rattle.receiver.specs.declared.ram_terms.RamTerms.{RamTerms}
 use Rattle.receiver.specs.declared.stage.Stage.{Stage}
 use Rattle.receiver.specs.declared.stage.Stage.TheVariants as stages
 use Rattle.receiver.specs.declared.recv_error.RecvError.{RecvError}
 use Rattle.receiver.specs.declared.recv_error.RecvError.TheVariants.{AlreadyFailed, DiskFailed, NoMemory, Truncated}
 
--- The intake has taken the front of the bytes in, and those after it wait.
-pub record IsReading (ram : RamTerms) (disks : List DiskState) (front held : List ℕ) (i : Intake) : Type 0 where
-  pub opening : Opened
-  pub based : opening.ram ≡ ram
-  pub open_at : IsOpen disks opening i front held
-
--- The intake has taken in a whole stream.
-pub record HasCome (ram : RamTerms) (disks : List DiskState) (bytes : List ℕ) (i : Intake) : Type 0 where
-  pub opening : Opened
-  pub based : opening.ram ≡ ram
-  pub ended : IsEnded disks opening i bytes
-
 -- What a receiver that was told this of RAM, with these disks, at this stage, knows of the bytes: those of `front` are worked off, and those after it are held.
 -- The digest is that of the front.
 abbrev pub IsKnown : RamTerms → List DiskState → Sha256 → List ℕ → List ℕ → Stage → Type 0
 IsKnown ram disks digest front held stages.Head = (front ≡ []) × Holds256 digest [] × WaitsHead held
-IsKnown ram disks digest front held (stages.Records i) = Holds256 digest front × IsReading ram disks front held i
-IsKnown ram disks digest front held (stages.Ended i) = (held ≡ []) × HasCome ram disks front i
+IsKnown ram disks digest front held (stages.Records i) = IsKnownIn i.ended ram disks digest front held i
 IsKnown ram disks digest front held stages.Failed = ⊥
+
+-- What contracts see of all of a receiver but the bytes that it holds: what it was told of RAM; its disks; the RAM that stands aside; the
+-- memory that is reserved for the machine; the digest of the bytes that were worked off; and how far it has come.
+pub record ReaderSeen : Type 0 where
+  pub ram : RamTerms
+  pub disks : List DiskState
+  pub aside : Option Memory
+  pub room : Option RoomSeen
+  pub digest : Sha256
+  pub stage : Stage
+
+abbrev pub Knows : ReaderSeen → List ℕ → List ℕ → Type 0
+Knows r front held = IsKnown r.ram r.disks r.digest front held r.stage
 
 -- These are all bytes that were fed, and what of them is not worked off is held.
 pub record IsTaken (ram : RamTerms) (disks : List DiskState) (digest : Sha256) (bytes held : List ℕ) (stage : Stage) : Type 0 where
@@ -58,15 +56,7 @@ pub record IsTaken (ram : RamTerms) (disks : List DiskState) (digest : Sha256) (
 abbrev pub IsPastHead : Stage → Type 0
 IsPastHead stages.Head = ⊥
 IsPastHead (stages.Records i) = Unit {0}
-IsPastHead (stages.Ended i) = Unit {0}
 IsPastHead stages.Failed = ⊥
-
--- How many devices the header names.
-abbrev pub devices_at : Stage → ℕ
-devices_at stages.Head = 0
-devices_at (stages.Records i) = length i.shapes.items
-devices_at (stages.Ended i) = length i.shapes.items
-devices_at stages.Failed = 0
 
 -- The bytes have no fault.
 abbrev pub NoFault : RamTerms → List ℕ → List ℕ → Type 0
@@ -81,34 +71,26 @@ TellsFault ram sizes bytes e = Tells e ((at : ℕ) × Fault ram sizes bytes e at
 abbrev pub TellsNow : RamTerms → List ℕ → List ℕ → List ℕ → RecvError → Type 0
 TellsNow ram sizes b piece e = Tells e ((at : ℕ) × (length b < at) × Fault ram sizes (b ++ piece) e at)
 
--- After a look at these bytes, which follow those of the front: some of them are worked off.
-abbrev pub Stepped : RamTerms → List DiskState → List DiskState → Sha256 → List ℕ → List ℕ → Result (ℕ × Stage) RecvError → Type 0
-Stepped ram old disks digest front bytes (Ok next) = AreKept old disks × IsKnown ram disks digest (front ++ take next.0 bytes) (drop next.0 bytes) next.1
-Stepped ram old disks digest front bytes (Err e) = AreRefused old disks e × Tells e ((at : ℕ) × Fault ram (sizes_in old) (front ++ bytes) e at)
-
--- After more bytes, which make these bytes in all.
-abbrev pub Took : RamTerms → List DiskState → List DiskState → Sha256 → List ℕ → List ℕ → Result Stage RecvError → Type 0
-Took ram old disks digest bytes held (Ok stage) = AreKept old disks × IsTaken ram disks digest bytes held stage
-Took ram old disks digest bytes held (Err e) = AreRefused old disks e × Tells e ((at : ℕ) × Fault ram (sizes_in old) bytes e at)
-
 -- The number of rounds that ended in what was read.
 abbrev pub rounds_in : Stage → ℕ
 rounds_in stages.Head = 0
 rounds_in (stages.Records i) = i.rounds
-rounds_in (stages.Ended i) = i.rounds
 rounds_in stages.Failed = 0
+
+abbrev pub is_head : Stage → Bool
+is_head stages.Head = true
+is_head (stages.Records i) = false
+is_head stages.Failed = false
 
 abbrev pub has_failed : Stage → Bool
 has_failed stages.Head = false
 has_failed (stages.Records i) = false
-has_failed (stages.Ended i) = false
 has_failed stages.Failed = true
 
 -- The digest was read: the stream is complete.
 abbrev pub has_ended : Stage → Bool
 has_ended stages.Head = false
-has_ended (stages.Records i) = false
-has_ended (stages.Ended i) = true
+has_ended (stages.Records i) = i.ended
 has_ended stages.Failed = false
 
 -- Where a RAM lies that stands aside, if that is memory of the caller.
@@ -121,30 +103,12 @@ place_aside (Some ram) = ram.place
 abbrev pub place_in : Option Memory → Stage → Option Ptr
 place_in aside stages.Head = place_aside aside
 place_in aside (stages.Records i) = i.ram.place
-place_in aside (stages.Ended i) = i.ram.place
 place_in aside stages.Failed = place_aside aside
 
 -- The length of a RAM that stands aside.
 abbrev pub length_aside : Option Memory → Option ℕ
 length_aside None = None
 length_aside (Some ram) = Some (length ram.bytes)
-
--- Until the header is read, the RAM that was handed in stands aside, and no other. From then on there is room for the state of each
--- device.
-abbrev pub IsReady : RamTerms → Option Memory → Stage → Type 0
-IsReady ram aside stages.Head = ram.len ≡ length_aside aside
-IsReady ram aside (stages.Records i) = HasDeviceRoom i
-IsReady ram aside (stages.Ended i) = HasDeviceRoom i
-IsReady ram aside stages.Failed = Unit {0}
-
--- After a look at bytes, and after a piece.
-abbrev pub place_after : Option Memory → Result (ℕ × Stage) RecvError → Option Ptr
-place_after aside (Ok next) = place_in aside next.1
-place_after aside (Err e) = place_aside aside
-
-abbrev pub place_took : Option Memory → Result Stage RecvError → Option Ptr
-place_took aside (Ok stage) = place_in aside stage
-place_took aside (Err e) = place_aside aside
 
 -- What contracts see of a receiver: the address at which the RAM of the machine begins and the length of the RAM that was handed in,
 -- which no call changes; the sizes of its disks and what else is known of them, the number of rounds that ended, and whether there
@@ -166,31 +130,33 @@ pub record Received : Type 0 where
 abbrev pub received_by : RamTerms → Option Ptr → List DiskState → Stage → Sha256 → List ℕ → Received
 received_by ram place disks stage digest held = record { ram = ram; sizes = sizes_in disks; marks = all_marks_in disks; rounds = rounds_in stage; failed = has_failed stage; disks = disks; stage = stage; digest = digest; held = held; place = place }
 
+-- A receiver with this reader, which holds these bytes.
+abbrev pub received_with : ReaderSeen → List ℕ → Received
+received_with r held = received_by r.ram (place_in r.aside r.stage) r.disks r.stage r.digest held
+
 -- The receiver was fed these bytes, and there was no refusal.
 pub record HasBeenFed (r : Received) (b : List ℕ) : Type 0 where
   pub goes_on : r.failed ≡ false
   pub bytes : IsBytes b
   pub taken : IsTaken r.ram r.disks r.digest b r.held r.stage
 
--- It takes no more, and has the same disks.
+-- It takes no more, and has the same disks and the same RAM.
 pub record IsGivenUp (old new : Received) : Type 0 where
   pub failed : new.failed ≡ true
   pub ram : new.ram ≡ old.ram
   pub disks : new.disks ≡ old.disks
   pub sizes : new.sizes ≡ old.sizes
   pub marks : new.marks ≡ old.marks
+  pub place : new.place ≡ old.place
 
--- What holds of each receiver. Once the header was read, all memory is reserved that the machine will need. Bytes that wait for the
--- rest of a record are fewer than the longest record has, and there is room for such a record once the header was read. After a
--- refusal nothing is held. `lacking` bytes of the record at the front are still to come.
-pub record IsReceiver (ram : RamTerms) (aside : Option Memory) (reserved : Option RoomSeen) (disks : List DiskState) (digest : Sha256) (held : List ℕ) (room lacking : ℕ) (stage : Stage) : Type 0 where
-  pub ready : IsReady ram aside stage
-  pub roomed : IsPastHead stage → reserved ≡ Some (record { devices = devices_at stage; disks = length disks })
-  pub known : has_failed stage ≡ false → (front : List ℕ) × IsKnown ram disks digest front held stage
+-- What holds of each receiver. Bytes that wait for the rest of a record are fewer than the longest record has, and there is room for such
+-- a record once the header was read. After a refusal nothing is held. `lacking` bytes of the record at the front are still to come.
+pub record IsReceiver (r : ReaderSeen) (held : List ℕ) (room lacking : ℕ) : Type 0 where
+  pub known : has_failed r.stage ≡ false → (front : List ℕ) × Knows r front held
   pub few : length held ≤ 131077
-  pub gone : has_failed stage ≡ true → held ≡ []
-  pub roomy : IsPastHead stage → 131078 ≤ room
-  pub lacks : 0 < lacking → LacksBytes stage held lacking
+  pub gone : has_failed r.stage ≡ true → held ≡ []
+  pub roomy : IsPastHead r.stage → 131078 ≤ room
+  pub lacks : 0 < lacking → LacksBytes r.stage held lacking
 
 -- Why there is no machine at the end: there was a refusal before, or the stream is cut off.
 abbrev pub end_error : Bool → RecvError

@@ -1,13 +1,11 @@
 -- Where a sector is: its disk among all disks, and the number of its item.
-use Rattle.std.specs.Prelude.{◌≡◌, ◌<◌, ℕ, Bool, true, false, List, ◌∷◌, [], ◌++◌, count_by, length, nat_lt, slice_index_or, slice_set, take, Result, Ok, Err, if◌then◌else◌}
-use Rattle.blk.specs.Disk.{DiskState}
+use Rattle.std.specs.Prelude.{◌≡◌, ◌<◌, ℕ, Bool, true, false, List, ◌+◌, ◌∷◌, [], ◌++◌, count_by, map, length, nat_lt, slice_index_or, slice_set, take, Result, Ok, Err, if◌then◌else◌}
 use Rattle.guestmem.specs.Item as items
 use Rattle.machine.specs.Layout.{IsItemIn, number_of}
 use Rattle.machine.specs.Shapes.{sector_count}
 use Rattle.machine.specs.declared.shape.Shape.{Shape}
-use Rattle.wire.specs.Records.{Record, spelled_record}
-use Rattle.receiver.specs.Disks.{AreKept, AreRefused}
-use Rattle.receiver.specs.Fed.{HasRead}
+use Rattle.wire.specs.declared.record_head.RecordHead.{RecordHead}
+use Rattle.wire.specs.declared.record_head.RecordHead.TheVariants as heads
 use Rattle.receiver.specs.declared.intake.Intake.{Intake}
 use Rattle.receiver.specs.declared.intake.Spot.{Spot}
 use Rattle.receiver.specs.declared.recv_error.RecvError.{RecvError}
@@ -34,20 +32,27 @@ pub record IsSpotOf (opening : Opened) (dev number : ℕ) (spot : Spot) : Type 0
   pub disk : spot.disk ≡ disks_before opening.shapes dev
   pub item : spot.item ≡ number_of (layout_in opening) (items.sector dev number)
 
--- One more record was taken in, or a disk failed.
-abbrev pub Taking : List DiskState → List DiskState → Opened → List Record → Intake → List ℕ → Record → Result (Unit {0}) RecvError → Type 0
-Taking old disks opening before new front r (Ok x) = AreKept old disks × HasRead disks opening (before ++ r ∷ []) new (front ++ spelled_record r)
-Taking old disks opening before new front r (Err e) = (e ≡ DiskFailed) × AreRefused old disks DiskFailed
+-- The intake has a sector of this number for this device, and this is where it is.
+pub record IsSpotIn (i : Intake) (dev number : ℕ) (spot : Spot) : Type 0 where
+  pub there : number < slice_index_or (map sector_count i.shapes.items) dev 0
+  pub disk : spot.disk ≡ disks_before i.shapes.items dev
+  pub item : spot.item ≡ slice_index_or i.firsts.items dev 0 + number
 
--- Whether taking the record of a sector has called a disk: a good sector is written, and a bad one, or one that is not there, is not.
+-- Whether taking the record of a sector has called a disk: a good sector that is whole is written, and a bad one, or one that is not there,
+-- is not.
 abbrev pub is_disk_failed : RecvError → Bool
 is_disk_failed DiskFailed = true
 is_disk_failed _ = false
 
-abbrev pub has_written : Bool → Result (Unit {0}) RecvError → Bool
-has_written is_good (Ok done) = is_good
+abbrev pub has_written : Bool → Result Bool RecvError → Bool
+has_written is_good (Ok took) = if took then is_good else false
 has_written is_good (Err e) = is_disk_failed e
 
 -- The counts of the calls of all disks after one more call of this one, or none. `called` is what one more call makes of a count.
 abbrev pub called_if : (ℕ → ℕ) → Bool → ℕ → List ℕ → List ℕ
 called_if called made disk calls = if made then slice_set calls disk (called (slice_index_or calls disk 0)) else calls
+
+-- A good sector that is taken is one call of its disk, and no other record calls a disk.
+abbrev pub CallsOf : (ℕ → ℕ) → RecordHead → List Shape → Result Bool RecvError → List ℕ → List ℕ → Type 0
+CallsOf called (heads.Sector dev number true) shapes result old new = new ≡ called_if called (has_written true result) (disks_before shapes dev) old
+CallsOf called _ shapes result old new = new ≡ old

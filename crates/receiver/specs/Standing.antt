@@ -1,23 +1,28 @@
--- Which head of a record may come next, after whole good records.
-use Rattle.std.specs.Prelude.{◌≡◌, ◌<◌, ◌≤◌, ℕ, ◌+◌, ◌*◌, List, ◌∷◌, [], ◌++◌, drop, length, Result, Ok, Err}
+-- Which head of a record may come next, after whole good records, and what comes of the record.
+use Rattle.std.specs.Prelude.{◌≡◌, ◌<◌, ◌≤◌, ℕ, ◌+◌, ◌*◌, All, Bool, true, false, List, ◌∷◌, [], ◌++◌, drop, take, map, length, IfOk, Result, Ok, Err}
 use Rattle.std.specs.Vec.{vec_capacity}
+use Rattle.sha2.specs.Hashers.{Holds256}
+use Rattle.sha2.specs.declared.Sha256.{Sha256}
 use Rattle.wire.specs.DeviceBody.{IsBodyOf}
-use Rattle.wire.specs.RecordHeads.{FitsHead, spelled_head}
+use Rattle.wire.specs.RecordHeads.{FitsHead, body_len, spelled_head}
 use Rattle.wire.specs.Records.{Record, device, record_with, spelled_record}
 use Rattle.wire.specs.Stream.{rounds}
 use Rattle.wire.specs.declared.record_head.RecordHead.{RecordHead}
 use Rattle.wire.specs.declared.record_head.RecordHead.TheVariants as heads
 use Rattle.blk.specs.Disk.{DiskState}
 use Rattle.guestmem.specs.Item as items
-use Rattle.machine.specs.Layout.{IsItemIn}
+use Rattle.guestmem.specs.Number.{IsBytes}
+use Rattle.machine.specs.Layout.{IsItemIn, firsts_of, layout_by, size_of}
+use Rattle.machine.specs.Shapes.{disk_sizes}
+use Rattle.machine.specs.Sound.{IsSoundShape}
 use Rattle.machine.specs.State.{DeviceState}
 use Rattle.machine.specs.declared.shape.Shape.{Shape}
 use Rattle.receiver.specs.Disks.{AreKept, AreRefused}
 use Rattle.receiver.specs.Faults.{IsFault, IsNextHead, Opens}
-use Rattle.receiver.specs.Fed.{HasRead, Tells}
+use Rattle.receiver.specs.Fed.{Ends, HasRead, Tells, TookRecord, Waits}
 use Rattle.receiver.specs.declared.intake.Intake.{Intake}
 use Rattle.receiver.specs.declared.recv_error.RecvError.{RecvError}
-use Rattle.receiver.specs.declared.recv_error.RecvError.TheVariants.{BadPage, BadSector, BadRound, BadDevice, BadDigest, NoMemory}
+use Rattle.receiver.specs.declared.recv_error.RecvError.TheVariants.{BadPage, BadSector, BadRound, BadDevice, BadDigest}
 use Rattle.receiver.specs.Opened.{Opened, layout_in}
 
 -- The bytes begin with this head, before `rest`, and a record with its tag may come here.
@@ -47,23 +52,22 @@ refusal_of (heads.Device number len) = BadDevice
 refusal_of heads.Commit = BadDigest
 refusal_of (heads.ZeroPage number) = BadPage
 
-abbrev pub Judged : Opened → List Record → RecordHead → Result (Unit {0}) RecvError → Type 0
-Judged opening before head (Ok x) = MayHead opening before head
-Judged opening before head (Err e) = (e ≡ refusal_of head) × ¬ (MayHead opening before head)
+-- What holds of an intake whatever was fed: its lists are as long as the header says, and the numbers of the first sectors are the
+-- header's. There is room for the state of each device.
+pub record IsSized (i : Intake) : Type 0 where
+  pub pages : ℕ
+  pub ram_size : length i.ram.bytes ≡ 4096 * pages
+  pub named_size : length i.named ≡ size_of (layout_by pages i.shapes.items)
+  pub firsts_are : i.firsts.items ≡ firsts_of (layout_by pages i.shapes.items)
+  pub marks : map length i.bad.items ≡ disk_sizes i.shapes.items
+  pub sound : All IsSoundShape i.shapes.items
+  pub roomy : length i.shapes.items ≤ vec_capacity i.devices
 
--- The intake has room for the state of each device.
-abbrev pub HasDeviceRoom : Intake → Type 0
-HasDeviceRoom i = length i.shapes.items ≤ vec_capacity i.devices
-
--- The intake has room for what a head names: the page and its mark, or the shape of the device that is next, whose body is not too
--- long.
-abbrev pub HasRoom : Intake → RecordHead → Type 0
-HasRoom i (heads.Page number) = (4096 * number + 4096 ≤ length i.ram.bytes) × (number < length i.named)
-HasRoom i (heads.Sector dev number good) = Unit {0}
-HasRoom i (heads.RoundEnd number) = Unit {0}
-HasRoom i (heads.Device number len) = (number < length i.shapes.items) × (len ≤ 131072) × (number ≡ length i.devices.items)
-HasRoom i heads.Commit = Unit {0}
-HasRoom i (heads.ZeroPage number) = (4096 * number + 4096 ≤ length i.ram.bytes) × (number < length i.named)
+-- Taking a record changes neither the shapes, nor where RAM lies, nor whether the stream has ended.
+pub record Keeps (old new : Intake) : Type 0 where
+  pub ended : new.ended ≡ old.ended
+  pub shapes : new.shapes.items ≡ old.shapes.items
+  pub place : new.ram.place ≡ old.ram.place
 
 -- No device of the shape that is next, which is sound at the machine's base and which the version has, has this body.
 pub record IsNoBody (opening : Opened) (number : ℕ) (body : List ℕ) : Type 0 where
@@ -72,22 +76,59 @@ pub record IsNoBody (opening : Opened) (number : ℕ) (body : List ℕ) : Type 0
   pub here : drop number opening.shapes ≡ shape ∷ others
   pub never : (d : DeviceState) → ¬ (IsBodyOf opening.version shape opening.ram.base (4096 * opening.pages) body d)
 
--- One device more was taken in, or its body was refused, or memory.
-abbrev pub TakingDevice : List DiskState → Opened → List Record → Intake → List ℕ → ℕ → List ℕ → Result (Unit {0}) RecvError → Type 0
-TakingDevice disks opening before new front number body (Ok x) = HasRead disks opening (before ++ device number body ∷ []) new (front ++ spelled_record (device number body))
-TakingDevice disks opening before new front number body (Err BadDevice) = IsNoBody opening number body
-TakingDevice disks opening before new front number body (Err NoMemory) = Unit {0}
-TakingDevice disks opening before new front number body (Err _) = ⊥
+-- The record of this head, before the bytes behind it.
+abbrev pub record_behind : RecordHead → List ℕ → Record
+record_behind head behind = record_with head (take (body_len head) behind)
 
--- The record that this head and this body make, which begins `tail`, was taken in, or refused.
-abbrev pub Entered : List DiskState → List DiskState → Opened → List Record → Intake → List ℕ → List ℕ → RecordHead → List ℕ → Result (Unit {0}) RecvError → Type 0
-Entered old disks opening before new front tail head body (Ok x) = AreKept old disks × HasRead disks opening (before ++ record_with head body ∷ []) new (front ++ spelled_record (record_with head body))
-Entered old disks opening before new front tail head body (Err e) = AreRefused old disks e × Tells e ((place : ℕ) × IsFault opening before tail e place)
+-- The record that this head and the bytes behind it make, which begins `tail`, was taken in, waits for its body, or was refused.
+abbrev pub Entered : List DiskState → List DiskState → Opened → List Record → Intake → List ℕ → List ℕ → RecordHead → List ℕ → Result Bool RecvError → Type 0
+Entered old disks opening before new front tail head behind (Ok true) = AreKept old disks × HasRead disks opening (before ++ record_behind head behind ∷ []) new (front ++ spelled_record (record_behind head behind))
+Entered old disks opening before new front tail head behind (Ok false) = AreKept old disks × HasRead disks opening before new front × Waits opening before tail
+Entered old disks opening before new front tail head behind (Err e) = AreRefused old disks e × Tells e ((place : ℕ) × IsFault opening before tail e place)
+
+-- The same for all bytes that were taken in before.
+abbrev pub Enters : List DiskState → List DiskState → Intake → Intake → RecordHead → List ℕ → Result Bool RecvError → Type 0
+Enters old disks i new head behind result = (front tail : List ℕ) (opening : Opened) (before : List Record) → IsBytes tail → HasRead old opening before i front
+    → OpensHead opening before tail head behind → Entered old disks opening before new front tail head behind result
+
+-- The digest was read, or waits, or is another one.
+abbrev pub Closed : List DiskState → Opened → List Record → Intake → List ℕ → List ℕ → Result Bool RecvError → Type 0
+Closed disks opening before new front tail (Ok true) = HasRead disks opening before new front × Ends opening before tail
+Closed disks opening before new front tail (Ok false) = HasRead disks opening before new front × Waits opening before tail
+Closed disks opening before new front tail (Err e) = (e ≡ BadDigest) × ((place : ℕ) × IsFault opening before tail BadDigest place)
+
+-- What came of a record of any head, the digest too.
+abbrev pub TookHead : List DiskState → List DiskState → Opened → List Record → Intake → List ℕ → List ℕ → RecordHead → Result Bool RecvError → Type 0
+TookHead old disks opening before new front tail head (Ok true) = AreKept old disks × TookRecord new.ended disks opening before new front tail (length (spelled_head head) + body_len head)
+TookHead old disks opening before new front tail head (Ok false) = AreKept old disks × HasRead disks opening before new front × Waits opening before tail
+TookHead old disks opening before new front tail head (Err e) = AreRefused old disks e × Tells e ((place : ℕ) × IsFault opening before tail e place)
+
+-- The same for all bytes that were taken in before, which have this digest.
+abbrev pub TakesHead : List DiskState → List DiskState → Intake → Intake → Sha256 → RecordHead → List ℕ → Result Bool RecvError → Type 0
+TakesHead old disks i new digest head behind result = (front tail : List ℕ) (opening : Opened) (before : List Record) → IsBytes tail → Holds256 digest front → HasRead old opening before i front
+    → OpensHead opening before tail head behind → TookHead old disks opening before new front tail head result
+
+abbrev pub Closes : List DiskState → Intake → Intake → Sha256 → List ℕ → Result Bool RecvError → Type 0
+Closes disks i new digest behind result = (front tail : List ℕ) (opening : Opened) (before : List Record) → IsBytes tail → Holds256 digest front → HasRead disks opening before i front
+    → OpensHead opening before tail heads.Commit behind → Closed disks opening before new front tail result
+
+-- Fewer bytes than the body has are behind the head.
+abbrev pub IsShort : RecordHead → List ℕ → Result Bool RecvError → Type 0
+IsShort head behind result = IfOk result (λ took. took ≡ false → length (spelled_head head) + length behind ≤ 131077)
+
+-- As many are.
+abbrev pub IsLong : RecordHead → List ℕ → Result Bool RecvError → Type 0
+IsLong head behind result = IfOk result (λ took. took ≡ true → body_len head ≤ length behind)
 
 -- The head of a device.
 abbrev pub IsDeviceHead : RecordHead → Type 0
 IsDeviceHead (heads.Device number len) = Unit {0}
 IsDeviceHead _ = ⊥
+
+-- The head of a device, and its body is whole.
+abbrev pub IsWholeDevice : RecordHead → List ℕ → Type 0
+IsWholeDevice (heads.Device number len) behind = len ≤ length behind
+IsWholeDevice _ behind = ⊥
 
 -- The bytes begin with the record of a device.
 pub record BeginsDevice (tail : List ℕ) : Type 0 where

@@ -10,7 +10,6 @@ use Rattle.receiver.specs.declared.stage.Stage.TheVariants as stages
 abbrev pub ReadsRecords : Stage → Type 0
 ReadsRecords stages.Head = ⊥
 ReadsRecords (stages.Records i) = Unit {0}
-ReadsRecords (stages.Ended i) = ⊥
 ReadsRecords stages.Failed = ⊥
 
 -- The held bytes begin with a head, and are as many as any head has; of its record at least `count` bytes are still to come.

@@ -1,46 +1,42 @@
 //! Records taken one by one from a stream.
 //!
-//! Checking a head answers yes or a refusal, and nothing more: where a sector lies is looked up when its head is checked and
-//! again when it is taken, among 16 devices at most.
+//! Each kind of record has one function: it looks whether the record may come and where it belongs, as far as its head tells, waits for
+//! the body, and takes it. So the place of a sector is found once, where the record is whole.
 //!
 //! A good sector is written to its disk as its record ends, from the bytes that are held, without a copy. What was written
 //! stays written where a later fault is reported: the disks may hold a part of the stream, and are dropped.
 
-ghost use Rattle.std.specs.Prelude.{◌≡◌, ◌≢◌, ◌++◌, ◌+◌, ◌≤◌, ◌<◌, ◌*◌, ◌∷◌, ◌↔◌, [], ℕ, List, All, IsTrue, IfErr, IfOk, IfSome, OnOk, MatchOption, Some, None, Err, count_by, nat_lt, map, take, drop, length, slice_index_or, true};
-ghost use Rattle.receiver.specs.Opened.{Opened, layout_in};
+ghost use Rattle.std.specs.Prelude.{◌≡◌, ◌≢◌, ◌++◌, ◌+◌, ◌≤◌, ◌<◌, ◌∷◌, ◌↔◌, [], ℕ, List, All, IsTrue, IfErr, IfOk, IfSome, OnOk, MatchOption, None, Ok, Err, false, is_some, length, map, slice_index_or, true};
+ghost use Rattle.receiver.specs.Opened.{Opened};
 ghost use Rattle.wire.specs.Records as records;
 ghost use Rattle.sha2.specs.Hashers.{Holds256};
 ghost use Rattle.sha2.specs.Sha256.{sha256};
-ghost use Rattle.wire.specs.RecordHeads.{body_len, spelled_head};
-ghost use Rattle.wire.specs.Records.{page, sector, zero_page, record_with, spelled_record, HasSpelling, IsOf};
 ghost use Rattle.wire.specs.declared.record_head.RecordHead.TheVariants as heads;
 ghost use Rattle.blk.specs.Disk.{DiskState};
-ghost use Rattle.guestmem.specs.Item as items;
-ghost use Rattle.machine.specs.Layout.{IsItemIn, layout_by};
-ghost use Rattle.machine.specs.Shapes.{sector_count};
-ghost use Rattle.machine.specs.declared.shape.Shape as shapes;
+ghost use Rattle.machine.specs.Shapes.{disk_sizes, sector_count};
 ghost use Rattle.receiver.specs.Disks.{sizes_of};
-ghost use Rattle.receiver.specs.Faults.{IsLate, IsNextHead, MayTag};
-ghost use Rattle.receiver.specs.Good.{AreNamed, devices_in};
-ghost use Rattle.receiver.specs.Fed.{HasRead, Checked, After, IsUntouched, Worked, size_of, IsLong};
+ghost use Rattle.receiver.specs.Faults.{IsLate, MayTag};
+ghost use Rattle.receiver.specs.Fed.{Checked, HasRead, IsUpTo, TakesPart, Worked};
 ghost use Rattle.receiver.specs.Receiving.{HasDevice};
-ghost use Rattle.receiver.specs.Spots.{HasMarks, HasSector, IsSpotOf, Taking, called_if, disks_before, has_written};
-ghost use Rattle.receiver.specs.Standing.{HasDeviceRoom, BeginsDevice, Entered, HasRoom, IsDeviceHead, Judged, MayHead, OpensHead, TakingDevice};
+ghost use Rattle.receiver.specs.Spots.{CallsOf, HasMarks, IsSpotIn, disks_before};
+ghost use Rattle.receiver.specs.Standing.{BeginsDevice, Closes, Enters, IsDeviceHead, IsLong, IsShort, IsSized, IsWholeDevice, Keeps, TakesHead};
+ghost use Rattle.receiver.specs.declared.ram_terms.RamTerms.{RamTerms};
 ghost use Rattle.receiver.specs.declared.recv_error.RecvError.TheVariants as errors;
 
-use crate::part::Part;
 use crate::ram_terms::RamTerms;
 use crate::recv_error::RecvError;
 use dirtylog::BitSet;
-use guestmem::{ArrivingRam, NoMemory, PAGE_SIZE};
+use guestmem::{ArrivingRam, PAGE_SIZE};
 use machine::{DeviceState, Disk, SECTOR_SIZE, Shape};
 use sha2::{Digest, Sha256};
 use std::alloc::Global;
 use wire::{
-    BODY_MAX, COMMIT_RECORD, COMMIT_TAG, DEVICE_TAG, DecodeError, FoundHead, PAGE_TAG,
-    ROUND_END_TAG, RecordHead, SECTOR_TAG, VERSION, ZERO_PAGE_TAG, decode_device_at, has_record,
-    read_head,
+    BODY_MAX, COMMIT_TAG, DEVICE_TAG, DecodeError, FoundHead, PAGE_TAG, ROUND_END_TAG, RecordHead,
+    SECTOR_TAG, VERSION, ZERO_PAGE_TAG, decode_device_at, has_record, read_head,
 };
+
+/// How many bytes the digest has.
+const DIGEST_LEN: usize = 32;
 
 /// What a stream is read under: its version, and what the host says of the machine's RAM. No record changes them.
 #[derive(Clone, Copy)]
@@ -50,12 +46,14 @@ pub struct Terms {
 }
 
 /// What was read of a stream: its terms, the shapes of its devices, the pages, the marks of the bad sectors of each disk, how
-/// many rounds ended, and the devices that arrived so far. The good sectors were written to the disks.
+/// many rounds ended, the devices that arrived so far, and whether the digest was read, which ends it. The good sectors were written
+/// to the disks.
 ///
 /// `named` has a mark for each item, in the order of their numbers, and keeps a count of those that are named. `firsts`
 /// has the item number of the first sector of each device.
 #[derive(Drop)]
 pub struct Intake {
+    pub alloc: Global,
     pub terms: Terms,
     pub shapes: Vec<Shape>,
     pub ram: ArrivingRam,
@@ -64,6 +62,7 @@ pub struct Intake {
     pub bad: Vec<BitSet>,
     pub rounds: u32,
     pub devices: Vec<DeviceState>,
+    pub ended: bool,
 }
 
 /// Where a sector is: the index of its disk among the disks, and the number of its item.
@@ -103,6 +102,7 @@ fn is_named(named: &BitSet) -> bool
 /// Checks that a record with this tag may come next.
 fn check_tag(intake: &Intake, tag: u8) -> Result<(), RecvError>
     ensures memory { IfErr result (λ e. e ≢ errors.NoMemory) }
+    ensures next { tag ≡ 4 → OnOk result (length intake.now.devices.items < length intake.now.shapes.items) }
     ensures checked { (ds : List DiskState) (front more : List ℕ) (opening : Opened) (before : List records.Record) → HasRead ds opening before intake.now front → Checked opening before tag more result }
 {
     if !may_stand(
@@ -128,33 +128,55 @@ fn check_tag(intake: &Intake, tag: u8) -> Result<(), RecvError>
     Ok(())
 }
 
-/// Sets a page, as its record says.
-fn take_page(intake: &mut Intake, number: u32, bytes: &[u8])
-    requires roomy { HasDeviceRoom intake.old }
-    requires within { 4096 * number + 4096 ≤ length intake.old.ram.bytes }
-    requires marked { number < length intake.old.named }
-    requires spells { HasSpelling (page number bytes.now) }
-    ensures taken { (ds : List DiskState) (front : List ℕ) (opening : Opened) (before : List records.Record) → HasRead ds opening before intake.old front → devices_in before ≡ 0 → IsOf opening.version (page number bytes.now) → HasRead ds opening (before ++ page number bytes.now ∷ []) intake.new (front ++ spelled_record (page number bytes.now)) }
-    ensures place { intake.new.ram.place ≡ intake.old.ram.place }
-    ensures roomy { HasDeviceRoom intake.new }
+/// Whether there is this page.
+fn has_page(intake: &Intake, number: u32) -> bool
+    ensures { IsTrue result ↔ (4096 * number + 4096 ≤ length intake.now.ram.bytes) }
 {
+    (number as u64) < intake.ram.len() / PAGE_SIZE as u64
+}
+
+/// Takes the record of a page.
+fn take_page(intake: &mut Intake, number: u32, behind: &[u8]) -> Result<bool, RecvError>
+    requires sized { IsSized intake.old }
+    ensures sized { IsSized intake.new }
+    ensures keeps { Keeps intake.old intake.new }
+    ensures short { IsShort (heads.Page number) behind.now result }
+    ensures long { IsLong (heads.Page number) behind.now result }
+    ensures memory { IfErr result (λ e. e ≢ errors.NoMemory) }
+    ensures entered { (ds : List DiskState) → Enters ds ds intake.old intake.new (heads.Page number) behind.now result }
+{
+    if !has_page(intake, number) {
+        return Err(RecvError::BadPage);
+    }
+    if behind.len() < PAGE_SIZE {
+        return Ok(false);
+    }
+    let (bytes, _) = behind.split_at(PAGE_SIZE);
+    if !has_record(intake.terms.version, RecordHead::Page { number }, bytes) {
+        return Err(RecvError::BadPage);
+    }
     intake.ram.recall();
     intake.ram.put_page(number as u64, bytes);
     intake.named.insert(number as u64);
+    Ok(true)
 }
 
-/// Sets a page to zeros, as its record says.
-fn take_zero_page(intake: &mut Intake, number: u32)
-    requires roomy { HasDeviceRoom intake.old }
-    requires within { 4096 * number + 4096 ≤ length intake.old.ram.bytes }
-    requires marked { number < length intake.old.named }
-    ensures taken { (ds : List DiskState) (front : List ℕ) (opening : Opened) (before : List records.Record) → HasRead ds opening before intake.old front → devices_in before ≡ 0 → opening.version ≡ 2 → HasRead ds opening (before ++ zero_page number ∷ []) intake.new (front ++ spelled_record (zero_page number)) }
-    ensures place { intake.new.ram.place ≡ intake.old.ram.place }
-    ensures roomy { HasDeviceRoom intake.new }
+/// Takes the record of a page of zeros.
+fn take_zero_page(intake: &mut Intake, number: u32) -> Result<bool, RecvError>
+    requires sized { IsSized intake.old }
+    ensures sized { IsSized intake.new }
+    ensures keeps { Keeps intake.old intake.new }
+    ensures all { OnOk result (result ≡ Ok true) }
+    ensures memory { IfErr result (λ e. e ≢ errors.NoMemory) }
+    ensures entered { (ds : List DiskState) (behind : List ℕ) → Enters ds ds intake.old intake.new (heads.ZeroPage number) behind result }
 {
+    if !has_page(intake, number) {
+        return Err(RecvError::BadPage);
+    }
     intake.ram.recall();
     intake.ram.clear_page(number as u64);
     intake.named.insert(number as u64);
+    Ok(true)
 }
 
 /// How many of the devices before index `place` have a disk.
@@ -167,12 +189,11 @@ fn disks_before(shapes: &[Shape], place: usize) -> usize
 }
 
 /// Where the sector of a device is, if the device has it.
-fn find_sector<D: Disk>(intake: &Intake, disks: &[D], dev: u8, number: u32) -> Option<Spot>
+fn find_sector(intake: &Intake, dev: u8, number: u32) -> Option<Spot>
+    requires { IsSized intake.now }
     ensures marked { IfSome result (λ spot. HasMarks intake.now number spot) }
-    ensures there { IfSome result (λ spot. HasSector (sizes_of D.state disks.now) spot.disk number) }
-    ensures disk { IfSome result (λ spot. spot.disk ≡ disks_before intake.now.shapes.items dev) }
-    ensures found { (front : List ℕ) (opening : Opened) (before : List records.Record) → HasRead (map D.state disks.now) opening before intake.now front
-        → MatchOption result (¬ (IsItemIn (layout_in opening) (items.sector dev number))) (λ spot. IsSpotOf opening dev number spot) }
+    ensures found { MatchOption result (¬ (number < slice_index_or (map sector_count intake.now.shapes.items) dev 0))
+        (λ spot. IsSpotIn intake.now dev number spot) }
 {
     let place = dev as usize;
     if place >= intake.shapes.len() {
@@ -182,96 +203,78 @@ fn find_sector<D: Disk>(intake: &Intake, disks: &[D], dev: u8, number: u32) -> O
         return None;
     }
     let disk = disks_before(&intake.shapes, place);
-    // First numbers, marks and disks are those of these devices.
-    if place >= intake.firsts.len() {
-        return None;
-    }
     let item = intake.firsts[place] as u64 + number as u64;
-    if item >= intake.named.len() {
-        return None;
-    }
-    if disk >= intake.bad.len() {
-        return None;
-    }
-    if number as u64 >= intake.bad[disk].len() {
-        return None;
-    }
-    if disk >= disks.len() {
-        return None;
-    }
-    if number as u64 >= disks[disk].sectors() {
-        return None;
-    }
     Some(Spot { disk, item })
 }
 
-/// Marks a sector as bad, as its record says.
-fn take_bad(intake: &mut Intake, spot: Spot, dev: u8, number: u32)
-    requires roomy { HasDeviceRoom intake.old }
-    requires marked { HasMarks intake.old number spot }
-    ensures taken { (ds : List DiskState) (front : List ℕ) (opening : Opened) (before : List records.Record) → HasRead ds opening before intake.old front → devices_in before ≡ 0 → IsSpotOf opening dev number spot
-        → HasRead ds opening (before ++ sector dev number None ∷ []) intake.new (front ++ spelled_record (sector dev number None)) }
-    ensures place { intake.new.ram.place ≡ intake.old.ram.place }
-    ensures roomy { HasDeviceRoom intake.new }
+/// Takes the record of a bad sector: marks it, and calls no disk.
+fn take_bad(intake: &mut Intake, dev: u8, number: u32) -> Result<bool, RecvError>
+    requires sized { IsSized intake.old }
+    ensures sized { IsSized intake.new }
+    ensures keeps { Keeps intake.old intake.new }
+    ensures all { OnOk result (result ≡ Ok true) }
+    ensures memory { IfErr result (λ e. e ≢ errors.NoMemory) }
+    ensures entered { (ds : List DiskState) (behind : List ℕ) → Enters ds ds intake.old intake.new (heads.Sector dev number false) behind result }
 {
+    let Some(spot) = find_sector(intake, dev, number) else {
+        return Err(RecvError::BadSector);
+    };
     intake.bad[spot.disk].insert(number as u64);
     intake.named.insert(spot.item);
+    Ok(true)
 }
 
-/// Writes a sector to its disk, as its record says. It is good from now on.
+/// Takes the record of a good sector: one call of its disk.
 fn take_good<D: Disk>(
     intake: &mut Intake,
     disks: &mut [D],
-    spot: Spot,
     dev: u8,
     number: u32,
-    bytes: &[u8; SECTOR_SIZE],
-) -> Result<(), RecvError>
-    requires roomy { HasDeviceRoom intake.old }
-    requires marked { HasMarks intake.old number spot }
-    requires there { HasSector (sizes_of D.state disks.old) spot.disk number }
+    behind: &[u8],
+) -> Result<bool, RecvError>
+    requires sized { IsSized intake.old }
+    requires fits { sizes_of D.state disks.old ≡ disk_sizes intake.old.shapes.items }
+    ensures sized { IsSized intake.new }
+    ensures sizes { sizes_of D.state disks.new ≡ sizes_of D.state disks.old }
+    ensures keeps { Keeps intake.old intake.new }
+    ensures short { IsShort (heads.Sector dev number true) behind.now result }
+    ensures long { IsLong (heads.Sector dev number true) behind.now result }
     ensures memory { IfErr result (λ e. e ≢ errors.NoMemory) }
-    ensures taking { (front : List ℕ) (opening : Opened) (before : List records.Record) → HasRead (map D.state disks.old) opening before intake.old front → devices_in before ≡ 0 → IsSpotOf opening dev number spot
-        → Taking (map D.state disks.old) (map D.state disks.new) opening before intake.new front (sector dev number (Some bytes.now)) result }
-    ensures calls { map D.calls disks.new ≡ called_if D.called (has_written true result) spot.disk (map D.calls disks.old) }
-    ensures place { intake.new.ram.place ≡ intake.old.ram.place }
-    ensures roomy { HasDeviceRoom intake.new }
+    ensures calls { CallsOf D.called (heads.Sector dev number true) intake.old.shapes.items result (map D.calls disks.old) (map D.calls disks.new) }
+    ensures entered { Enters (map D.state disks.old) (map D.state disks.new) intake.old intake.new (heads.Sector dev number true) behind.now result }
 {
+    let Some(spot) = find_sector(intake, dev, number) else {
+        return Err(RecvError::BadSector);
+    };
+    let Some(bytes) = behind.first_chunk::<SECTOR_SIZE>() else {
+        return Ok(false);
+    };
     match disks[spot.disk].write(number as u64, bytes) {
         Ok(()) => {}
         Err(_) => return Err(RecvError::DiskFailed),
     }
     intake.bad[spot.disk].remove(number as u64);
     intake.named.insert(spot.item);
-    Ok(())
+    Ok(true)
 }
 
-/// Takes the record of a sector. One that has no bytes is bad, and calls no disk; any other is one call of its disk.
-fn take_sector<D: Disk>(
-    intake: &mut Intake,
-    disks: &mut [D],
-    dev: u8,
-    number: u32,
-    is_good: bool,
-    body: &[u8],
-) -> Result<(), RecvError>
-    requires roomy { HasDeviceRoom intake.old }
-    requires long { length body.now ≡ body_len (heads.Sector dev number is_good) }
+/// Takes the record of the end of a round, which is the next.
+fn take_round(intake: &mut Intake, number: u32) -> Result<bool, RecvError>
+    requires sized { IsSized intake.old }
+    ensures sized { IsSized intake.new }
+    ensures keeps { Keeps intake.old intake.new }
+    ensures all { OnOk result (result ≡ Ok true) }
     ensures memory { IfErr result (λ e. e ≢ errors.NoMemory) }
-    ensures taking { (front : List ℕ) (opening : Opened) (before : List records.Record) → HasRead (map D.state disks.old) opening before intake.old front → devices_in before ≡ 0 → IsItemIn (layout_in opening) (items.sector dev number)
-        → Taking (map D.state disks.old) (map D.state disks.new) opening before intake.new front (record_with (heads.Sector dev number is_good) body.now) result }
-    ensures calls { map D.calls disks.new ≡ called_if D.called (has_written is_good result) (disks_before intake.old.shapes.items dev) (map D.calls disks.old) }
-    ensures place { intake.new.ram.place ≡ intake.old.ram.place }
-    ensures roomy { HasDeviceRoom intake.new }
+    ensures entered { (ds : List DiskState) (behind : List ℕ) → Enters ds ds intake.old intake.new (heads.RoundEnd number) behind result }
 {
-    let Some(spot) = find_sector(intake, disks, dev, number) else {
-        return Err(RecvError::BadSector);
-    };
-    let Some(bytes) = body.first_chunk::<SECTOR_SIZE>() else {
-        take_bad(intake, spot, dev, number);
-        return Ok(());
-    };
-    take_good(intake, disks, spot, dev, number, bytes)
+    if number == 0 {
+        return Err(RecvError::BadRound);
+    }
+    if number - 1 != intake.rounds {
+        return Err(RecvError::BadRound);
+    }
+    intake.rounds = number;
+    Ok(true)
 }
 
 fn nth(shapes: &[Shape], i: usize) -> Shape
@@ -282,22 +285,33 @@ fn nth(shapes: &[Shape], i: usize) -> Shape
 }
 
 /// Takes the record of a device, which is the next.
-fn take_device(alloc: Global, intake: &mut Intake, number: u8, body: &[u8]) -> Result<(), RecvError>
-    requires roomy { HasDeviceRoom intake.old }
-    requires there { number < length intake.old.shapes.items }
-    requires next { number ≡ length intake.old.devices.items }
-    ensures taken { (ds : List DiskState) (front : List ℕ) (opening : Opened) (before : List records.Record) → HasRead ds opening before intake.old front → AreNamed (layout_in opening) before → IsNextHead before number (length body.now)
-        → TakingDevice ds opening before intake.new front number body.now result }
-    ensures place { intake.new.ram.place ≡ intake.old.ram.place }
-    ensures roomy { HasDeviceRoom intake.new }
+fn take_device(intake: &mut Intake, number: u8, len: u32, behind: &[u8]) -> Result<bool, RecvError>
+    requires sized { IsSized intake.old }
+    requires next { length intake.old.devices.items < length intake.old.shapes.items }
+    ensures sized { IsSized intake.new }
+    ensures keeps { Keeps intake.old intake.new }
+    ensures short { IsShort (heads.Device number len) behind.now result }
+    ensures long { IsLong (heads.Device number len) behind.now result }
+    ensures memory { result ≡ Err errors.NoMemory → len ≤ length behind.now }
+    ensures entered { (ds : List DiskState) → Enters ds ds intake.old intake.new (heads.Device number len) behind.now result }
 {
+    if number as usize != intake.devices.len() {
+        return Err(RecvError::BadDevice);
+    }
+    if len as usize > BODY_MAX {
+        return Err(RecvError::BadDevice);
+    }
+    if behind.len() < len as usize {
+        return Ok(false);
+    }
+    let (body, _) = behind.split_at(len as usize);
     let shape = nth(&intake.shapes, number as usize);
     let ram_len = intake.ram.len();
-    let version = intake.terms.version;
-    match decode_device_at(alloc, version, shape, intake.terms.ram.base, ram_len, body) {
+    let Terms { version, ram } = intake.terms;
+    match decode_device_at(intake.alloc, version, shape, ram.base, ram_len, body) {
         Ok(state) => {
             intake.devices.push_reserved(state);
-            Ok(())
+            Ok(true)
         }
         Err(DecodeError::BadBody) => Err(RecvError::BadDevice),
         Err(DecodeError::NoMemory) => Err(RecvError::NoMemory),
@@ -312,216 +326,151 @@ fn is_digest(taken: &mut Sha256, digest: &[u8]) -> bool
     sum.as_slice() == digest
 }
 
-/// Whether there is this page: in RAM, and among the marks, which are of the same pages.
-fn has_page(intake: &Intake, number: u32) -> bool
-    ensures { IsTrue result ↔ HasRoom intake.now (heads.Page number) }
-{
-    (number as u64) < intake.ram.len() / PAGE_SIZE as u64 && (number as u64) < intake.named.len()
-}
-
-/// Whether a device of this number is the next.
-fn is_next(intake: &Intake, number: u8) -> bool
-    ensures { IsTrue result ↔ ((number ≡ length intake.now.devices.items) × (number < length intake.now.shapes.items)) }
-{
-    number as usize == intake.devices.len() && (number as usize) < intake.shapes.len()
-}
-
-/// Checks that a record with this head may come next, as far as the head tells.
-fn check_head<D: Disk>(intake: &Intake, disks: &[D], head: RecordHead) -> Result<(), RecvError>
-    ensures room { OnOk result (HasRoom intake.now head) }
+/// Takes the digest, which ends the stream. `taken` is the digest of all bytes before it.
+fn take_digest(intake: &mut Intake, taken: &mut Sha256, behind: &[u8]) -> Result<bool, RecvError>
+    requires sized { IsSized intake.old }
+    ensures sized { IsSized intake.new }
+    ensures shapes { intake.new.shapes.items ≡ intake.old.shapes.items }
+    ensures place { intake.new.ram.place ≡ intake.old.ram.place }
+    ensures ended { IfOk result (λ took. (took ≡ true → intake.new.ended ≡ true) × (took ≡ false → (intake.new.ended ≡ intake.old.ended) × (taken.new ≡ taken.old))) }
+    ensures short { IsShort heads.Commit behind.now result }
+    ensures long { IsLong heads.Commit behind.now result }
     ensures memory { IfErr result (λ e. e ≢ errors.NoMemory) }
-    ensures judged { (front tail rest : List ℕ) (opening : Opened) (before : List records.Record) → HasRead (map D.state disks.now) opening before intake.now front → OpensHead opening before tail head rest
-        → Judged opening before head result }
+    ensures closed { (ds : List DiskState) → Closes ds intake.old intake.new taken.old behind.now result }
 {
-    match head {
-        RecordHead::Page { number } | RecordHead::ZeroPage { number } => {
-            if !has_page(intake, number) {
-                return Err(RecvError::BadPage);
-            }
-        }
-        RecordHead::Sector { device, number, .. } => {
-            let Some(_) = find_sector(intake, disks, device, number) else {
-                return Err(RecvError::BadSector);
-            };
-        }
-        RecordHead::RoundEnd { number } => {
-            if number == 0 {
-                return Err(RecvError::BadRound);
-            }
-            if number - 1 != intake.rounds {
-                return Err(RecvError::BadRound);
-            }
-        }
-        RecordHead::Device { number, len } => {
-            if !is_next(intake, number) {
-                return Err(RecvError::BadDevice);
-            }
-            if len as usize > BODY_MAX {
-                return Err(RecvError::BadDevice);
-            }
-        }
-        RecordHead::Commit => {}
+    if behind.len() < DIGEST_LEN {
+        return Ok(false);
     }
-    Ok(())
+    let (digest, _) = behind.split_at(DIGEST_LEN);
+    if !is_digest(taken, digest) {
+        return Err(RecvError::BadDigest);
+    }
+    intake.ended = true;
+    Ok(true)
 }
 
-/// Takes what is no digest: a page, a sector, the end of a round or a device. Its head may come next.
-fn take_entry<D: Disk>(
-    alloc: Global,
+/// Takes the record of this head, if the bytes behind the head have its body. `taken` is the digest of all bytes before it.
+fn take_record<D: Disk>(
     intake: &mut Intake,
     disks: &mut [D],
+    taken: &mut Sha256,
     head: RecordHead,
-    body: &[u8],
-) -> Result<(), RecvError>
-    requires roomy { HasDeviceRoom intake.old }
-    requires entry { head ≢ heads.Commit }
-    requires room { HasRoom intake.old head }
-    requires long { length body.now ≡ body_len head }
-    ensures memory { IfErr result (λ e. e ≡ errors.NoMemory → IsDeviceHead head) }
-    ensures entered { (front tail more : List ℕ) (opening : Opened) (before : List records.Record) → HasRead (map D.state disks.old) opening before intake.old front
-        → OpensHead opening before tail head (body.now ++ more) → MayHead opening before head → Entered (map D.state disks.old) (map D.state disks.new) opening before intake.new front tail head body.now result }
+    behind: &[u8],
+) -> Result<bool, RecvError>
+    requires sized { IsSized intake.old }
+    requires fits { sizes_of D.state disks.old ≡ disk_sizes intake.old.shapes.items }
+    requires next { IsDeviceHead head → length intake.old.devices.items < length intake.old.shapes.items }
+    requires goes_on { intake.old.ended ≡ false }
+    ensures sized { IsSized intake.new }
+    ensures sizes { sizes_of D.state disks.new ≡ sizes_of D.state disks.old }
+    ensures shapes { intake.new.shapes.items ≡ intake.old.shapes.items }
     ensures place { intake.new.ram.place ≡ intake.old.ram.place }
-    ensures roomy { HasDeviceRoom intake.new }
+    ensures short { IsShort head behind.now result }
+    ensures long { IsLong head behind.now result }
+    ensures untouched { intake.new.ended ≡ false → OnOk result (taken.new ≡ taken.old) }
+    ensures waits { result ≡ Ok false → intake.new.ended ≡ false }
+    ensures memory { result ≡ Err errors.NoMemory → IsWholeDevice head behind.now }
+    ensures calls { CallsOf D.called head intake.old.shapes.items result (map D.calls disks.old) (map D.calls disks.new) }
+    ensures after { TakesHead (map D.state disks.old) (map D.state disks.new) intake.old intake.new taken.old head behind.now result }
 {
     match head {
-        RecordHead::Page { number } => {
-            if !has_record(intake.terms.version, head, body) {
-                return Err(RecvError::BadPage);
-            }
-            take_page(intake, number, body);
-            Ok(())
-        }
-        RecordHead::ZeroPage { number } => {
-            take_zero_page(intake, number);
-            Ok(())
-        }
+        RecordHead::Page { number } => take_page(intake, number, behind),
+        RecordHead::ZeroPage { number } => take_zero_page(intake, number),
         RecordHead::Sector {
             device,
             number,
             is_good,
-        } => take_sector(intake, disks, device, number, is_good, body),
-        RecordHead::RoundEnd { number } => {
-            intake.rounds = number;
-            Ok(())
-        }
-        RecordHead::Device { number, .. } => take_device(alloc, intake, number, body),
-        RecordHead::Commit => unreachable!(),
-    }
-}
-
-/// Takes a record whose head may come next. `taken` is the digest of all bytes before it.
-fn take_record<D: Disk>(
-    alloc: Global,
-    intake: &mut Intake,
-    disks: &mut [D],
-    taken: &mut Sha256,
-    head: RecordHead,
-    body: &[u8],
-) -> Result<Part, RecvError>
-    requires roomy { HasDeviceRoom intake.old }
-    requires room { HasRoom intake.old head }
-    requires long { length body.now ≡ body_len head }
-    ensures size { IfOk result (λ part. size_of part ≡ length (spelled_head head) + length body.now) }
-    ensures untouched { IsUntouched taken.old taken.new result }
-    ensures memory { IfErr result (λ e. e ≡ errors.NoMemory → IsDeviceHead head) }
-    ensures after { (front tail more : List ℕ) (opening : Opened) (before : List records.Record) → Holds256 taken.old front → HasRead (map D.state disks.old) opening before intake.old front
-        → OpensHead opening before tail head (body.now ++ more) → MayHead opening before head → After (map D.state disks.old) (map D.state disks.new) opening before intake.new front tail result }
-    ensures place { intake.new.ram.place ≡ intake.old.ram.place }
-    ensures roomy { HasDeviceRoom intake.new }
-{
-    match head {
-        RecordHead::Commit => {
-            if !is_digest(taken, body) {
-                return Err(RecvError::BadDigest);
+        } => {
+            if is_good {
+                return take_good(intake, disks, device, number, behind);
             }
-            Ok(Part::End)
+            take_bad(intake, device, number)
         }
-        _ => match take_entry(alloc, intake, disks, head, body) {
-            Ok(()) => Ok(Part::Record(head.head_len() + body.len())),
-            Err(error) => Err(error),
-        },
+        RecordHead::RoundEnd { number } => take_round(intake, number),
+        RecordHead::Device { number, len } => take_device(intake, number, len, behind),
+        RecordHead::Commit => take_digest(intake, taken, behind),
     }
 }
 
-/// Takes the record at the front of the bytes, if it is complete. `taken` is the digest of all bytes before it.
+/// Takes the record at the front of the bytes; returns how many bytes it has, or `None` if it is incomplete. `taken` is the digest of
+/// all bytes before it.
 fn take_part<D: Disk>(
-    alloc: Global,
     intake: &mut Intake,
     disks: &mut [D],
     taken: &mut Sha256,
     bytes: &[u8],
-) -> Result<Part, RecvError>
-    requires roomy { HasDeviceRoom intake.old }
-    ensures room { IfOk result (λ part. size_of part ≤ length bytes.now) }
-    ensures some { IfOk result (λ part. IsLong part) }
-    ensures few { IfOk result (λ part. size_of part ≡ 0 → length bytes.now ≤ 131077) }
-    ensures untouched { IsUntouched taken.old taken.new result }
-    ensures memory { result ≡ Err errors.NoMemory → BeginsDevice bytes.now }
-    ensures after { (front : List ℕ) (opening : Opened) (before : List records.Record) → Holds256 taken.old front → HasRead (map D.state disks.old) opening before intake.old front
-        → After (map D.state disks.old) (map D.state disks.new) opening before intake.new front bytes.now result }
+) -> Result<Option<usize>, RecvError>
+    requires sized { IsSized intake.old }
+    requires fits { sizes_of D.state disks.old ≡ disk_sizes intake.old.shapes.items }
+    requires goes_on { intake.old.ended ≡ false }
+    ensures sized { IsSized intake.new }
+    ensures sizes { sizes_of D.state disks.new ≡ sizes_of D.state disks.old }
+    ensures shapes { intake.new.shapes.items ≡ intake.old.shapes.items }
     ensures place { intake.new.ram.place ≡ intake.old.ram.place }
-    ensures roomy { HasDeviceRoom intake.new }
+    ensures within { IfOk result (λ found. IfSome found (λ len. (0 < len) × (len ≤ length bytes.now))) }
+    ensures few { IfOk result (λ found. is_some found ≡ false → length bytes.now ≤ 131077) }
+    ensures untouched { intake.new.ended ≡ false → OnOk result (taken.new ≡ taken.old) }
+    ensures waits { result ≡ Ok None → intake.new.ended ≡ false }
+    ensures memory { result ≡ Err errors.NoMemory → BeginsDevice bytes.now }
+    ensures after { TakesPart (map D.state disks.old) (map D.state disks.new) intake.old intake.new taken.old bytes.now result }
 {
     let Some((tag, _)) = bytes.split_first() else {
-        return Ok(Part::Wait);
+        return Ok(None);
     };
     if let Err(error) = check_tag(intake, *tag) {
         return Err(error);
     }
     let head = match read_head(bytes) {
         FoundHead::Whole(head) => head,
-        FoundHead::More(_) => return Ok(Part::Wait),
+        FoundHead::More(_) => return Ok(None),
         FoundHead::NoSuchTag => return Err(RecvError::BadTag),
         FoundHead::NoSuchMark => return Err(RecvError::BadSector),
     };
-    if let Err(error) = check_head(intake, disks, head) {
-        return Err(error);
+    let len = head.head_len();
+    let (_, behind) = bytes.split_at(len);
+    match take_record(intake, disks, taken, head, behind) {
+        Ok(true) => Ok(Some(len + head.body_len())),
+        Ok(false) => Ok(None),
+        Err(error) => Err(error),
     }
-    let (_, behind) = bytes.split_at(head.head_len());
-    if behind.len() < head.body_len() {
-        return Ok(Part::Wait);
-    }
-    let (body, _) = behind.split_at(head.body_len());
-    take_record(alloc, intake, disks, taken, head, body)
 }
 
 /// Takes the complete records at the front of the bytes, and their bytes into the digest of all bytes before them. Returns how
-/// many bytes they have, and whether the last is the digest.
+/// many bytes they have.
 pub fn work_off<D: Disk>(
-    alloc: Global,
     intake: &mut Intake,
     disks: &mut [D],
     taken: &mut Sha256,
     bytes: &[u8],
-) -> Result<(usize, bool), RecvError>
-    requires roomy { HasDeviceRoom intake.old }
-    ensures room { IfOk result (λ x. x.0 ≤ length bytes.now) }
-    ensures few { IfOk result (λ x. length bytes.now ≤ 131077 + x.0) }
-    ensures memory { (front : List ℕ) (opening : Opened) (before : List records.Record) → Holds256 taken.old front → HasRead (map D.state disks.old) opening before intake.old front
-        → result ≡ Err errors.NoMemory → HasDevice opening.ram (sizes_of D.state disks.old) (front ++ bytes.now) (length front) }
-    ensures worked { (front : List ℕ) (opening : Opened) (before : List records.Record) → Holds256 taken.old front → HasRead (map D.state disks.old) opening before intake.old front
-        → Worked (map D.state disks.old) (map D.state disks.new) opening intake.new taken.new front bytes.now result }
+) -> Result<usize, RecvError>
+    requires sized { IsSized intake.old }
+    requires fits { sizes_of D.state disks.old ≡ disk_sizes intake.old.shapes.items }
+    ensures sized { IsSized intake.new }
+    ensures sizes { sizes_of D.state disks.new ≡ sizes_of D.state disks.old }
+    ensures shapes { intake.new.shapes.items ≡ intake.old.shapes.items }
     ensures place { intake.new.ram.place ≡ intake.old.ram.place }
-    ensures roomy { HasDeviceRoom intake.new }
+    ensures within { IfOk result (λ at. at ≤ length bytes.now) }
+    ensures few { IfOk result (λ at. length bytes.now ≤ 131077 + at) }
+    ensures memory { (ram : RamTerms) (front : List ℕ) → IsUpTo intake.old.ended ram (map D.state disks.old) taken.old front intake.old
+        → result ≡ Err errors.NoMemory → HasDevice ram (sizes_of D.state disks.old) (front ++ bytes.now) (length front) }
+    ensures worked { (ram : RamTerms) (front : List ℕ) → IsUpTo intake.old.ended ram (map D.state disks.old) taken.old front intake.old
+        → Worked ram (map D.state disks.old) (map D.state disks.new) intake.new taken.new front bytes.now result }
 {
     let mut at = 0;
     while at < bytes.len() {
+        if intake.ended {
+            return Err(RecvError::Trailing);
+        }
         let (_, rest) = bytes.split_at(at);
-        match take_part(alloc, intake, disks, taken, rest) {
+        match take_part(intake, disks, taken, rest) {
             Err(error) => return Err(error),
-            Ok(Part::Wait) => return Ok((at, false)),
-            Ok(Part::Record(len)) => {
+            Ok(None) => return Ok(at),
+            Ok(Some(len)) => {
                 let (record, _) = rest.split_at(len);
                 taken.update(record);
                 at += len;
             }
-            Ok(Part::End) => {
-                if at + COMMIT_RECORD < bytes.len() {
-                    return Err(RecvError::Trailing);
-                }
-                return Ok((at + COMMIT_RECORD, true));
-            }
         }
     }
-    Ok((at, false))
+    Ok(at)
 }

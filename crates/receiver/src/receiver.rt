@@ -7,83 +7,54 @@
 //! It is given a RAM and not a region: whoever has the region makes the RAM, and is refused memory there, with the region back.
 //! What it knows of its RAM (`RamTerms`) is a parameter of all faults, as the sizes of the disks are.
 
-ghost use Rattle.std.specs.Prelude.{◌≡◌, OnErr, OnOk, Some, false, map, true};
-ghost use Rattle.wire.specs.Header.{Opening};
+ghost use Rattle.std.specs.Prelude.{◌≡◌, map, true};
 ghost use Rattle.receiver.specs.Disks.{disk_marks_of, sizes_of};
-ghost use Rattle.receiver.specs.Receiving.{IsPastHead, devices_at, has_ended, has_failed, place_aside, rounds_in};
+ghost use Rattle.receiver.specs.Receiving.{place_aside};
 
 use crate::intake::Intake;
+use crate::opening::recall_disks;
 use crate::ram_terms::RamTerms;
+use crate::reader::Reader;
 use crate::recv_error::RecvError;
 use crate::stage::Stage;
-use crate::stepping::{fail, recall_disks};
-use crate::taking::take_piece;
-use crate::waiting::lacking_of;
-use guestmem::{ArrivingRam, NoMemory, Ram};
-use machine::{Disk, Machine, Room};
+use guestmem::{ArrivingRam, Ram};
+use machine::{Disk, Machine};
 use sha2::{Digest, Sha256};
 use std::alloc::Global;
 use std::marker::Model;
-use std::mem;
-use wire::RECORD_MAX;
 
 /// A receiver that is fed a stream of a machine in any pieces. It knows the guest-physical address at which the machine's RAM begins,
 /// which no stream tells.
 #[derive(Drop)]
 pub struct Receiver<D: Disk> {
-    alloc: Global,
-
-    /// What the host says of the machine's RAM.
-    ram: RamTerms,
-    disks: Vec<D>,
+    reader: Reader<D>,
     held: Vec<u8>,
-    taken: Sha256,
-    stage: Stage,
 
     /// How many bytes the record at the front of `held` still lacks, if its head is held (`lacking_of`).
     lacking: usize,
-
-    /// The memory that the machine will need, once the header was read.
-    room: Option<Room<D>>,
-
-    /// The RAM that stands aside: that which it was given, until the header is read, and any after a refusal.
-    aside: Option<ArrivingRam>,
 }
 
 impl<D: Disk> Model for Receiver<D> {
-    ghost use Rattle.std.specs.Prelude.{map};
     ghost use Rattle.std.specs.Vec.{vec_capacity};
-    ghost use Rattle.receiver.specs.Receiving.{IsReceiver, Received, place_in, received_by};
+    ghost use Rattle.receiver.specs.Receiving.{IsReceiver, Received, received_with};
 
     ghost Value = { Received };
 
-    ghost view = { λ r. received_by r.ram (place_in r.aside r.stage) (map D.state r.disks.items) r.stage r.taken r.held.items };
+    ghost view = { λ r. received_with r.reader r.held.items };
 
-    ghost invariant = { λ r. IsReceiver r.ram r.aside r.room (map D.state r.disks.items) r.taken r.held.items (vec_capacity r.held) r.lacking r.stage };
+    ghost invariant = { λ r. IsReceiver r.reader r.held.items (vec_capacity r.held) r.lacking };
 }
 
 impl<D: Disk + Drop> Receiver<D> {
-    ghost use Rattle.std.specs.Prelude.{◌≡◌, ◌++◌, ◌+◌, [], ℕ, List, ◌≤◌, ◌≢◌, IfOk, IfErr, IfSome, OnOk, OnErr, Err, None, length, true, false};
-    ghost use Rattle.machine.specs.First.{dealt_marks};
-    ghost use Rattle.machine.specs.Seen.{all_marks, state_of};
-    ghost use Rattle.machine.specs.Shapes.{disk_sizes};
-    ghost use Rattle.machine.specs.State.{base_of};
-    ghost use Rattle.machine.specs.declared.shape.Shape.{Shape};
-    ghost use Rattle.wire.specs.Header.{Begins};
-    ghost use Rattle.wire.specs.Stream.{IsStream, shapes_in};
-    ghost use Rattle.receiver.specs.declared.recv_error.RecvError.TheVariants as errors;
-    ghost use Rattle.receiver.specs.Disks.{AreHonestDisks, MarksAfter, disk_marks_of, sizes_of};
+    ghost use Rattle.std.specs.Prelude.{◌≡◌, ℕ, List, ◌≤◌, IfSome, None, length, map, true, false};
+    ghost use Rattle.receiver.specs.Calls.{Feeds, Finishes, FinishesOrBack, IsNew};
+    ghost use Rattle.receiver.specs.Disks.{sizes_of};
     ghost use Rattle.receiver.specs.Opened.{given_at, ram_at};
-    ghost use Rattle.receiver.specs.Receiving.{HasBeenFed, HasDevice, IsArrived, NoFault, IsFinish, IsGivenUp, end_error, HasRounds, IsWholeFor, TellsNow};
+    ghost use Rattle.receiver.specs.Receiving.{HasBeenFed, HasRounds, IsWholeFor};
 
     /// A receiver that was fed nothing, with these disks, of a machine whose RAM begins at the address 0. It takes no memory.
     pub fn new(alloc: Global, disks: Vec<D>) -> Receiver<D>
-        ensures fed { HasBeenFed result [] }
-        ensures ram { result.ram ≡ ram_at 0 }
-        ensures sizes { result.sizes ≡ sizes_of D.state disks.items }
-        ensures marks { result.marks ≡ disk_marks_of D.state disks.items }
-        ensures disks { result.disks ≡ map D.state disks.items }
-        ensures place { result.place ≡ None }
+        ensures { IsNew D.state disks.items (ram_at 0) None result }
     {
         Receiver::new_at(alloc, disks, 0)
     }
@@ -91,62 +62,35 @@ impl<D: Disk + Drop> Receiver<D> {
     /// As `new`, of a machine whose RAM begins at the guest-physical address `base`. Where no RAM of the stream's length may begin
     /// there, since it is no multiple of a page or the last byte would have no address, each device of a stream is a bad one.
     pub fn new_at(alloc: Global, disks: Vec<D>, base: u64) -> Receiver<D>
-        ensures fed { HasBeenFed result [] }
-        ensures ram { result.ram ≡ ram_at base }
-        ensures sizes { result.sizes ≡ sizes_of D.state disks.items }
-        ensures marks { result.marks ≡ disk_marks_of D.state disks.items }
-        ensures disks { result.disks ≡ map D.state disks.items }
-        ensures place { result.place ≡ None }
+        ensures { IsNew D.state disks.items (ram_at base) None result }
     {
         Receiver {
-            alloc,
-            ram: RamTerms { base, len: None },
-            disks,
+            reader: Reader::new(alloc, disks, RamTerms { base, len: None }, None),
             held: Vec::new(alloc),
-            taken: Sha256::new(),
-            stage: Stage::Head,
             lacking: 0,
-            room: None,
-            aside: None,
         }
     }
 
     /// As `new`, with the RAM that the machine is to have: its pages are written straight into it. Its bytes may be anything. The
     /// stream of a machine of another number of pages is refused with `ShapeMismatch`, before a page is written.
     pub fn new_in(alloc: Global, disks: Vec<D>, ram: Ram) -> Receiver<D>
-        ensures fed { HasBeenFed result [] }
-        ensures ram { result.ram ≡ given_at 0 ram.bytes }
-        ensures sizes { result.sizes ≡ sizes_of D.state disks.items }
-        ensures marks { result.marks ≡ disk_marks_of D.state disks.items }
-        ensures disks { result.disks ≡ map D.state disks.items }
-        ensures place { result.place ≡ ram.place }
+        ensures { IsNew D.state disks.items (given_at 0 ram.bytes) ram.place result }
     {
         Receiver::new_in_at(alloc, disks, ram, 0)
     }
 
     /// As `new_in`, of a machine whose RAM begins at the guest-physical address `base` (see `new_at`).
     pub fn new_in_at(alloc: Global, disks: Vec<D>, ram: Ram, base: u64) -> Receiver<D>
-        ensures fed { HasBeenFed result [] }
-        ensures ram { result.ram ≡ given_at base ram.bytes }
-        ensures sizes { result.sizes ≡ sizes_of D.state disks.items }
-        ensures marks { result.marks ≡ disk_marks_of D.state disks.items }
-        ensures disks { result.disks ≡ map D.state disks.items }
-        ensures place { result.place ≡ ram.place }
+        ensures { IsNew D.state disks.items (given_at base ram.bytes) ram.place result }
     {
-        let len = ram.len();
+        let terms = RamTerms {
+            base,
+            len: Some(ram.len()),
+        };
         Receiver {
-            alloc,
-            ram: RamTerms {
-                base,
-                len: Some(len),
-            },
-            disks,
+            reader: Reader::new(alloc, disks, terms, Some(ArrivingRam::over(ram))),
             held: Vec::new(alloc),
-            taken: Sha256::new(),
-            stage: Stage::Head,
             lacking: 0,
-            room: None,
-            aside: Some(ArrivingRam::over(ram)),
         }
     }
 
@@ -154,84 +98,23 @@ impl<D: Disk + Drop> Receiver<D> {
     pub fn base(&self) -> u64
         ensures { result ≡ self.now.ram.base }
     {
-        self.ram.base
+        self.reader.base()
     }
 
     /// Takes the next piece. The good sectors in it are written to the disks. `DiskFailed` is returned exactly if a
     /// disk failed. After the header `NoMemory` is returned only with the last byte of a device's record.
     pub fn feed(&mut self, piece: &[u8]) -> Result<(), RecvError>
-        ensures ram { self.new.ram ≡ self.old.ram }
-        ensures sizes { self.new.sizes ≡ self.old.sizes }
-        ensures marks { MarksAfter self.old.marks result self.new.marks }
-        ensures fed { OnOk result ((b : List ℕ) → HasBeenFed self.old b → HasBeenFed self.new (b ++ piece.now)) }
-        ensures quiet { OnOk result ((b : List ℕ) → HasBeenFed self.old b → NoFault self.old.ram self.old.sizes (b ++ piece.now)) }
-        ensures told { IfErr result (λ e. (b : List ℕ) → HasBeenFed self.old b → TellsNow self.old.ram self.old.sizes b piece.now e) }
-        ensures failed { OnErr result (self.new.failed ≡ true) }
-        ensures place { self.new.place ≡ self.old.place }
-        ensures already { self.old.failed ≡ true → result ≡ Err errors.AlreadyFailed }
-        ensures memory { result ≡ Err errors.NoMemory → (b : List ℕ) → HasBeenFed self.old b → (opening : Opening) (rest : List ℕ) → Begins b opening rest
-            → (from : ℕ) → from + length self.old.held ≡ length b → HasDevice self.old.ram self.old.sizes (b ++ piece.now) from }
+        ensures { Feeds self.old piece.now result self.new }
     {
         if piece.len() < self.lacking {
             self.held.extend_from_slice(piece).unwrap();
             self.lacking -= piece.len();
             return Ok(());
         }
-        self.work_through(piece)
-    }
-
-    /// Takes a piece that may complete the header or a record. It stands apart, so that one of few bytes within a body, which is
-    /// only held, costs little.
-    #[inline(never)]
-    fn work_through(&mut self, piece: &[u8]) -> Result<(), RecvError>
-        ensures ram { self.new.ram ≡ self.old.ram }
-        ensures sizes { self.new.sizes ≡ self.old.sizes }
-        ensures marks { MarksAfter self.old.marks result self.new.marks }
-        ensures fed { OnOk result ((b : List ℕ) → HasBeenFed self.old b → HasBeenFed self.new (b ++ piece.now)) }
-        ensures quiet { OnOk result ((b : List ℕ) → HasBeenFed self.old b → NoFault self.old.ram self.old.sizes (b ++ piece.now)) }
-        ensures told { IfErr result (λ e. (b : List ℕ) → HasBeenFed self.old b → TellsNow self.old.ram self.old.sizes b piece.now e) }
-        ensures failed { OnErr result (self.new.failed ≡ true) }
-        ensures place { self.new.place ≡ self.old.place }
-        ensures already { self.old.failed ≡ true → result ≡ Err errors.AlreadyFailed }
-        ensures memory { result ≡ Err errors.NoMemory → (b : List ℕ) → HasBeenFed self.old b → (opening : Opening) (rest : List ℕ) → Begins b opening rest
-            → (from : ℕ) → from + length self.old.held ≡ length b → HasDevice self.old.ram self.old.sizes (b ++ piece.now) from }
-    {
-        if is_failed(&self.stage) {
-            return Err(RecvError::AlreadyFailed);
-        }
-        if piece.is_empty() {
-            return Ok(());
-        }
         self.lacking = 0;
-        let room = RECORD_MAX - self.held.len();
-        if self.held.reserve_exact(room).is_err() {
-            self.held.clear();
-            fail(&mut self.stage, &mut self.aside);
-            return Err(RecvError::NoMemory);
-        }
-        let is_first = is_head(&self.stage);
-        let stage = mem::replace(&mut self.stage, Stage::Failed);
-        match take_piece(
-            self.alloc,
-            self.ram,
-            &mut self.aside,
-            &mut self.disks,
-            &mut self.held,
-            &mut self.taken,
-            stage,
-            piece,
-        ) {
-            Ok(stage) => {
-                let disks = self.disks.len();
-                let room = &mut self.room;
-                let Ok(()) = reserve(self.alloc, room, is_first, &stage, disks) else {
-                    self.held.clear();
-                    let mut stage = stage;
-                    fail(&mut stage, &mut self.aside);
-                    return Err(RecvError::NoMemory);
-                };
-                self.lacking = lacking_of(&stage, &self.held);
-                self.stage = stage;
+        match self.reader.take_piece(&mut self.held, piece) {
+            Ok(lacking) => {
+                self.lacking = lacking;
                 Ok(())
             }
             Err(error) => {
@@ -255,7 +138,7 @@ impl<D: Disk + Drop> Receiver<D> {
         ensures failed { self.now.failed ≡ true → result ≡ 0 }
         ensures rounds { (b : List ℕ) → HasBeenFed self.now b → HasRounds self.now.ram self.now.sizes b result }
     {
-        rounds_of(&self.stage)
+        self.reader.rounds()
     }
 
     /// Whether the whole stream was fed: the digest, its last record, was read, and nothing was refused. From then on any further
@@ -265,7 +148,7 @@ impl<D: Disk + Drop> Receiver<D> {
         ensures lacking { result ≡ false → (b : List ℕ) → HasBeenFed self.now b → ¬ (IsWholeFor self.now.ram self.now.sizes b) }
         ensures failed { self.now.failed ≡ true → result ≡ false }
     {
-        has_ended(&self.stage)
+        self.reader.has_ended()
     }
 
     /// The machine whose stream was fed. A refusal drops the disks, and the RAM.
@@ -279,17 +162,7 @@ impl<D: Disk + Drop> Receiver<D> {
     /// storage (`Machine::flush_disk`), also the folder of a file that it made, and only then tells the source that all is there.
     /// Where that fails the machine does not run here, and the source continues.
     pub fn finish(self) -> Result<Machine<D>, RecvError>
-        ensures arrived { IfOk result (λ m. (b : List ℕ) → HasBeenFed self b → IsArrived b (state_of m)) }
-        ensures received { IfOk result (λ m. AreHonestDisks self.marks → (b : List ℕ) → HasBeenFed self b → IsStream b (state_of m)) }
-        ensures marks { IfOk result (λ m. all_marks m ≡ dealt_marks (shapes_in (state_of m).devices) self.marks) }
-        ensures based { IfOk result (λ m. base_of (state_of m).devices ≡ self.ram.base) }
-        ensures fits { IfOk result (λ m. self.sizes ≡ disk_sizes (shapes_in (state_of m).devices)) }
-        ensures refused { IfErr result (λ e. (b : List ℕ) → HasBeenFed self b → IsFinish b e) }
-        ensures whole { OnOk result ((b : List ℕ) → HasBeenFed self b → IsWholeFor self.ram self.sizes b) }
-        ensures told { IfErr result (λ e. e ≡ end_error self.failed) }
-        ensures lacking { result ≡ Err errors.Truncated → (b : List ℕ) → HasBeenFed self b → ¬ (IsWholeFor self.ram self.sizes b) }
-        ensures place { IfOk result (λ m. m.memory.place ≡ self.place) }
-        ensures already { self.failed ≡ true → result ≡ Err errors.AlreadyFailed }
+        ensures { Finishes self result }
     {
         match self.finish_or_back() {
             Ok(machine) => Ok(machine),
@@ -299,36 +172,33 @@ impl<D: Disk + Drop> Receiver<D> {
 
     /// As `finish`, but a refusal gives a receiver back that takes no more, with the disks and the RAM.
     pub fn finish_or_back(self) -> Result<Machine<D>, (RecvError, Receiver<D>)>
-        ensures arrived { IfOk result (λ m. (b : List ℕ) → HasBeenFed self b → IsArrived b (state_of m)) }
-        ensures received { IfOk result (λ m. AreHonestDisks self.marks → (b : List ℕ) → HasBeenFed self b → IsStream b (state_of m)) }
-        ensures marks { IfOk result (λ m. all_marks m ≡ dealt_marks (shapes_in (state_of m).devices) self.marks) }
-        ensures based { IfOk result (λ m. base_of (state_of m).devices ≡ self.ram.base) }
-        ensures fits { IfOk result (λ m. self.sizes ≡ disk_sizes (shapes_in (state_of m).devices)) }
-        ensures refused { IfErr result (λ x. (b : List ℕ) → HasBeenFed self b → IsFinish b x.0) }
-        ensures whole { OnOk result ((b : List ℕ) → HasBeenFed self b → IsWholeFor self.ram self.sizes b) }
-        ensures told { IfErr result (λ x. x.0 ≡ end_error self.failed) }
-        ensures lacking { IfErr result (λ x. x.0 ≡ errors.Truncated → (b : List ℕ) → HasBeenFed self b → ¬ (IsWholeFor self.ram self.sizes b)) }
-        ensures already { self.failed ≡ true → IfErr result (λ x. x.0 ≡ errors.AlreadyFailed) }
-        ensures goes_on { OnOk result (self.failed ≡ false) }
-        ensures back { IfErr result (λ x. IsGivenUp self x.1) }
-        ensures place { IfOk result (λ m. m.memory.place ≡ self.place) }
-        ensures kept { IfErr result (λ x. x.1.place ≡ self.place) }
+        ensures { FinishesOrBack self result }
     {
         let Receiver {
+            reader,
+            held: _,
+            lacking: _,
+        } = self;
+        let Reader {
             alloc,
             ram: terms,
             disks,
-            held: _,
-            taken: _,
-            stage,
-            lacking: _,
-            room,
             aside,
-        } = self;
+            room,
+            digest: _,
+            stage,
+        } = reader;
         recall_disks(&disks);
         match stage {
-            Stage::Ended(intake) => {
+            Stage::Records(intake) => {
+                if !intake.ended {
+                    return Err((
+                        RecvError::Truncated,
+                        given_up(alloc, terms, disks, Some(intake.ram)),
+                    ));
+                }
                 let Intake {
+                    alloc: _,
                     terms: _,
                     shapes,
                     ram,
@@ -337,6 +207,7 @@ impl<D: Disk + Drop> Receiver<D> {
                     bad,
                     rounds: _,
                     devices,
+                    ended: _,
                 } = intake;
                 ram.recall();
                 let ram = ram.into_ram();
@@ -347,10 +218,6 @@ impl<D: Disk + Drop> Receiver<D> {
                 RecvError::AlreadyFailed,
                 given_up(alloc, terms, disks, aside),
             )),
-            Stage::Records(intake) => Err((
-                RecvError::Truncated,
-                given_up(alloc, terms, disks, Some(intake.ram)),
-            )),
             Stage::Head => Err((RecvError::Truncated, given_up(alloc, terms, disks, aside))),
         }
     }
@@ -359,7 +226,7 @@ impl<D: Disk + Drop> Receiver<D> {
     pub fn disk_count(&self) -> usize
         ensures { result ≡ length self.now.sizes }
     {
-        self.disks.len()
+        self.reader.disk_count()
     }
 
     /// The disks. What they hold of a stream that is not whole is some of its sectors.
@@ -367,17 +234,7 @@ impl<D: Disk + Drop> Receiver<D> {
         ensures disks { map D.state result.items ≡ self.disks }
         ensures sizes { sizes_of D.state result.items ≡ self.sizes }
     {
-        let Receiver {
-            alloc: _,
-            ram: _,
-            disks,
-            held: _,
-            taken: _,
-            stage: _,
-            lacking: _,
-            room: _,
-            aside: _,
-        } = self;
+        let (disks, _) = self.into_parts();
         disks
     }
 
@@ -390,17 +247,20 @@ impl<D: Disk + Drop> Receiver<D> {
         ensures none { result.1 ≡ None → self.place ≡ None }
     {
         let Receiver {
+            mut reader,
+            held: _,
+            lacking: _,
+        } = self;
+        reader.fail();
+        let Reader {
             alloc: _,
             ram: _,
             disks,
-            held: _,
-            taken: _,
-            mut stage,
-            lacking: _,
+            aside,
             room: _,
-            mut aside,
-        } = self;
-        fail(&mut stage, &mut aside);
+            digest: _,
+            stage: _,
+        } = reader;
         match aside {
             Some(ram) => (disks, Some(ram.into_ram())),
             None => (disks, None),
@@ -422,78 +282,18 @@ fn given_up<D: Disk>(
     ensures marks { result.marks ≡ disk_marks_of D.state disks.items }
     ensures place { result.place ≡ place_aside aside }
 {
-    Receiver {
+    let reader = Reader {
         alloc,
         ram,
         disks,
-        held: Vec::new(alloc),
-        taken: Sha256::new(),
-        stage: Stage::Failed,
-        lacking: 0,
-        room: None,
         aside,
-    }
-}
-
-/// How many rounds ended.
-fn rounds_of(stage: &Stage) -> u32
-    ensures { result ≡ rounds_in stage.now }
-{
-    match stage {
-        Stage::Records(intake) => intake.rounds,
-        Stage::Ended(intake) => intake.rounds,
-        _ => 0,
-    }
-}
-
-/// Whether the stream is complete.
-fn has_ended(stage: &Stage) -> bool
-    ensures { result ≡ has_ended stage.now }
-{
-    match stage {
-        Stage::Ended(_) => true,
-        _ => false,
-    }
-}
-
-/// Whether the header is incomplete.
-fn is_head(stage: &Stage) -> bool
-    ensures head { result ≡ true → ¬ (IsPastHead stage.now) }
-    ensures past { result ≡ false → has_failed stage.now ≡ false → IsPastHead stage.now }
-{
-    match stage {
-        Stage::Head => true,
-        _ => false,
-    }
-}
-
-/// Reserves the memory that the machine will need beside its RAM, if the header was read just now. Its only error is out of memory.
-fn reserve<D: Disk + Drop>(
-    alloc: Global,
-    room: &mut Option<Room<D>>,
-    is_first: bool,
-    stage: &Stage,
-    disks: usize,
-) -> Result<(), NoMemory>
-    ensures first { OnOk result (is_first ≡ true → IsPastHead stage.now → room.new ≡ Some (record { devices = devices_at stage.now; disks = disks })) }
-    ensures later { is_first ≡ false → room.new ≡ room.old }
-    ensures only { OnErr result (is_first ≡ true) }
-{
-    if !is_first {
-        return Ok(());
-    }
-    if let Stage::Records(intake) | Stage::Ended(intake) = stage {
-        *room = Some(Room::new(alloc, intake.shapes.len(), disks)?);
-    }
-    Ok(())
-}
-
-/// Whether the stream was refused.
-fn is_failed(stage: &Stage) -> bool
-    ensures { result ≡ has_failed stage.now }
-{
-    match stage {
-        Stage::Failed => true,
-        _ => false,
+        room: None,
+        digest: Sha256::new(),
+        stage: Stage::Failed,
+    };
+    Receiver {
+        reader,
+        held: Vec::new(alloc),
+        lacking: 0,
     }
 }

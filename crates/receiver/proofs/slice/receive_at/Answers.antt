@@ -10,46 +10,56 @@ use Rattle.receiver.proofs.Counting.{slice_told, slice_cut, told_at_once}
 use Rattle.receiver.proofs.Whole.{stream_rounds}
 use Rattle.receiver.proofs.slice.receive_at.Goals as goal
 
-pub returns-in-Err-clause-refused : goal.returns-in-Err-clause-refused
-returns-in-Err-clause-refused g c =
-    let told = told_at_once _ _ c.args.bytes.now c.in-Err.error (rw (c.new_at-receiver.ensures.ram, c.new_at-receiver.ensures.sizes) at (c.in-Err.ensures.told [] c.new_at-receiver.ensures.fed)) in
-    slice_told _ _ _ _ c.args.bytes.now c.in-Err.error (rw c.new_at-receiver.ensures.marks at c.in-Err.ensures.marks) told
+pub returns-in-Err : goal.returns-in-Err
+returns-in-Err g c = record {
+  arrived = tt;
+  received = tt;
+  marks = tt;
+  based = tt;
+  fits = tt;
+  whole = tt;
+  refused =
+      let told = told_at_once _ _ c.args.bytes.now c.in-Err.error (rw (c.new_at-receiver.ensures.ram, c.new_at-receiver.ensures.sizes) at (c.in-Err.ensures.told [] c.new_at-receiver.ensures.fed)) in
+      slice_told _ _ _ _ c.args.bytes.now c.in-Err.error (rw c.new_at-receiver.ensures.marks at c.in-Err.ensures.marks) told;
+}
 
-pub returns-in-Ok-clause-received : goal.returns-in-Ok-clause-received
-returns-in-Ok-clause-received g c = λ honest.
-    let fed = c.in_default.ensures.fed [] c.new_at-receiver.ensures.fed in
-    let m = state_of c.in-Ok.machine in
-    let same : c.feed.new.self.marks ≡ disk_marks_of g.D.Disk.state c.args.disks.items = c.in_default.ensures.marks ∙ c.new_at-receiver.ensures.marks in
-    let ram : c.feed.new.self.ram ≡ ram_at c.args.base = c.feed.ensures.ram ∙ c.new_at-receiver.ensures.ram in
-    let stream = c.in-Ok.ensures.received (subst AreHonestDisks (sym same) honest) c.args.bytes.now fed in
-    record {
-      stream = stream;
-      rounds_are = stream_rounds c.feed.new.self.ram c.feed.new.self.sizes c.args.bytes.now m c.rounds-rounds.result stream c.in-Ok.ensures.based (subst (λ (r : RamTerms). HasPages r (pages_of m)) (sym ram) tt) c.in-Ok.ensures.fits (c.rounds-rounds.ensures.rounds c.args.bytes.now fed);
-    }
+pub returns-in-Ok : goal.returns-in-Ok
+returns-in-Ok g c = record {
+  arrived = c.in-Ok.ensures.arrived c.args.bytes.now (c.in_default.ensures.fed [] c.new_at-receiver.ensures.fed);
+  received =
+      λ honest.
+      let fed = c.in_default.ensures.fed [] c.new_at-receiver.ensures.fed in
+      let m = state_of c.in-Ok.machine in
+      let same : c.feed.new.self.marks ≡ disk_marks_of g.D.Disk.state c.args.disks.items = c.in_default.ensures.marks ∙ c.new_at-receiver.ensures.marks in
+      let ram : c.feed.new.self.ram ≡ ram_at c.args.base = c.feed.ensures.ram ∙ c.new_at-receiver.ensures.ram in
+      let stream = c.in-Ok.ensures.received (subst AreHonestDisks (sym same) honest) c.args.bytes.now fed in
+      record {
+        stream = stream;
+        rounds_are = stream_rounds c.feed.new.self.ram c.feed.new.self.sizes c.args.bytes.now m c.rounds-rounds.result stream c.in-Ok.ensures.based (subst (λ (r : RamTerms). HasPages r (pages_of m)) (sym ram) tt) c.in-Ok.ensures.fits (c.rounds-rounds.ensures.rounds c.args.bytes.now fed);
+      };
+  marks =
+      let same : c.feed.new.self.marks ≡ disk_marks_of g.D.Disk.state c.args.disks.items = c.in_default.ensures.marks ∙ c.new_at-receiver.ensures.marks in
+      c.in-Ok.ensures.marks ∙ ap (λ ms. dealt_marks (shapes_in (state_of c.in-Ok.machine).devices) ms) same;
+  based = c.in-Ok.ensures.based ∙ ap (λ (r : RamTerms). r.base) (c.feed.ensures.ram ∙ c.new_at-receiver.ensures.ram);
+  fits =
+      let sizes : c.feed.new.self.sizes ≡ sizes_of g.D.Disk.state c.args.disks.items = c.feed.ensures.sizes ∙ c.new_at-receiver.ensures.sizes in
+      rw sizes at c.in-Ok.ensures.fits;
+  whole =
+      let ram : c.feed.new.self.ram ≡ ram_at c.args.base = c.feed.ensures.ram ∙ c.new_at-receiver.ensures.ram in
+      let sizes : c.feed.new.self.sizes ≡ sizes_of g.D.Disk.state c.args.disks.items = c.feed.ensures.sizes ∙ c.new_at-receiver.ensures.sizes in
+      rw (ram, sizes) at (c.in-Ok.ensures.whole c.args.bytes.now (c.in_default.ensures.fed [] c.new_at-receiver.ensures.fed));
+  refused = tt;
+}
 
-pub returns-in-Ok-clause-marks : goal.returns-in-Ok-clause-marks
-returns-in-Ok-clause-marks g c =
-    let same : c.feed.new.self.marks ≡ disk_marks_of g.D.Disk.state c.args.disks.items = c.in_default.ensures.marks ∙ c.new_at-receiver.ensures.marks in
-    c.in-Ok.ensures.marks ∙ ap (λ ms. dealt_marks (shapes_in (state_of c.in-Ok.machine).devices) ms) same
-
-pub returns-in-Ok-clause-fits : goal.returns-in-Ok-clause-fits
-returns-in-Ok-clause-fits g c =
-    let sizes : c.feed.new.self.sizes ≡ sizes_of g.D.Disk.state c.args.disks.items = c.feed.ensures.sizes ∙ c.new_at-receiver.ensures.sizes in
-    rw sizes at c.in-Ok.ensures.fits
-
-pub returns-in-Err-finish-clause-refused : goal.returns-in-Err-finish-clause-refused
-returns-in-Err-finish-clause-refused g c =
-    let quiet = rw (c.new_at-receiver.ensures.ram, c.new_at-receiver.ensures.sizes) at (c.in_default.ensures.quiet [] c.new_at-receiver.ensures.fed) in
-    slice_cut _ _ _ c.args.bytes.now c.in-Err-finish.error (c.in-Err-finish.ensures.refused c.args.bytes.now (c.in_default.ensures.fed [] c.new_at-receiver.ensures.fed)) quiet
-
-pub returns-in-Ok-clause-whole : goal.returns-in-Ok-clause-whole
-returns-in-Ok-clause-whole g c =
-    let ram : c.feed.new.self.ram ≡ ram_at c.args.base = c.feed.ensures.ram ∙ c.new_at-receiver.ensures.ram in
-    let sizes : c.feed.new.self.sizes ≡ sizes_of g.D.Disk.state c.args.disks.items = c.feed.ensures.sizes ∙ c.new_at-receiver.ensures.sizes in
-    rw (ram, sizes) at (c.in-Ok.ensures.whole c.args.bytes.now (c.in_default.ensures.fed [] c.new_at-receiver.ensures.fed))
-
-pub returns-in-Ok-clause-based : goal.returns-in-Ok-clause-based
-returns-in-Ok-clause-based g c = c.in-Ok.ensures.based ∙ ap (λ (r : RamTerms). r.base) (c.feed.ensures.ram ∙ c.new_at-receiver.ensures.ram)
-
-pub returns-in-Ok-clause-arrived : goal.returns-in-Ok-clause-arrived
-returns-in-Ok-clause-arrived g c = c.in-Ok.ensures.arrived c.args.bytes.now (c.in_default.ensures.fed [] c.new_at-receiver.ensures.fed)
+pub returns-in-Err-finish : goal.returns-in-Err-finish
+returns-in-Err-finish g c = record {
+  arrived = tt;
+  received = tt;
+  marks = tt;
+  based = tt;
+  fits = tt;
+  whole = tt;
+  refused =
+      let quiet = rw (c.new_at-receiver.ensures.ram, c.new_at-receiver.ensures.sizes) at (c.in_default.ensures.quiet [] c.new_at-receiver.ensures.fed) in
+      slice_cut _ _ _ c.args.bytes.now c.in-Err-finish.error (c.in-Err-finish.ensures.refused c.args.bytes.now (c.in_default.ensures.fed [] c.new_at-receiver.ensures.fed)) quiet;
+}

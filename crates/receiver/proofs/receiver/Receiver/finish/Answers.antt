@@ -1,4 +1,39 @@
 use Rattle.receiver.proofs.receiver.Receiver.finish.Goals as goal
 
-pub returns-in-Err-clause-lacking : goal.returns-in-Err-clause-lacking
-returns-in-Err-clause-lacking g c = λ is. c.in-Err.ensures.lacking cc
+pub returns-in-Ok : goal.returns-in-Ok
+returns-in-Ok g c =
+    let f = c.in-Ok.ensures in
+    record {
+      arrived = f.arrived;
+      received = f.received;
+      marks = f.marks;
+      based = f.based;
+      fits = f.fits;
+      refused = tt;
+      whole = f.whole;
+      told = tt;
+      lacking = λ is. absurd is;
+      place = f.place;
+      already = f.already;
+      goes_on = f.goes_on;
+      back = tt;
+    }
+
+pub returns-in-Err : goal.returns-in-Err
+returns-in-Err g c =
+    let f = c.in-Err.ensures in
+    record {
+      arrived = tt;
+      received = tt;
+      marks = tt;
+      based = tt;
+      fits = tt;
+      refused = f.refused;
+      whole = tt;
+      told = f.told;
+      lacking = f.lacking;
+      place = tt;
+      already = f.already;
+      goes_on = tt;
+      back = tt;
+    }

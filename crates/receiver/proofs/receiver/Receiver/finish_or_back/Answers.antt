@@ -1,16 +1,19 @@
-use Rattle.std.proofs.Common.{arith, false, length, refl, ◌≡◌, ◌++◌, ap, map, sym, subst, ◌∙◌}
+use Rattle.std.proofs.Common.{arith, false, length, refl, Bool, ◌≡◌, ◌++◌, ap, map, sym, subst, ◌∙◌}
+use Rattle.guestmem.specs.Memory.{Memory}
 use Rattle.machine.specs.First.{dealt_marks}
 use Rattle.machine.specs.Room.{RoomSeen}
 use Rattle.machine.specs.Seen.{state_of}
 use Rattle.machine.specs.Shapes.{disk_sizes}
 use Rattle.machine.specs.State.{MachineState, base_of}
 use Rattle.wire.specs.Stream.{shapes_in}
-use Rattle.receiver.specs.Disks.{AreHonestDisks, disk_marks_of}
-use Rattle.receiver.specs.Receiving.{HasBeenFed, IsReceiver, IsTaken, IsWholeFor, Received, has_ended, place_in, received_by}
+use Rattle.receiver.specs.Fed.{IsKnownIn}
+use Rattle.receiver.specs.Reading.{IsReader}
+use Rattle.receiver.specs.Receiving.{IsTaken, has_ended, has_failed, place_in}
 use Rattle.receiver.specs.declared.ram_terms.RamTerms.{RamTerms}
+use Rattle.receiver.specs.declared.stage.Stage.{Stage}
 use Rattle.receiver.specs.declared.stage.Stage.TheVariants as stages
-use Rattle.receiver.proofs.Ending.{not_whole_taken}
-use Rattle.receiver.proofs.Feeding.{marks_mapped, same_room}
+use Rattle.receiver.proofs.Ending.{ends_again, ends_cut, given_back_as, has_come, seen_of}
+use Rattle.receiver.proofs.Feeding.{marks_mapped, same_room, true_false}
 use Rattle.receiver.proofs.Knowing.{any_arrived, come_of, here_sound, read_based, whole_come, whole_shapes, whole_stream}
 use Rattle.receiver.proofs.Sectors.{marks_count}
 use Rattle.receiver.proofs.Steps.{devices_are}
@@ -19,116 +22,107 @@ use Rattle.receiver.proofs.receiver.Receiver.finish_or_back.Goals as goal
 
 pub restore_in-requires-clause-sound : goal.restore_in-requires-clause-sound
 restore_in-requires-clause-sound g c =
-    let kept : IsReceiver c.self.inside.ram c.self.inside.aside c.self.inside.room (map g.D.Disk.state c.self.inside.disks.items) c.self.inside.taken c.self.inside.held.items _ _ c.self.inside.stage = c.self.invariant in
-    let known = (rw c.in-Ended.is at kept.known) refl in
-    let h = known.1.1 in
+    let r = c.reader.inside in
+    let s = seen_of r.ram (map g.D.Disk.state r.disks.items) r.aside r.room r.digest r.stage in
+    let h = (has_come s c.self.inside.held.items _ _ c.in-Records.intake (rw (← c.reader.view_is) at c.self.invariant) c.in-Records.is c.if-not-intake.false).1 in
     rw c.into_ram-ram.ensures (here_sound h.ended.read (h.ended.complete.devices refl) c.recall.ensures.bytes (rw c.deref.ensures.value at c.recall_disks.ensures))
 
 pub restore_in-requires-clause-shapes : goal.restore_in-requires-clause-shapes
 restore_in-requires-clause-shapes g c =
-    let kept : IsReceiver c.self.inside.ram c.self.inside.aside c.self.inside.room (map g.D.Disk.state c.self.inside.disks.items) c.self.inside.taken c.self.inside.held.items _ _ c.self.inside.stage = c.self.invariant in
-    let known = (rw c.in-Ended.is at kept.known) refl in
-    let h = known.1.1 in
+    let r = c.reader.inside in
+    let s = seen_of r.ram (map g.D.Disk.state r.disks.items) r.aside r.room r.digest r.stage in
+    let h = (has_come s c.self.inside.held.items _ _ c.in-Records.intake (rw (← c.reader.view_is) at c.self.invariant) c.in-Records.is c.if-not-intake.false).1 in
     h.ended.read.shapes_are ∙ sym (whole_shapes h.ended.read (h.ended.complete.devices refl))
 
 pub restore_in-requires-clause-bad : goal.restore_in-requires-clause-bad
 restore_in-requires-clause-bad g c =
-    let kept : IsReceiver c.self.inside.ram c.self.inside.aside c.self.inside.room (map g.D.Disk.state c.self.inside.disks.items) c.self.inside.taken c.self.inside.held.items _ _ c.self.inside.stage = c.self.invariant in
-    let known = (rw c.in-Ended.is at kept.known) refl in
-    known.1.1.ended.read.written.marks
-
-pub returns-in-Ended-clause-received : goal.returns-in-Ended-clause-received
-returns-in-Ended-clause-received g c = λ honest b f.
-    let seen : Received = received_by c.self.inside.ram (place_in c.self.inside.aside c.self.inside.stage) (map g.D.Disk.state c.self.inside.disks.items) c.self.inside.stage c.self.inside.taken c.self.inside.held.items in
-    let fed : HasBeenFed seen b = subst (λ (v : Received). HasBeenFed v b) (sym c.self.view_is) f in
-    let ended : IsTaken c.self.inside.ram (map g.D.Disk.state c.self.inside.disks.items) c.self.inside.taken b c.self.inside.held.items (stages.Ended c.in-Ended.intake) = rw c.in-Ended.is at fed.taken in
-    let h = come_of c.self.inside.ram _ c.self.inside.taken b c.self.inside.held.items c.in-Ended.intake ended in
-    let trusted : AreHonestDisks (disk_marks_of g.D.Disk.state c.self.inside.disks.items) = subst AreHonestDisks (sym (ap (λ (v : Received). v.marks) c.self.view_is)) honest in
-    rw (c.restore_in.ensures.restored, c.into_ram-ram.ensures) (whole_stream _ b h.opening c.in-Ended.intake h.ended c.recall.ensures.bytes trusted)
-
-pub returns-in-Ended-clause-arrived : goal.returns-in-Ended-clause-arrived
-returns-in-Ended-clause-arrived g c = λ b f.
-    let seen : Received = received_by c.self.inside.ram (place_in c.self.inside.aside c.self.inside.stage) (map g.D.Disk.state c.self.inside.disks.items) c.self.inside.stage c.self.inside.taken c.self.inside.held.items in
-    let fed : HasBeenFed seen b = subst (λ (v : Received). HasBeenFed v b) (sym c.self.view_is) f in
-    let ended : IsTaken c.self.inside.ram (map g.D.Disk.state c.self.inside.disks.items) c.self.inside.taken b c.self.inside.held.items (stages.Ended c.in-Ended.intake) = rw c.in-Ended.is at fed.taken in
-    let h = come_of c.self.inside.ram _ c.self.inside.taken b c.self.inside.held.items c.in-Ended.intake ended in
-    rw (c.restore_in.ensures.restored, c.into_ram-ram.ensures) (any_arrived _ b h.opening c.in-Ended.intake h.ended c.recall.ensures.bytes)
-
-pub returns-in-Ended-clause-marks : goal.returns-in-Ended-clause-marks
-returns-in-Ended-clause-marks g c =
-    let kept : IsReceiver c.self.inside.ram c.self.inside.aside c.self.inside.room (map g.D.Disk.state c.self.inside.disks.items) c.self.inside.taken c.self.inside.held.items _ _ c.self.inside.stage = c.self.invariant in
-    let known = (rw c.in-Ended.is at kept.known) refl in
-    let h = known.1.1 in
-    let marks = marks_mapped g.D.Disk.state c.self.inside.disks.items ∙ ap (λ (v : Received). v.marks) c.self.view_is in
-    let same : c.in-Ended.intake.shapes.items ≡ shapes_in (state_of c.restore_in.result).devices =
-    h.ended.read.shapes_are ∙ sym (whole_shapes h.ended.read (h.ended.complete.devices refl)) ∙ sym (ap (λ (m : MachineState). shapes_in m.devices) c.restore_in.ensures.restored) in
-    c.restore_in.ensures.marks ∙ ap (λ ms. dealt_marks c.in-Ended.intake.shapes.items ms) marks ∙ ap (λ ss. dealt_marks ss c.args.self.marks) same
-
-pub returns-in-Ended-clause-based : goal.returns-in-Ended-clause-based
-returns-in-Ended-clause-based g c =
-    let kept : IsReceiver c.self.inside.ram c.self.inside.aside c.self.inside.room (map g.D.Disk.state c.self.inside.disks.items) c.self.inside.taken c.self.inside.held.items _ _ c.self.inside.stage = c.self.invariant in
-    let known = (rw c.in-Ended.is at kept.known) refl in
-    let h = known.1.1 in
-    ap (λ (m : MachineState). base_of m.devices) c.restore_in.ensures.restored ∙ read_based h.ended.read (h.ended.complete.devices refl) ∙ ap (λ (r : RamTerms). r.base) (h.based ∙ ap (λ (v : Received). v.ram) c.self.view_is)
-
-pub returns-in-Ended-clause-fits : goal.returns-in-Ended-clause-fits
-returns-in-Ended-clause-fits g c =
-    let kept : IsReceiver c.self.inside.ram c.self.inside.aside c.self.inside.room (map g.D.Disk.state c.self.inside.disks.items) c.self.inside.taken c.self.inside.held.items _ _ c.self.inside.stage = c.self.invariant in
-    let known = (rw c.in-Ended.is at kept.known) refl in
-    let h = known.1.1 in
-    sym (ap (λ (v : Received). v.sizes) c.self.view_is) ∙ h.ended.read.fits ∙ ap disk_sizes (sym (whole_shapes h.ended.read (h.ended.complete.devices refl))) ∙ sym (ap (λ (m : MachineState). disk_sizes (shapes_in m.devices)) c.restore_in.ensures.restored)
-
-pub returns-in-Records-clause-refused : goal.returns-in-Records-clause-refused
-returns-in-Records-clause-refused g c = λ b f m s.
-    let seen : Received = received_by c.self.inside.ram (place_in c.self.inside.aside c.self.inside.stage) (map g.D.Disk.state c.self.inside.disks.items) c.self.inside.stage c.self.inside.taken c.self.inside.held.items in
-    let fed : HasBeenFed seen b = subst (λ (v : Received). HasBeenFed v b) (sym c.self.view_is) f in
-    let t : IsTaken c.self.inside.ram (map g.D.Disk.state c.self.inside.disks.items) c.self.inside.taken b c.self.inside.held.items (stages.Records c.in-Records.intake) = rw c.in-Records.is at fed.taken in
-    no_stream_reading c.self.inside.ram _ t.front c.self.inside.held.items b c.in-Records.intake m fed.bytes t.whole t.known.1 s
-
-pub returns-clause-refused : goal.returns-clause-refused
-returns-clause-refused g c = λ b f m s.
-    let seen : Received = received_by c.self.inside.ram (place_in c.self.inside.aside c.self.inside.stage) (map g.D.Disk.state c.self.inside.disks.items) c.self.inside.stage c.self.inside.taken c.self.inside.held.items in
-    let fed : HasBeenFed seen b = subst (λ (v : Received). HasBeenFed v b) (sym c.self.view_is) f in
-    let t : IsTaken c.self.inside.ram (map g.D.Disk.state c.self.inside.disks.items) c.self.inside.taken b c.self.inside.held.items stages.Head = rw c.in-Head.is at fed.taken in
-    let same : b ≡ c.self.inside.held.items = t.whole ∙ ap (λ x. x ++ c.self.inside.held.items) t.known.0 in
-    no_stream_head c.self.inside.held.items m t.known.2 (rw same at s)
-
-pub returns-in-Ended-clause-whole : goal.returns-in-Ended-clause-whole
-returns-in-Ended-clause-whole g c = λ b f.
-    let seen : Received = received_by c.self.inside.ram (place_in c.self.inside.aside c.self.inside.stage) (map g.D.Disk.state c.self.inside.disks.items) c.self.inside.stage c.self.inside.taken c.self.inside.held.items in
-    let fed : HasBeenFed seen b = subst (λ (v : Received). HasBeenFed v b) (sym c.self.view_is) f in
-    let ended : IsTaken c.self.inside.ram (map g.D.Disk.state c.self.inside.disks.items) c.self.inside.taken b c.self.inside.held.items (stages.Ended c.in-Ended.intake) = rw c.in-Ended.is at fed.taken in
-    let h = come_of c.self.inside.ram _ c.self.inside.taken b c.self.inside.held.items c.in-Ended.intake ended in
-    subst (λ (v : Received). IsWholeFor v.ram v.sizes b) c.self.view_is (whole_come c.self.inside.ram _ b c.in-Ended.intake h)
-
-pub returns-in-Records-clause-lacking : goal.returns-in-Records-clause-lacking
-returns-in-Records-clause-lacking g c = λ is b f.
-    let seen : Received = received_by c.self.inside.ram (place_in c.self.inside.aside c.self.inside.stage) (map g.D.Disk.state c.self.inside.disks.items) c.self.inside.stage c.self.inside.taken c.self.inside.held.items in
-    let fed : HasBeenFed seen b = subst (λ (v : Received). HasBeenFed v b) (sym c.self.view_is) f in
-    let not_yet : has_ended c.self.inside.stage ≡ false = ap has_ended c.in-Records.is in
-    subst (λ (v : Received). ¬ (IsWholeFor v.ram v.sizes b)) c.self.view_is (not_whole_taken c.self.inside.ram _ c.self.inside.taken b c.self.inside.held.items c.self.inside.stage fed.bytes not_yet fed.taken)
-
-pub returns-clause-lacking : goal.returns-clause-lacking
-returns-clause-lacking g c = λ is b f.
-    let seen : Received = received_by c.self.inside.ram (place_in c.self.inside.aside c.self.inside.stage) (map g.D.Disk.state c.self.inside.disks.items) c.self.inside.stage c.self.inside.taken c.self.inside.held.items in
-    let fed : HasBeenFed seen b = subst (λ (v : Received). HasBeenFed v b) (sym c.self.view_is) f in
-    let not_yet : has_ended c.self.inside.stage ≡ false = ap has_ended c.in-Head.is in
-    subst (λ (v : Received). ¬ (IsWholeFor v.ram v.sizes b)) c.self.view_is (not_whole_taken c.self.inside.ram _ c.self.inside.taken b c.self.inside.held.items c.self.inside.stage fed.bytes not_yet fed.taken)
+    let r = c.reader.inside in
+    let s = seen_of r.ram (map g.D.Disk.state r.disks.items) r.aside r.room r.digest r.stage in
+    let h = (has_come s c.self.inside.held.items _ _ c.in-Records.intake (rw (← c.reader.view_is) at c.self.invariant) c.in-Records.is c.if-not-intake.false).1 in
+    h.ended.read.written.marks
 
 pub restore_in-requires-clause-devices : goal.restore_in-requires-clause-devices
 restore_in-requires-clause-devices g c =
-    let kept : IsReceiver c.self.inside.ram c.self.inside.aside c.self.inside.room (map g.D.Disk.state c.self.inside.disks.items) c.self.inside.taken c.self.inside.held.items _ _ c.self.inside.stage = c.self.invariant in
-    let known = (rw c.in-Ended.is at kept.known) refl in
-    let h = known.1.1 in
-    let room = (rw c.in-Ended.is at kept.roomed) tt in
-    let count : length c.in-Ended.intake.shapes.items ≡ length c.in-Ended.intake.devices.items = ap length h.ended.read.shapes_are ∙ sym (h.ended.complete.devices refl) ∙ devices_are h.ended.read in
+    let r = c.reader.inside in
+    let s = seen_of r.ram (map g.D.Disk.state r.disks.items) r.aside r.room r.digest r.stage in
+    let h = (has_come s c.self.inside.held.items _ _ c.in-Records.intake (rw (← c.reader.view_is) at c.self.invariant) c.in-Records.is c.if-not-intake.false).1 in
+    let room = (subst (λ (stage : Stage). IsReader s.ram s.disks s.aside s.room stage) c.in-Records.is c.reader.invariant).2 in
+    let count : length c.in-Records.intake.shapes.items ≡ length c.in-Records.intake.devices.items = ap length h.ended.read.shapes_are ∙ sym (h.ended.complete.devices refl) ∙ devices_are h.ended.read in
     ap (λ (r : RoomSeen). r.devices) (same_room c.unwrap-room.ensures room) ∙ count
 
 pub restore_in-requires-clause-disks : goal.restore_in-requires-clause-disks
 restore_in-requires-clause-disks g c =
-    let kept : IsReceiver c.self.inside.ram c.self.inside.aside c.self.inside.room (map g.D.Disk.state c.self.inside.disks.items) c.self.inside.taken c.self.inside.held.items _ _ c.self.inside.stage = c.self.invariant in
-    let known = (rw c.in-Ended.is at kept.known) refl in
-    let h = known.1.1 in
-    let room = (rw c.in-Ended.is at kept.roomed) tt in
-    let count = marks_count _ c.in-Ended.intake.bad.items h.ended.read.written.marks in
+    let r = c.reader.inside in
+    let s = seen_of r.ram (map g.D.Disk.state r.disks.items) r.aside r.room r.digest r.stage in
+    let h = (has_come s c.self.inside.held.items _ _ c.in-Records.intake (rw (← c.reader.view_is) at c.self.invariant) c.in-Records.is c.if-not-intake.false).1 in
+    let room = (subst (λ (stage : Stage). IsReader s.ram s.disks s.aside s.room stage) c.in-Records.is c.reader.invariant).2 in
+    let count = marks_count _ c.in-Records.intake.bad.items h.ended.read.written.marks in
     omega (arith, count, ap (λ (r : RoomSeen). r.disks) (same_room c.unwrap-room.ensures room))
+
+pub returns-in-Records : goal.returns-in-Records
+returns-in-Records g c =
+    let r = c.reader.inside in
+    let s = seen_of r.ram (map g.D.Disk.state r.disks.items) r.aside r.room r.digest r.stage in
+    let h = (has_come s c.self.inside.held.items _ _ c.in-Records.intake (rw (← c.reader.view_is) at c.self.invariant) c.in-Records.is c.if-not-intake.false).1 in
+    let come = λ b (t : IsTaken s.ram s.disks s.digest b c.self.inside.held.items s.stage). come_of s.ram s.disks s.digest b c.self.inside.held.items c.in-Records.intake c.if-not-intake.false (subst (λ (stage : Stage). IsTaken s.ram s.disks s.digest b c.self.inside.held.items stage) c.in-Records.is t) in
+    let on : has_failed r.stage ≡ false = ap has_failed c.in-Records.is in
+    let shapes : c.in-Records.intake.shapes.items ≡ shapes_in (state_of c.restore_in.result).devices =
+    h.ended.read.shapes_are ∙ sym (whole_shapes h.ended.read (h.ended.complete.devices refl)) ∙ sym (ap (λ (m : MachineState). shapes_in m.devices) c.restore_in.ensures.restored) in
+    rw (← c.self.view_is, ← c.reader.view_is) (record {
+      arrived = λ b f.
+          let w = come b f.taken in
+          rw (c.restore_in.ensures.restored, c.into_ram-ram.ensures) (any_arrived _ b w.opening c.in-Records.intake w.ended c.recall.ensures.bytes);
+      received = λ honest b f.
+          let w = come b f.taken in
+          rw (c.restore_in.ensures.restored, c.into_ram-ram.ensures) (whole_stream _ b w.opening c.in-Records.intake w.ended c.recall.ensures.bytes honest);
+      marks = c.restore_in.ensures.marks ∙ ap (λ ms. dealt_marks c.in-Records.intake.shapes.items ms) (marks_mapped g.D.Disk.state r.disks.items) ∙ ap (λ ss. dealt_marks ss _) shapes;
+      based = ap (λ (m : MachineState). base_of m.devices) c.restore_in.ensures.restored ∙ read_based h.ended.read (h.ended.complete.devices refl) ∙ ap (λ (t : RamTerms). t.base) h.based;
+      fits = h.ended.read.fits ∙ ap disk_sizes (sym h.ended.read.shapes_are) ∙ ap disk_sizes shapes;
+      refused = tt;
+      whole = λ b f. whole_come s.ram s.disks b c.in-Records.intake (come b f.taken);
+      told = tt;
+      lacking = λ is. absurd is;
+      place = c.restore_in.ensures.place ∙ ap (λ (m : Memory). m.place) c.into_ram-ram.ensures ∙ sym (ap (place_in r.aside) c.in-Records.is);
+      already = λ f. absurd (true_false _ f on);
+      goes_on = on;
+      back = tt;
+    })
+
+-- The digest was not read.
+pub returns-then-not-intake : goal.returns-then-not-intake
+returns-then-not-intake g c =
+    let r = c.reader.inside in
+    let s = seen_of r.ram (map g.D.Disk.state r.disks.items) r.aside r.room r.digest r.stage in
+    let held = c.self.inside.held.items in
+    let new = c.given_up.ensures in
+    let not_yet : has_ended s.stage ≡ false = ap has_ended c.in-Records.is ∙ c.if-not-intake.true in
+    rw (← c.self.view_is, ← c.reader.view_is)
+    (ends_cut s held c.given_up.result (ap has_failed c.in-Records.is) not_yet
+    (λ b f m stream.
+    let t : IsTaken s.ram s.disks s.digest b held (stages.Records c.in-Records.intake) = subst (λ (stage : Stage). IsTaken s.ram s.disks s.digest b held stage) c.in-Records.is f.taken in
+    let known : IsKnownIn false s.ram s.disks s.digest t.front held c.in-Records.intake = subst (λ (ended : Bool). IsKnownIn ended s.ram s.disks s.digest t.front held c.in-Records.intake) c.if-not-intake.true t.known in
+    no_stream_reading s.ram _ t.front held b c.in-Records.intake m f.bytes t.whole known.1 stream)
+    (given_back_as s held c.given_up.result new.failed new.ram new.disks new.sizes new.marks (new.place ∙ sym (ap (place_in s.aside) c.in-Records.is))))
+
+pub returns-in-Failed : goal.returns-in-Failed
+returns-in-Failed g c =
+    let r = c.reader.inside in
+    let s = seen_of r.ram (map g.D.Disk.state r.disks.items) r.aside r.room r.digest r.stage in
+    let held = c.self.inside.held.items in
+    let new = c.given_up-in-Failed.ensures in
+    rw (← c.self.view_is, ← c.reader.view_is)
+    (ends_again s held c.given_up-in-Failed.result (ap has_failed c.in-Failed.is) (given_back_as s held c.given_up-in-Failed.result new.failed new.ram new.disks new.sizes new.marks (new.place ∙ sym (ap (place_in s.aside) c.in-Failed.is))))
+
+pub returns : goal.returns
+returns g c =
+    let r = c.reader.inside in
+    let s = seen_of r.ram (map g.D.Disk.state r.disks.items) r.aside r.room r.digest r.stage in
+    let held = c.self.inside.held.items in
+    let new = c.given_up-in-Head.ensures in
+    rw (← c.self.view_is, ← c.reader.view_is)
+    (ends_cut s held c.given_up-in-Head.result (ap has_failed c.in-Head.is) (ap has_ended c.in-Head.is)
+    (λ b f m stream.
+    let t : IsTaken s.ram s.disks s.digest b held stages.Head = subst (λ (stage : Stage). IsTaken s.ram s.disks s.digest b held stage) c.in-Head.is f.taken in
+    let same : b ≡ held = t.whole ∙ ap (λ x. x ++ held) t.known.0 in
+    no_stream_head held m t.known.2 (rw same at stream))
+    (given_back_as s held c.given_up-in-Head.result new.failed new.ram new.disks new.sizes new.marks (new.place ∙ sym (ap (place_in s.aside) c.in-Head.is))))

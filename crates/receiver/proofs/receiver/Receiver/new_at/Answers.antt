@@ -1,17 +1,8 @@
-use Rattle.std.proofs.Common.{refl, sym, arith, []}
-use Rattle.receiver.proofs.Knowing.{nothing_known}
+use Rattle.receiver.proofs.Feeding.{first_new, first_receiver}
 use Rattle.receiver.proofs.receiver.Receiver.new_at.Goals as goal
 
-pub returns-clause-fed : goal.returns-clause-fed
-returns-clause-fed g c = record { goes_on = refl; bytes = λ i. omega arith; taken = record { front = []; whole = sym c.new.ensures.items; known = (refl, c.new-2.ensures, rw c.new.ensures.items nothing_known) } }
+pub returns : goal.returns
+returns g c = first_new g.D.Disk.state c.args.disks.items c.new.result c.new-2.result.items c.new.ensures c.new-2.ensures.items
 
 pub invariant_of-result : goal.invariant_of-result
-invariant_of-result g c = record {
-  ready = refl;
-  roomed = λ past. absurd past;
-  known = λ on. ([], (refl, c.new-2.ensures, rw c.new.ensures.items nothing_known));
-  few = rw c.new.ensures.items (omega arith);
-  gone = λ e. cc;
-  roomy = λ past. absurd past;
-  lacks = λ some. absurd (omega (arith, some));
-}
+invariant_of-result g c = first_receiver c.new.result c.new-2.result.items _ c.new.ensures c.new-2.ensures.items

@@ -1,0 +1,91 @@
+use Rattle.std.proofs.Common.{refl, rules, sym, ap, subst, ◌≡◌, ◌∙◌, Bool, Some, false, take, drop, map, length, []}
+use Rattle.std.proofs.lemmas.List.{length-map}
+use Rattle.sha2.specs.Hashers.{Holds256}
+use Rattle.wire.specs.Header.{said}
+use Rattle.receiver.specs.Disks.{sizes_of}
+use Rattle.receiver.specs.Fed.{IsUpTo}
+use Rattle.receiver.specs.Opened.{opened}
+use Rattle.receiver.specs.Reading.{ReadsHeader}
+use Rattle.receiver.specs.Receiving.{ReaderSeen, place_aside, place_in}
+use Rattle.receiver.specs.declared.recv_error.RecvError.TheVariants as errors
+use Rattle.receiver.specs.declared.stage.Stage.TheVariants as stages
+use Rattle.receiver.proofs.Looking.{head_is, head_not_failed, head_not_past, open_refused, open_waits, opened_before}
+use Rattle.receiver.proofs.Feeding.{true_false}
+use Rattle.receiver.proofs.Stages.{head_taken, header_refused, mismatch}
+use Rattle.receiver.proofs.Working.{refused_kept}
+use Rattle.receiver.proofs.reader.Reader.open.Goals as goal
+
+pub returns-then-not-is_head : goal.returns-then-not-is_head
+returns-then-not-is_head g c = rw (← c.self.view_is) (opened_before _ c.args.bytes.now (sym c.is_head.ensures ∙ c.if-not-is_head.true))
+
+pub returns-in-Err : goal.returns-in-Err
+returns-in-Err g c =
+    let i = c.self.inside in
+    let head = head_is i.stage (sym c.is_head.ensures ∙ c.if-not-is_head.false) in
+    rw (← c.self.view_is) (open_refused _ _ c.args.bytes.now c.in-Err.error head refl refl refl refl (header_refused i.ram (map g.D.Disk.state i.disks.items) c.args.bytes.now c.in-Err.error c.in-Err.ensures.refused))
+
+pub returns-in-Ok-None : goal.returns-in-Ok-None
+returns-in-Ok-None g c =
+    let head = head_is c.self.inside.stage (sym c.is_head.ensures ∙ c.if-not-is_head.false) in
+    let waits = rw c.in-Ok-None.field-0-is at c.in-Ok-None.ensures.read in
+    let few = (rw c.in-Ok-None.field-0-is at c.in-Ok-None.ensures.few) refl in
+    rw (← c.self.view_is) (open_waits _ c.args.bytes.now head waits few)
+
+pub returns-in-Err-check_fit : goal.returns-in-Err-check_fit
+returns-in-Err-check_fit g c =
+    let i = c.self.inside in
+    let head = head_is i.stage (sym c.is_head.ensures ∙ c.if-not-is_head.false) in
+    let ds = map g.D.Disk.state i.disks.items in
+    let b = rw c.in-Ok-Some.field-0-is at c.in-Ok-Some.ensures.read in
+    let never = rw c.deref.ensures.value at c.in-Err-check_fit.ensures.refused in
+    rw (← c.self.view_is, c.in-Err-check_fit.ensures.mismatch)
+    (open_refused _ _ c.args.bytes.now errors.ShapeMismatch head refl refl refl refl (refused_kept ds errors.ShapeMismatch (λ e. cc), mismatch i.ram (sizes_of g.D.Disk.state i.disks.items) c.args.bytes.now _ (opened i.ram (said c.in-Ok-Some.heading)) b.1 never))
+
+pub returns-in_default-new : goal.returns-in_default-new
+returns-in_default-new g c =
+    let i = c.self.inside in
+    let head = head_is i.stage (sym c.is_head.ensures ∙ c.if-not-is_head.false) in
+    rw (← c.self.view_is) (open_refused _ _ c.args.bytes.now errors.NoMemory head refl refl refl refl (refused_kept (map g.D.Disk.state i.disks.items) errors.NoMemory (λ e. cc), tt))
+
+pub returns-in_default-new_intake : goal.returns-in_default-new_intake
+returns-in_default-new_intake g c =
+    let i = c.self.inside in
+    let head = head_is i.stage (sym c.is_head.ensures ∙ c.if-not-is_head.false) in
+    rw (← c.self.view_is) (open_refused _ _ c.args.bytes.now errors.NoMemory head refl refl refl c.in_default-new_intake.ensures.kept (refused_kept (map g.D.Disk.state i.disks.items) errors.NoMemory (λ e. cc), tt))
+
+pub invariant_of-self : goal.invariant_of-self
+invariant_of-self g c =
+    let head = head_is c.self.inside.stage (sym c.is_head.ensures ∙ c.if-not-is_head.false) in
+    rw (head, c.in_default-new_intake.ensures.kept) (rw head at c.self.invariant)
+
+pub new_intake-requires-clause-given : goal.new_intake-requires-clause-given
+new_intake-requires-clause-given g c = rw (head_is c.self.inside.stage (sym c.is_head.ensures ∙ c.if-not-is_head.false)) at c.self.invariant
+
+pub invariant_of-self-2 : goal.invariant_of-self-2
+invariant_of-self-2 g c =
+    let fits = rw c.deref.ensures.value at c.in_default.ensures.fits in
+    (c.in-Ok-new_intake.ensures.sized, fits ∙ ap _ (sym c.in-Ok-new_intake.ensures.shapes), ap Some (search rules))
+
+pub returns : goal.returns
+returns g c =
+    let i = c.self.inside in
+    let ds = map g.D.Disk.state i.disks.items in
+    let head = head_is i.stage (sym c.is_head.ensures ∙ c.if-not-is_head.false) in
+    let b = rw c.in-Ok-Some.field-0-is at c.in-Ok-Some.ensures.read in
+    let len = c.in-Ok-Some.heading.len in
+    let front = head_taken c.args.bytes.now (opened i.ram (said c.in-Ok-Some.heading)) len b.0 b.1 in
+    let read = c.in-Ok-new_intake.ensures.read c.args.bytes.now (drop len c.args.bytes.now) b.1 in
+    rw (← c.self.view_is) (record {
+      ram = refl;
+      disks = refl;
+      within = b.0;
+      few = λ e. absurd cc;
+      place = c.in-Ok-new_intake.ensures.place ∙ sym (ap (place_in i.aside) head);
+      later = λ past. absurd (head_not_past i.stage head past);
+      failed = λ f. absurd (true_false _ f (head_not_failed i.stage head));
+      opened = λ held h k.
+          let known = rw head at k in
+          let digested : Holds256 c.update.new.self (take len c.args.bytes.now) = rw c.split_at.ensures.front at (c.update.ensures [] known.1) in
+          subst (λ (ended : Bool). IsUpTo ended i.ram ds c.update.new.self (take len c.args.bytes.now) c.in-Ok-new_intake.intake) (sym c.in-Ok-new_intake.ensures.goes_on)
+          (digested, record { opening = opened i.ram (said c.in-Ok-Some.heading); based = refl; before = []; read = rw front read });
+    })

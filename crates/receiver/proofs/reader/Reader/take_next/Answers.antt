@@ -1,0 +1,54 @@
+use Rattle.std.proofs.Common.{rules, arith, ◌≡◌, ◌++◌, ap, drop, length, ◌∙◌, []}
+use Rattle.std.proofs.lemmas.List.{nil_from_length}
+use Rattle.receiver.proofs.Pieces.{looked}
+use Rattle.receiver.proofs.Wanting.{err_again, ok_not_err}
+use Rattle.receiver.proofs.reader.Reader.take_next.Goals as goal
+
+pub returns-then-is_empty-clause-takes : goal.returns-then-is_empty-clause-takes
+returns-then-is_empty-clause-takes g c =
+    let none : c.args.held.now.items ≡ [] = search rules in
+    let l = c.in-Ok.ensures in
+    let more : c.extend_from_slice.new.self.items ≡ c.args.held.now.items ++ c.split_at.result.1.now = search rules in
+    let left : c.extend_from_slice.new.self.items ≡ drop c.in-Ok.count c.args.bytes.now = more ∙ ap (λ x. x ++ c.split_at.result.1.now) none ∙ c.split_at.ensures.back in
+    rw none (record {
+      ram = l.ram;
+      few = search rules;
+      shorter = search rules;
+      failed = tt;
+      past = l.past;
+      place = l.place;
+      memory = λ front k past e. absurd (ok_not_err e);
+      took = λ front k.
+          let t = l.looked front [] k in
+          looked c.look.new.self.ram _ _ c.look.new.self.digest front c.args.bytes.now _ c.in-Ok.count c.look.new.self.stage t left;
+    })
+
+pub returns-in-Err-clause-takes : goal.returns-in-Err-clause-takes
+returns-in-Err-clause-takes g c =
+    let none : c.args.held.now.items ≡ [] = search rules in
+    let l = c.in-Err.ensures in
+    rw none (record { ram = l.ram; few = tt; shorter = tt; failed = l.failed; past = λ past. tt; place = l.place; memory = λ front k past e. l.memory front [] k past (err_again e); took = λ front k. l.looked front [] k })
+
+pub returns-in-Ok-look-clause-takes : goal.returns-in-Ok-look-clause-takes
+returns-in-Ok-look-clause-takes g c =
+    let l = c.in-Ok-look.ensures in
+    let all : c.deref.result.now ≡ c.args.held.now.items ++ c.args.bytes.now = search rules in
+    let left : c.drop_front.new.bytes.items ≡ drop c.in-Ok-look.count (c.args.held.now.items ++ c.args.bytes.now) = search rules in
+    record {
+      ram = l.ram;
+      few = search rules;
+      shorter = search rules;
+      failed = tt;
+      past = l.past;
+      place = l.place;
+      memory = λ front k past e. absurd (ok_not_err e);
+      took = λ front k.
+          let t = rw all at (l.looked front c.args.held.now.items k) in
+          looked c.look-2.new.self.ram _ _ c.look-2.new.self.digest front (c.args.held.now.items ++ c.args.bytes.now) _ c.in-Ok-look.count c.look-2.new.self.stage t left;
+    }
+
+pub returns-in-Err-look-clause-takes : goal.returns-in-Err-look-clause-takes
+returns-in-Err-look-clause-takes g c =
+    let l = c.in-Err-look.ensures in
+    let all : c.deref.result.now ≡ c.args.held.now.items ++ c.args.bytes.now = search rules in
+    record { ram = l.ram; few = tt; shorter = tt; failed = l.failed; past = λ past. tt; place = l.place; memory = λ front k past e. rw all at (l.memory front c.args.held.now.items k past (err_again e)); took = λ front k. rw all at (l.looked front c.args.held.now.items k) }

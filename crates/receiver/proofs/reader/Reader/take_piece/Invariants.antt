@@ -1,0 +1,21 @@
+use Rattle.std.proofs.Common.{ℕ, List, ◌≡◌, ◌+◌, ◌≤◌, ◌++◌, false, length}
+use Rattle.std.specs.Vec.{vec_capacity}
+use Rattle.receiver.specs.Reading.{place_of}
+use Rattle.receiver.specs.Receiving.{IsPastHead, Knows, has_failed}
+use Rattle.receiver.proofs.Pieces.{IsPartly}
+use Rattle.receiver.proofs.reader.Reader.take_piece.Given as goal
+
+abbrev pub invariant-loop-rest : goal.invariant-loop-rest
+invariant-loop-rest g l = record {
+  few : length l.held.items ≤ 131077;
+  room : 131078 ≤ vec_capacity l.held;
+  shorter : length l.held.items + length l.rest ≤ length l.fn.held.items + length l.piece;
+  ram : l.self.ram ≡ l.fn.self.ram;
+  past : IsPastHead l.fn.self.stage → IsPastHead l.self.stage;
+  place : place_of l.self ≡ place_of l.fn.self;
+  partly : (front : List ℕ) → Knows l.fn.self front l.fn.held.items
+      → IsPartly l.self.ram l.fn.self.disks l.self.disks l.self.digest (front ++ (l.fn.held.items ++ l.piece)) l.held.items l.rest l.self.stage;
+}
+
+abbrev pub decreases-loop-rest : goal.decreases-loop-rest
+decreases-loop-rest g l = length l.rest

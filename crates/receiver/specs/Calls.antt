@@ -1,0 +1,81 @@
+-- What the calls of a receiver promise, each in one record. What is said of bytes is said of each list that may have been fed.
+use Rattle.std.specs.Prelude.{◌≡◌, ℕ, ◌+◌, List, [], ◌++◌, length, map, true, false, Result, Ok, Err, IfOk, IfErr, OnOk, OnErr, Option}
+use denote.RawPtr.{Ptr}
+use Rattle.blk.specs.Disk.{DiskState}
+use Rattle.machine.specs.First.{dealt_marks}
+use Rattle.machine.specs.Seen.{Seen, all_marks, state_of}
+use Rattle.machine.specs.Shapes.{disk_sizes}
+use Rattle.machine.specs.State.{base_of}
+use Rattle.wire.specs.Header as told
+use Rattle.wire.specs.Stream.{IsStream, shapes_in}
+use Rattle.receiver.specs.Disks.{AreHonestDisks, MarksAfter, disk_marks_of, sizes_of}
+use Rattle.receiver.specs.Opened.{ram_at}
+use Rattle.receiver.specs.Receiving.{HasBeenFed, HasDevice, IsArrived, IsFinish, IsGivenUp, IsReceived, IsWholeFor, NoFault, Received, RefusesSlice, TellsNow, end_error}
+use Rattle.receiver.specs.declared.ram_terms.RamTerms.{RamTerms}
+use Rattle.receiver.specs.declared.recv_error.RecvError.{RecvError}
+use Rattle.receiver.specs.declared.recv_error.RecvError.TheVariants.{AlreadyFailed, NoMemory, Truncated}
+
+-- A receiver that was fed nothing, with these disks, of which the host says this of RAM; the RAM that was handed in lies at `at`.
+pub record IsNew {D : Type 0} (state : D → DiskState) (given : List D) (terms : RamTerms) (at : Option Ptr) (new : Received) : Type 0 where
+  pub fed : HasBeenFed new []
+  pub ram : new.ram ≡ terms
+  pub sizes : new.sizes ≡ sizes_of state given
+  pub marks : new.marks ≡ disk_marks_of state given
+  pub disks : new.disks ≡ map state given
+  pub place : new.place ≡ at
+
+-- After the header memory is refused only where a device's record is whole that ends in this piece.
+abbrev pub WantsDevice : Received → List ℕ → Type 0
+WantsDevice old piece = (b : List ℕ) → HasBeenFed old b → (opening : told.Opening) (rest : List ℕ) → told.Begins b opening rest
+    → (from : ℕ) → from + length old.held ≡ length b → HasDevice old.ram old.sizes (b ++ piece) from
+
+-- A piece was fed, and taken or refused.
+pub record Feeds (old : Received) (piece : List ℕ) (result : Result (Unit {0}) RecvError) (new : Received) : Type 0 where
+  pub ram : new.ram ≡ old.ram
+  pub sizes : new.sizes ≡ old.sizes
+  pub marks : MarksAfter old.marks result new.marks
+  pub fed : OnOk result ((b : List ℕ) → HasBeenFed old b → HasBeenFed new (b ++ piece))
+  pub quiet : OnOk result ((b : List ℕ) → HasBeenFed old b → NoFault old.ram old.sizes (b ++ piece))
+  pub told : IfErr result (λ e. (b : List ℕ) → HasBeenFed old b → TellsNow old.ram old.sizes b piece e)
+  pub failed : OnErr result (new.failed ≡ true)
+  pub place : new.place ≡ old.place
+  pub already : old.failed ≡ true → result ≡ Err AlreadyFailed
+  pub memory : result ≡ Err NoMemory → WantsDevice old piece
+
+-- The result is a refusal for this reason. `why` reads it off what the refusal gives.
+abbrev pub FailsAs : {T E : Type 0} → (E → RecvError) → Result T E → RecvError → Type 0
+FailsAs why (Ok m) e = ⊥
+FailsAs why (Err x) e = why x ≡ e
+
+-- The end: a machine, or a refusal that gives this back.
+pub record EndsWith {E : Type 0} (why : E → RecvError) (Gives : E → Type 0) (old : Received) (result : Result Seen E) : Type 0 where
+  pub arrived : IfOk result (λ m. (b : List ℕ) → HasBeenFed old b → IsArrived b (state_of m))
+  pub received : IfOk result (λ m. AreHonestDisks old.marks → (b : List ℕ) → HasBeenFed old b → IsStream b (state_of m))
+  pub marks : IfOk result (λ m. all_marks m ≡ dealt_marks (shapes_in (state_of m).devices) old.marks)
+  pub based : IfOk result (λ m. base_of (state_of m).devices ≡ old.ram.base)
+  pub fits : IfOk result (λ m. old.sizes ≡ disk_sizes (shapes_in (state_of m).devices))
+  pub refused : IfErr result (λ x. (b : List ℕ) → HasBeenFed old b → IsFinish b (why x))
+  pub whole : OnOk result ((b : List ℕ) → HasBeenFed old b → IsWholeFor old.ram old.sizes b)
+  pub told : IfErr result (λ x. why x ≡ end_error old.failed)
+  pub lacking : FailsAs why result Truncated → (b : List ℕ) → HasBeenFed old b → ¬ (IsWholeFor old.ram old.sizes b)
+  pub place : IfOk result (λ m. m.memory.place ≡ old.place)
+  pub already : old.failed ≡ true → FailsAs why result AlreadyFailed
+  pub goes_on : OnOk result (old.failed ≡ false)
+  pub back : IfErr result Gives
+
+abbrev pub Finishes : Received → Result Seen RecvError → Type 0
+Finishes old result = EndsWith (λ e. e) (λ e. Unit {0}) old result
+
+-- A refusal gives the receiver back.
+abbrev pub FinishesOrBack : Received → Result Seen (RecvError × Received) → Type 0
+FinishesOrBack old result = EndsWith (λ x. x.0) (λ x. IsGivenUp old x.1) old result
+
+-- A whole slice was received, or refused.
+pub record Receives {D : Type 0} (state : D → DiskState) (disks : List D) (base : ℕ) (bytes : List ℕ) (result : Result (Seen × ℕ) RecvError) : Type 0 where
+  pub arrived : IfOk result (λ x. IsArrived bytes (state_of x.0))
+  pub received : IfOk result (λ x. AreHonestDisks (disk_marks_of state disks) → IsReceived bytes (state_of x.0) x.1)
+  pub marks : IfOk result (λ x. all_marks x.0 ≡ dealt_marks (shapes_in (state_of x.0).devices) (disk_marks_of state disks))
+  pub based : IfOk result (λ x. base_of (state_of x.0).devices ≡ base)
+  pub fits : IfOk result (λ x. sizes_of state disks ≡ disk_sizes (shapes_in (state_of x.0).devices))
+  pub whole : OnOk result (IsWholeFor (ram_at base) (sizes_of state disks) bytes)
+  pub refused : IfErr result (λ e. RefusesSlice base (sizes_of state disks) (disk_marks_of state disks) bytes e)
