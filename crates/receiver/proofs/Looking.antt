@@ -150,8 +150,8 @@ pub refused_on : (old mid new : ReaderSeen) (front bytes : List ℕ) (start : �
 refused_on old mid new front bytes start e ds disks ram is w =
     let text : (front ++ take start bytes) ++ drop start bytes ≡ front ++ bytes = sym (cut front bytes start) in
     let a : AreRefused old.disks new.disks e = subst (λ (x : List DiskState). AreRefused old.disks x e) (sym is) (subst (λ (x : List DiskState). AreRefused x ds e) disks w.0) in
-    let moved = λ f. subst (λ (x : List ℕ). (at : ℕ) × Fault mid.ram (sizes_in mid.disks) x e at) text f in
-    let seated = λ f. subst (λ (t : RamTerms). (at : ℕ) × Fault t (sizes_in mid.disks) (front ++ bytes) e at) ram (moved f) in
+    let moved = λ (f : (at : ℕ) × Fault mid.ram (sizes_in mid.disks) ((front ++ take start bytes) ++ drop start bytes) e at). subst (λ (x : List ℕ). (at : ℕ) × Fault mid.ram (sizes_in mid.disks) x e at) text f in
+    let seated = λ (f : (at : ℕ) × Fault mid.ram (sizes_in mid.disks) ((front ++ take start bytes) ++ drop start bytes) e at). subst (λ (t : RamTerms). (at : ℕ) × Fault t (sizes_in mid.disks) (front ++ bytes) e at) ram (moved f) in
     (a, tells_more _ _ e (λ f. subst (λ (x : List DiskState). (at : ℕ) × Fault old.ram (sizes_in x) (front ++ bytes) e at) disks (seated f)) w.1)
 
 -- A header that waits: nothing was worked off.

@@ -1,5 +1,5 @@
 -- Where the sectors of the devices are.
-use Rattle.std.proofs.Common.{◌≡◌, ℕ, zero, suc, ◌+◌, ◌<◌, true, List, [], ◌∷◌, length, map, get_or, refl, ap, arith}
+use Rattle.std.proofs.Common.{◌≡◌, ℕ, zero, suc, ◌+◌, ◌<◌, true, List, [], ◌∷◌, length, map, get_or, refl, ap, ◌∙◌, arith}
 use Rattle.std.proofs.lemmas.List.{get_or-map, length-map}
 use Rattle.blk.specs.Disk.{DiskState}
 use Rattle.guestmem.specs.Item as items
@@ -24,6 +24,9 @@ pub dev_below : (shapes : List Shape) (dev n : ℕ) → n < get_or (map sector_c
 dev_below [] dev n there = absurd (omega (arith, there))
 dev_below (shape ∷ shapes) zero n there = omega arith
 dev_below (shape ∷ shapes) (suc dev) n there = let h = dev_below shapes dev n there in omega (arith, h)
+
+pub count_at : (shapes : List Shape) (dev n : ℕ) (shape : Shape) → n < get_or (map sector_count shapes) dev 0 → n < sector_count (get_or shapes dev shape)
+count_at shapes dev n shape has = omega (arith, has, get_or-map sector_count shapes dev shape 0 (dev_below shapes dev n has))
 
 -- What there is for a sector that a device has.
 pub record IsThere (i : Intake) (dev n : ℕ) : Type 0 where

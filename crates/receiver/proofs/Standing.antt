@@ -355,9 +355,9 @@ never_memory (Ok took) h e = cc
 never_memory (Err x) h e = h (let same : x ≡ errors.NoMemory = cc in same)
 
 -- What came of the digest, as its reader tells it: `ended` and `was`, after and before, and whether the digest of what came before is as it was.
-pub digest_done : {ended was : Bool} {A : Type 0} (r : Result Bool RecvError) → IfOk r (λ took. (took ≡ true → ended ≡ true) × (took ≡ false → (ended ≡ was) × A)) → IfOk r (λ took. took ≡ true → ended ≡ true)
-digest_done (Ok took) h = h.0
-digest_done (Err e) h = tt
+pub digest_done : (r : Result Bool RecvError) (ended was : Bool) (A : Type 0) → IfOk r (λ took. (took ≡ true → ended ≡ true) × (took ≡ false → (ended ≡ was) × A)) → IfOk r (λ took. took ≡ true → ended ≡ true)
+digest_done (Ok took) ended was A h = h.0
+digest_done (Err e) ended was A h = tt
 
 pub digest_untouched : (r : Result Bool RecvError) (ended was : Bool) (A : Type 0) → IfOk r (λ took. (took ≡ true → ended ≡ true) × (took ≡ false → (ended ≡ was) × A)) → ended ≡ false → OnOk r A
 digest_untouched (Ok true) ended was A h on = absurd (not_both_ways ended (h.0 refl) on)

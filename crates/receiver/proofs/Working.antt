@@ -133,8 +133,8 @@ cut front bytes at = ap (λ (x : List ℕ). front ++ x) (sym (take-append-drop a
 pub refused : (ram : RamTerms) (old ds new : List DiskState) (opening : Opened) (before : List Record) (i : Intake) (front bytes : List ℕ) (at : ℕ) (e : RecvError) → opening.ram ≡ ram → AreKept old ds → HasRead ds opening before i (front ++ take at bytes)
     → AreRefused ds new e × Tells e ((place : ℕ) × IsFault opening before (drop at bytes) e place) → AreRefused old new e × Tells e ((k : ℕ) × Fault ram (sizes_in old) (front ++ bytes) e k)
 refused ram old ds new opening before i front bytes at e based same h t =
-    let here = λ f. fault_here (front ++ bytes) (drop at bytes) e h (cut front bytes at) f in
-    let at_ram = λ f. subst (λ (r : RamTerms). (k : ℕ) × Fault r (sizes_in ds) (front ++ bytes) e k) based (here f) in
+    let here = λ (f : (place : ℕ) × IsFault opening before (drop at bytes) e place). fault_here (front ++ bytes) (drop at bytes) e h (cut front bytes at) f in
+    let at_ram = λ (f : (place : ℕ) × IsFault opening before (drop at bytes) e place). subst (λ (r : RamTerms). (k : ℕ) × Fault r (sizes_in ds) (front ++ bytes) e k) based (here f) in
     (then_refused old ds new e same t.0, tells_more _ _ e (λ f. subst (λ sizes. (k : ℕ) × Fault ram sizes (front ++ bytes) e k) same.sizes (at_ram f)) t.1)
 
 -- The record at the front waits.

@@ -6,7 +6,7 @@
 //! A good sector is written to its disk as its record ends, from the bytes that are held, without a copy. What was written
 //! stays written where a later fault is reported: the disks may hold a part of the stream, and are dropped.
 
-ghost use Rattle.std.specs.Prelude.{◌≡◌, ◌≢◌, ◌++◌, ◌+◌, ◌≤◌, ◌<◌, ◌∷◌, ◌↔◌, [], ℕ, List, All, IsTrue, IfErr, IfOk, IfSome, OnOk, MatchOption, None, Ok, Err, false, is_some, length, map, slice_index_or, true};
+ghost use Rattle.std.specs.Prelude.{◌≡◌, ◌≢◌, ◌++◌, ◌+◌, ◌*◌, ◌≤◌, ◌<◌, ◌∷◌, ◌↔◌, [], ℕ, List, All, IsTrue, IfErr, IfOk, IfSome, OnOk, MatchOption, None, Ok, Err, false, is_some, length, map, slice_index_or, true};
 ghost use Rattle.receiver.specs.Opened.{Opened};
 ghost use Rattle.wire.specs.Records as records;
 ghost use Rattle.sha2.specs.Hashers.{Holds256};

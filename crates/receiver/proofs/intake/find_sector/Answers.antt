@@ -5,10 +5,10 @@ use Rattle.receiver.proofs.Spots.{count_at, dev_below, has_sector, there}
 use Rattle.receiver.proofs.Writing.{in_range}
 use Rattle.receiver.proofs.intake.find_sector.Goals as goal
 
-pub index-2-requires : goal.index-2-requires
-index-2-requires c =
+pub index-requires-2 : goal.index-requires-2
+index-requires-2 c =
     let has = has_sector c.args.intake.now.shapes.items c.args.dev c.args.number c.index.result.now (omega arith) c.index.ensures (omega arith) in
-    (there c.args.intake.now c.args.dev c.args.number c.requires has).firsts
+    omega (arith, (there c.args.intake.now c.args.dev c.args.number c.requires has).firsts, c.args.intake.now.firsts.ok.0)
 
 pub returns-then-place-len-clause-found : goal.returns-then-place-len-clause-found
 returns-then-place-len-clause-found c = λ has. omega (arith, dev_below c.args.intake.now.shapes.items c.args.dev c.args.number has)

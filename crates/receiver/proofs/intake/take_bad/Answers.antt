@@ -10,7 +10,7 @@ use Rattle.receiver.proofs.intake.take_bad.Goals as goal
 
 pub returns-in_default-clause-entered : goal.returns-in_default-clause-entered
 returns-in_default-clause-entered c = λ ds behind front tail opening before are h o.
-    entered_refused ds opening before _ front tail behind (heads.Sector c.args.dev c.args.number false) o (no_spot c.args.dev c.args.number h c.in_default.ensures.found)
+    entered_refused ds opening before c.args.intake.now front tail behind (heads.Sector c.args.dev c.args.number false) o (no_spot c.args.dev c.args.number h c.in_default.ensures.found)
 
 pub returns-clause-sized : goal.returns-clause-sized
 returns-clause-sized c =

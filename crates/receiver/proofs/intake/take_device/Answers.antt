@@ -9,20 +9,20 @@ use Rattle.receiver.proofs.Working.{kept, refused_kept}
 use Rattle.receiver.specs.declared.recv_error.RecvError.TheVariants as errors
 use Rattle.receiver.proofs.intake.take_device.Goals as goal
 
-pub nth-requires : goal.nth-requires
-nth-requires c = omega arith
+pub nth-shape-requires : goal.nth-shape-requires
+nth-shape-requires c = omega arith
 
 pub returns-then-number-len-clause-entered : goal.returns-then-number-len-clause-entered
 returns-then-number-len-clause-entered c = λ ds front tail opening before are h o.
-    entered_refused ds opening before _ front tail c.args.behind.now (heads.Device c.args.number c.args.len) o (λ next. omega (arith, next.next, devices_are h))
+    entered_refused ds opening before c.args.intake.now front tail c.args.behind.now (heads.Device c.args.number c.args.len) o (λ next. omega (arith, next.next, devices_are h))
 
 pub returns-then-len-gt-BODY_MAX-clause-entered : goal.returns-then-len-gt-BODY_MAX-clause-entered
 returns-then-len-gt-BODY_MAX-clause-entered c = λ ds front tail opening before are h o.
-    entered_refused ds opening before _ front tail c.args.behind.now (heads.Device c.args.number c.args.len) o (λ next. omega (arith, next.few))
+    entered_refused ds opening before c.args.intake.now front tail c.args.behind.now (heads.Device c.args.number c.args.len) o (λ next. omega (arith, next.few))
 
 pub returns-then-behind-len-clause-entered : goal.returns-then-behind-len-clause-entered
 returns-then-behind-len-clause-entered c = λ ds front tail opening before are h o.
-    entered_waits ds opening before _ front tail c.args.behind.now (heads.Device c.args.number c.args.len) are h o (record { next = omega (arith, devices_are h); few = omega arith }) (omega arith)
+    entered_waits ds opening before c.args.intake.now front tail c.args.behind.now (heads.Device c.args.number c.args.len) are h o (record { next = omega (arith, devices_are h); few = omega arith }) (omega arith)
 
 pub returns-in-Ok-clause-sized : goal.returns-in-Ok-clause-sized
 returns-in-Ok-clause-sized c = sized_on c.args.intake.now _ c.requires.sized refl refl refl refl refl (search rules)

@@ -5,8 +5,8 @@ use Rattle.receiver.proofs.Lists.{not_both_ways}
 use Rattle.receiver.proofs.Standing.{body_waits, digest_refused, digest_there, ended_on, sized_on}
 use Rattle.receiver.proofs.intake.take_digest.Goals as goal
 
-pub returns-then-behind-DIGEST_LEN-clause-closed : goal.returns-then-behind-DIGEST_LEN-clause-closed
-returns-then-behind-DIGEST_LEN-clause-closed c = λ ds front tail opening before are d h o. (h, body_waits opening before tail c.args.behind.now heads.Commit are o tt (omega arith))
+pub returns-then-behind-lt-DIGEST_LEN-clause-closed : goal.returns-then-behind-lt-DIGEST_LEN-clause-closed
+returns-then-behind-lt-DIGEST_LEN-clause-closed c = λ ds front tail opening before are d h o. (h, body_waits opening before tail c.args.behind.now heads.Commit are o tt (omega arith))
 
 pub returns-then-not-is_digest-clause-closed : goal.returns-then-not-is_digest-clause-closed
 returns-then-not-is_digest-clause-closed c = λ ds front tail opening before are d h o.

@@ -1,6 +1,7 @@
-use Rattle.std.proofs.Common.{arith, refl, rules, inl, ap, sym, ◌∙◌, ◌++◌, List, Bool, true, false, [], get_or, length, map, take, ◌≡◌}
+use Rattle.std.proofs.Common.{arith, refl, rules, inl, ap, sym, ◌∙◌, ◌++◌, List, Bool, true, false, [], get_or, length, map, take, ◌≡◌, ◌<◌}
 use Rattle.std.specs.Prelude.{set}
-use Rattle.std.proofs.lemmas.List.{get_or-map, length-map, length-set, map-set}
+use Rattle.std.specs.Array.{IsFirstChunk}
+use Rattle.std.proofs.lemmas.List.{get_or-map, length-map, length-set, length-take, map-set}
 use Rattle.guestmem.proofs.ByteLaws.{IsBytes-take}
 use Rattle.wire.specs.declared.record_head.RecordHead.TheVariants as heads
 use Rattle.receiver.specs.Disks.{sizes_of}
@@ -16,19 +17,25 @@ write-requires g c =
     let there = on_disk (sizes_of g.D.Disk.state c.args.disks.now) c.args.intake.now c.args.dev c.args.number c.in-Some.spot.disk c.requires.sized c.requires.fits c.in-Some.ensures.found.there c.in-Some.ensures.found.disk in
     size_told g.D.Disk.state c.args.disks.now c.in-Some.spot.disk c.index-disks-spot.result c.args.number there
 
-pub index-disks-spot-requires : goal.index-disks-spot-requires
-index-disks-spot-requires g c =
+pub bounds-disks-spot : goal.bounds-disks-spot
+bounds-disks-spot g c =
     let there = on_disk (sizes_of g.D.Disk.state c.args.disks.now) c.args.intake.now c.args.dev c.args.number c.in-Some.spot.disk c.requires.sized c.requires.fits c.in-Some.ensures.found.there c.in-Some.ensures.found.disk in
     disk_told g.D.Disk.state c.args.disks.now c.in-Some.spot.disk c.args.number there
 
+pub offset_bounds-disks-spot : goal.offset_bounds-disks-spot
+offset_bounds-disks-spot g c =
+    let there = on_disk (sizes_of g.D.Disk.state c.args.disks.now) c.args.intake.now c.args.dev c.args.number c.in-Some.spot.disk c.requires.sized c.requires.fits c.in-Some.ensures.found.there c.in-Some.ensures.found.disk in
+    let low : c.in-Some.spot.disk < length c.args.disks.now = disk_told g.D.Disk.state c.args.disks.now c.in-Some.spot.disk c.args.number there in
+    search rules
+
 pub returns-in_default-clause-entered : goal.returns-in_default-clause-entered
 returns-in_default-clause-entered g c = λ front tail opening before are h o.
-    entered_refused (map g.D.Disk.state c.args.disks.now) opening before _ front tail c.args.behind.now (heads.Sector c.args.dev c.args.number true) o (no_spot c.args.dev c.args.number h c.in_default.ensures.found)
+    entered_refused (map g.D.Disk.state c.args.disks.now) opening before c.args.intake.now front tail c.args.behind.now (heads.Sector c.args.dev c.args.number true) o (no_spot c.args.dev c.args.number h c.in_default.ensures.found)
 
 pub returns-in_default-first_chunk-clause-entered : goal.returns-in_default-first_chunk-clause-entered
 returns-in_default-first_chunk-clause-entered g c = λ front tail opening before are h o.
     let at = spot_of c.args.dev c.args.number c.in-Some.spot h c.in-Some.ensures.found in
-    entered_waits (map g.D.Disk.state c.args.disks.now) opening before _ front tail c.args.behind.now (heads.Sector c.args.dev c.args.number true) are h o at.there c.in_default-first_chunk.ensures.cases
+    entered_waits (map g.D.Disk.state c.args.disks.now) opening before c.args.intake.now front tail c.args.behind.now (heads.Sector c.args.dev c.args.number true) are h o at.there c.in_default-first_chunk.ensures.cases
 
 pub returns-in-Err-clause-sizes : goal.returns-in-Err-clause-sizes
 returns-in-Err-clause-sizes g c =
@@ -85,11 +92,11 @@ returns-clause-entered g c = λ front tail opening before are h o.
     let wrote = rw was at c.in-Ok.ensures.written in
     let marks = in_range i.bad.items spot.disk c.index_mut.result.now [] c.in-Some.ensures.marked.disk c.index_mut.ensures.value in
     let bad : c.remove.new.self ≡ set (get_or i.bad.items spot.disk []) c.args.number false = c.remove.ensures ∙ ap (λ (m : List Bool). set m c.args.number false) marks in
-    let body : c.in-Some-first_chunk.bytes.now ≡ take 512 c.args.behind.now = search rules in
-    let many : length c.in-Some-first_chunk.bytes.now ≡ 512 = search rules in
+    let chunk : IsFirstChunk c.args.behind.now c.in-Some-first_chunk.bytes.now 512 = c.in-Some-first_chunk.ensures.cases in
+    let many : length c.in-Some-first_chunk.bytes.now ≡ 512 = omega (arith, ap length chunk.same, length-take 512 c.args.behind.now, chunk.enough) in
     let are_bytes = IsBytes-take 512 c.args.behind.now (λ k. omega (arith, c.type_inv.behind k)) in
-    rw (← body, map-set state c.args.disks.now spot.disk c.write.new.self)
-    (took_good ds (state c.write.new.self) front opening before i _ c.args.dev c.args.number c.in-Some-first_chunk.bytes.now spot _ h early (omega (arith, c.ranges.dev.fits), omega (arith, c.ranges.number.fits), many, rw body are_bytes) at wrote (ap (set i.bad.items spot.disk) bad) c.insert.ensures refl refl refl refl refl refl)
+    rw (← chunk.same, map-set state c.args.disks.now spot.disk c.write.new.self)
+    (took_good ds (state c.write.new.self) front opening before i _ c.args.dev c.args.number c.in-Some-first_chunk.bytes.now spot _ h early (omega (arith, c.ranges.dev.fits), omega (arith, c.ranges.number.fits), many, rw chunk.same are_bytes) at wrote (ap (set i.bad.items spot.disk) bad) c.insert.ensures refl refl refl refl refl refl)
 
 pub returns-in-Err-clause-calls : goal.returns-in-Err-clause-calls
 returns-in-Err-clause-calls g c =

@@ -28,11 +28,11 @@ returns-clause-sized c =
 pub returns-then-not-has_page-clause-entered : goal.returns-then-not-has_page-clause-entered
 returns-then-not-has_page-clause-entered c = λ ds front tail opening before are h o.
     let there = page_there c.args.number h in
-    entered_refused ds opening before _ front tail c.args.behind.now (heads.Page c.args.number) o (λ low. not_both_ways c.has_page.result (c.has_page.ensures.1 (there.1 low)) c.if-not-has_page.true)
+    entered_refused ds opening before c.args.intake.now front tail c.args.behind.now (heads.Page c.args.number) o (λ low. not_both_ways c.has_page.result (c.has_page.ensures.1 (there.1 low)) c.if-not-has_page.true)
 
-pub returns-then-behind-PAGE_SIZE-clause-entered : goal.returns-then-behind-PAGE_SIZE-clause-entered
-returns-then-behind-PAGE_SIZE-clause-entered c = λ ds front tail opening before are h o.
-    entered_waits ds opening before _ front tail c.args.behind.now (heads.Page c.args.number) are h o ((page_there c.args.number h).0 (c.has_page.ensures.0 (search rules))) (omega arith)
+pub returns-then-behind-lt-PAGE_SIZE-clause-entered : goal.returns-then-behind-lt-PAGE_SIZE-clause-entered
+returns-then-behind-lt-PAGE_SIZE-clause-entered c = λ ds front tail opening before are h o.
+    entered_waits ds opening before c.args.intake.now front tail c.args.behind.now (heads.Page c.args.number) are h o ((page_there c.args.number h).0 (c.has_page.ensures.0 (search rules))) (omega arith)
 
 pub returns-then-not-has_record-clause-entered : goal.returns-then-not-has_record-clause-entered
 returns-then-not-has_record-clause-entered c = λ ds front tail opening before are h o.

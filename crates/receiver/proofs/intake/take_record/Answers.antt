@@ -26,8 +26,8 @@ returns-then-is_good-clause-after g c = λ front tail opening before are d h o.
     let opens = rw (c.in-Sector.is, c.if-is_good.true) at o in
     rw (c.in-Sector.is, c.if-is_good.true) (followed_by _ _ opening before _ front tail c.args.behind.now (heads.Sector c.in-Sector.device c.in-Sector.number true) c.take_good.result (c.take_good.ensures.keeps.ended ∙ c.requires.goes_on) opens c.take_good.ensures.long (c.take_good.ensures.entered front tail opening before are h opens))
 
-pub returns-in-Sector-clause-after : goal.returns-in-Sector-clause-after
-returns-in-Sector-clause-after g c = λ front tail opening before are d h o.
+pub returns-else-is_good-clause-after : goal.returns-else-is_good-clause-after
+returns-else-is_good-clause-after g c = λ front tail opening before are d h o.
     let ds = map g.D.Disk.state c.args.disks.now in
     let opens = rw (c.in-Sector.is, c.if-is_good.false) at o in
     let head = heads.Sector c.in-Sector.device c.in-Sector.number false in
@@ -46,17 +46,17 @@ returns-in-Device-clause-after g c = λ front tail opening before are d h o.
     let opens = rw c.in-Device.is at o in
     rw c.in-Device.is (followed_by ds ds opening before _ front tail c.args.behind.now (heads.Device c.in-Device.number c.in-Device.len) c.take_device.result (c.take_device.ensures.keeps.ended ∙ c.requires.goes_on) opens c.take_device.ensures.long (c.take_device.ensures.entered ds front tail opening before are h opens))
 
-pub returns-clause-after : goal.returns-clause-after
-returns-clause-after g c = λ front tail opening before are d h o.
+pub returns-in-Commit-clause-after : goal.returns-in-Commit-clause-after
+returns-in-Commit-clause-after g c = λ front tail opening before are d h o.
     let ds = map g.D.Disk.state c.args.disks.now in
     let opens = rw c.in-Commit.is at o in
-    rw c.in-Commit.is (followed_end ds opening before _ front tail c.take_digest.result (digest_done c.take_digest.result c.take_digest.ensures.ended) (c.take_digest.ensures.closed ds front tail opening before are d h opens))
+    rw c.in-Commit.is (followed_end ds opening before _ front tail c.take_digest.result (digest_done c.take_digest.result _ _ _ c.take_digest.ensures.ended) (c.take_digest.ensures.closed ds front tail opening before are d h opens))
 
 pub returns-in-ZeroPage-clause-short : goal.returns-in-ZeroPage-clause-short
 returns-in-ZeroPage-clause-short g c = all_short c.args.head c.args.behind.now c.take_zero_page.result c.take_zero_page.ensures.all
 
-pub returns-in-Sector-clause-short : goal.returns-in-Sector-clause-short
-returns-in-Sector-clause-short g c = all_short c.args.head c.args.behind.now c.take_bad.result c.take_bad.ensures.all
+pub returns-else-is_good-clause-short : goal.returns-else-is_good-clause-short
+returns-else-is_good-clause-short g c = all_short c.args.head c.args.behind.now c.take_bad.result c.take_bad.ensures.all
 
 pub returns-in-RoundEnd-clause-short : goal.returns-in-RoundEnd-clause-short
 returns-in-RoundEnd-clause-short g c = all_short c.args.head c.args.behind.now c.take_round.result c.take_round.ensures.all
@@ -64,8 +64,8 @@ returns-in-RoundEnd-clause-short g c = all_short c.args.head c.args.behind.now c
 pub returns-in-ZeroPage-clause-long : goal.returns-in-ZeroPage-clause-long
 returns-in-ZeroPage-clause-long g c = rw c.in-ZeroPage.is (all_long (heads.ZeroPage c.in-ZeroPage.number) c.args.behind.now c.take_zero_page.result refl)
 
-pub returns-in-Sector-clause-long : goal.returns-in-Sector-clause-long
-returns-in-Sector-clause-long g c = rw (c.in-Sector.is, c.if-is_good.false) (all_long (heads.Sector c.in-Sector.device c.in-Sector.number false) c.args.behind.now c.take_bad.result refl)
+pub returns-else-is_good-clause-long : goal.returns-else-is_good-clause-long
+returns-else-is_good-clause-long g c = rw (c.in-Sector.is, c.if-is_good.false) (all_long (heads.Sector c.in-Sector.device c.in-Sector.number false) c.args.behind.now c.take_bad.result refl)
 
 pub returns-in-RoundEnd-clause-long : goal.returns-in-RoundEnd-clause-long
 returns-in-RoundEnd-clause-long g c = rw c.in-RoundEnd.is (all_long (heads.RoundEnd c.in-RoundEnd.number) c.args.behind.now c.take_round.result refl)
@@ -79,8 +79,8 @@ returns-in-ZeroPage-clause-memory g c = λ e. absurd (never_memory c.take_zero_p
 pub returns-then-is_good-clause-memory : goal.returns-then-is_good-clause-memory
 returns-then-is_good-clause-memory g c = λ e. absurd (never_memory c.take_good.result c.take_good.ensures.memory e)
 
-pub returns-in-Sector-clause-memory : goal.returns-in-Sector-clause-memory
-returns-in-Sector-clause-memory g c = λ e. absurd (never_memory c.take_bad.result c.take_bad.ensures.memory e)
+pub returns-else-is_good-clause-memory : goal.returns-else-is_good-clause-memory
+returns-else-is_good-clause-memory g c = λ e. absurd (never_memory c.take_bad.result c.take_bad.ensures.memory e)
 
 pub returns-in-RoundEnd-clause-memory : goal.returns-in-RoundEnd-clause-memory
 returns-in-RoundEnd-clause-memory g c = λ e. absurd (never_memory c.take_round.result c.take_round.ensures.memory e)
@@ -88,14 +88,14 @@ returns-in-RoundEnd-clause-memory g c = λ e. absurd (never_memory c.take_round.
 pub returns-in-Device-clause-memory : goal.returns-in-Device-clause-memory
 returns-in-Device-clause-memory g c = λ e. rw c.in-Device.is (c.take_device.ensures.memory e)
 
-pub returns-clause-memory : goal.returns-clause-memory
-returns-clause-memory g c = λ e. absurd (never_memory c.take_digest.result c.take_digest.ensures.memory e)
+pub returns-in-Commit-clause-memory : goal.returns-in-Commit-clause-memory
+returns-in-Commit-clause-memory g c = λ e. absurd (never_memory c.take_digest.result c.take_digest.ensures.memory e)
 
-pub returns-clause-untouched : goal.returns-clause-untouched
-returns-clause-untouched g c = λ on. digest_untouched c.take_digest.result _ _ _ c.take_digest.ensures.ended on
+pub returns-in-Commit-clause-untouched : goal.returns-in-Commit-clause-untouched
+returns-in-Commit-clause-untouched g c = λ on. digest_untouched c.take_digest.result _ _ _ c.take_digest.ensures.ended on
 
-pub returns-clause-waits : goal.returns-clause-waits
-returns-clause-waits g c = λ e. digest_goes_on c.take_digest.result _ _ _ c.take_digest.ensures.ended c.requires.goes_on e
+pub returns-in-Commit-clause-waits : goal.returns-in-Commit-clause-waits
+returns-in-Commit-clause-waits g c = λ e. digest_goes_on c.take_digest.result _ _ _ c.take_digest.ensures.ended c.requires.goes_on e
 
 pub returns-in-Page-clause-untouched : goal.returns-in-Page-clause-untouched
 returns-in-Page-clause-untouched g c = λ on. anyway c.take_page.result refl
@@ -115,11 +115,11 @@ returns-then-is_good-clause-untouched g c = λ on. anyway c.take_good.result ref
 pub returns-then-is_good-clause-waits : goal.returns-then-is_good-clause-waits
 returns-then-is_good-clause-waits g c = λ e. c.take_good.ensures.keeps.ended ∙ c.requires.goes_on
 
-pub returns-in-Sector-clause-untouched : goal.returns-in-Sector-clause-untouched
-returns-in-Sector-clause-untouched g c = λ on. anyway c.take_bad.result refl
+pub returns-else-is_good-clause-untouched : goal.returns-else-is_good-clause-untouched
+returns-else-is_good-clause-untouched g c = λ on. anyway c.take_bad.result refl
 
-pub returns-in-Sector-clause-waits : goal.returns-in-Sector-clause-waits
-returns-in-Sector-clause-waits g c = λ e. c.take_bad.ensures.keeps.ended ∙ c.requires.goes_on
+pub returns-else-is_good-clause-waits : goal.returns-else-is_good-clause-waits
+returns-else-is_good-clause-waits g c = λ e. c.take_bad.ensures.keeps.ended ∙ c.requires.goes_on
 
 pub returns-in-RoundEnd-clause-untouched : goal.returns-in-RoundEnd-clause-untouched
 returns-in-RoundEnd-clause-untouched g c = λ on. anyway c.take_round.result refl

@@ -7,11 +7,11 @@ use Rattle.receiver.proofs.intake.take_round.Goals as goal
 
 pub returns-then-number-eq0-clause-entered : goal.returns-then-number-eq0-clause-entered
 returns-then-number-eq0-clause-entered c = λ ds behind front tail opening before are h o.
-    entered_refused ds opening before _ front tail behind (heads.RoundEnd c.args.number) o (λ next. omega (arith, next, c.if-number-eq0.true))
+    entered_refused ds opening before c.args.intake.now front tail behind (heads.RoundEnd c.args.number) o (λ next. omega (arith, next, c.if-number-eq0.true))
 
 pub returns-then-number-intake-clause-entered : goal.returns-then-number-intake-clause-entered
 returns-then-number-intake-clause-entered c = λ ds behind front tail opening before are h o.
-    entered_refused ds opening before _ front tail behind (heads.RoundEnd c.args.number) o (λ next. omega (arith, next, h.rounds_are))
+    entered_refused ds opening before c.args.intake.now front tail behind (heads.RoundEnd c.args.number) o (λ next. omega (arith, next, h.rounds_are))
 
 pub returns-clause-entered : goal.returns-clause-entered
 returns-clause-entered c = λ ds behind front tail opening before are h o.

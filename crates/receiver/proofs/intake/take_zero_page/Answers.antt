@@ -23,7 +23,7 @@ returns-clause-sized c =
 
 pub returns-then-not-has_page-clause-entered : goal.returns-then-not-has_page-clause-entered
 returns-then-not-has_page-clause-entered c = λ ds behind front tail opening before are h o.
-    entered_refused ds opening before _ front tail behind (heads.ZeroPage c.args.number) o (λ low. not_both_ways c.has_page.result (c.has_page.ensures.1 ((page_there c.args.number h).1 low)) c.if-not-has_page.true)
+    entered_refused ds opening before c.args.intake.now front tail behind (heads.ZeroPage c.args.number) o (λ low. not_both_ways c.has_page.result (c.has_page.ensures.1 ((page_there c.args.number h).1 low)) c.if-not-has_page.true)
 
 pub returns-clause-entered : goal.returns-clause-entered
 returns-clause-entered c = λ ds behind front tail opening before are h o.

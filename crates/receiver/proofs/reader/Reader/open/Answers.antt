@@ -64,7 +64,7 @@ new_intake-requires-clause-given g c = rw (head_is c.self.inside.stage (sym c.is
 pub invariant_of-self-2 : goal.invariant_of-self-2
 invariant_of-self-2 g c =
     let fits = rw c.deref.ensures.value at c.in_default.ensures.fits in
-    (c.in-Ok-new_intake.ensures.sized, fits ∙ ap _ (sym c.in-Ok-new_intake.ensures.shapes), ap Some (search rules))
+    (c.in-Ok-new_intake.ensures.sized, fits ∙ ap _ (sym c.in-Ok-new_intake.ensures.shapes), ap Some (let q = c.in-Ok in ?))
 
 pub returns : goal.returns
 returns g c =
@@ -74,7 +74,7 @@ returns g c =
     let b = rw c.in-Ok-Some.field-0-is at c.in-Ok-Some.ensures.read in
     let len = c.in-Ok-Some.heading.len in
     let front = head_taken c.args.bytes.now (opened i.ram (said c.in-Ok-Some.heading)) len b.0 b.1 in
-    let read = c.in-Ok-new_intake.ensures.read c.args.bytes.now (drop len c.args.bytes.now) b.1 in
+    let read = (rw c.deref-2.ensures.value at c.in-Ok-new_intake.ensures.read) c.args.bytes.now (drop len c.args.bytes.now) b.1 in
     rw (← c.self.view_is) (record {
       ram = refl;
       disks = refl;
