@@ -4,6 +4,7 @@ use Rattle.std.specs.Prelude.{Result, Ok, Err}
 use Rattle.std.proofs.lemmas.List.{drop-drop}
 use Rattle.sha2.specs.Hashers.{Holds256}
 use Rattle.blk.specs.Disk.{DiskState}
+use Rattle.machine.specs.Room.{RoomSeen}
 use Rattle.sha2.specs.declared.Sha256.{Sha256}
 use Rattle.receiver.specs.Disks.{AreKept, AreRefused, sizes_in}
 use Rattle.receiver.specs.Faults.{Fault, WaitsHead}
@@ -131,28 +132,28 @@ ready_at old mid front held bytes start i stages.Failed is k o at = absurd k
 pub ready_for : (old mid : ReaderSeen) (front held bytes : List ℕ) (start : ℕ) (i : Intake) → Knows old front held → ReadsHeader old bytes (Ok start) mid → mid.stage ≡ stages.Records i → IsUpTo i.ended mid.ram mid.disks mid.digest (front ++ take start bytes) i
 ready_for old mid front held bytes start i k o at = ready_at old mid front held bytes start i old.stage refl k o at
 
--- The bytes behind the header were worked off.
-pub worked_on : (old mid new : ReaderSeen) (front bytes : List ℕ) (start at : ℕ) (j : Intake) → mid.disks ≡ old.disks → new.ram ≡ mid.ram → new.stage ≡ stages.Records j
-    → AreKept mid.disks new.disks × IsKnownIn j.ended mid.ram new.disks new.digest ((front ++ take start bytes) ++ take at (drop start bytes)) (drop at (drop start bytes)) j → LookedAt old front bytes (Ok (start + at)) new
-worked_on old mid new front bytes start at j disks ram stage w =
-    let text = more_taken front bytes start at in
-    let rest = drop-drop at start bytes in
-    let moved : IsKnownIn j.ended mid.ram new.disks new.digest (front ++ take (start + at) bytes) (drop (start + at) bytes) j = subst (λ (x : List ℕ). IsKnownIn j.ended mid.ram new.disks new.digest (front ++ take (start + at) bytes) x j) rest
-    (subst (λ (x : List ℕ). IsKnownIn j.ended mid.ram new.disks new.digest x (drop at (drop start bytes)) j) text w.1) in
-    let known : IsKnown mid.ram new.disks new.digest (front ++ take (start + at) bytes) (drop (start + at) bytes) new.stage = subst (λ (stage : Stage). IsKnown mid.ram new.disks new.digest (front ++ take (start + at) bytes) (drop (start + at) bytes) stage) (sym stage) moved in (
-      subst (λ (ds : List DiskState). AreKept ds new.disks) disks w.0,
-      subst (λ (t : RamTerms). IsKnown t new.disks new.digest (front ++ take (start + at) bytes) (drop (start + at) bytes) new.stage) (sym ram) known,
+-- The bytes behind the header were worked off, by a reader with these disks.
+pub worked_on : (old new : ReaderSeen) (ram : RamTerms) (ds : List DiskState) (front bytes : List ℕ) (start at : ℕ) (j : Intake) → ds ≡ old.disks → new.ram ≡ ram → new.stage ≡ stages.Records j
+    → AreKept ds new.disks × IsKnownIn j.ended ram new.disks new.digest ((front ++ take start bytes) ++ take at (drop start bytes)) (drop at (drop start bytes)) j → LookedAt old front bytes (Ok (start + at)) new
+worked_on old new ram ds front bytes start at j disks same stage w =
+    let first : IsKnownIn j.ended ram new.disks new.digest (front ++ take (start + at) bytes) (drop at (drop start bytes)) j =
+    subst (λ (x : List ℕ). IsKnownIn j.ended ram new.disks new.digest x (drop at (drop start bytes)) j) (more_taken front bytes start at) w.1 in
+    let both : IsKnownIn j.ended ram new.disks new.digest (front ++ take (start + at) bytes) (drop (start + at) bytes) j =
+    subst (λ (x : List ℕ). IsKnownIn j.ended ram new.disks new.digest (front ++ take (start + at) bytes) x j) (drop-drop at start bytes) first in
+    let known : IsKnown ram new.disks new.digest (front ++ take (start + at) bytes) (drop (start + at) bytes) new.stage =
+    subst (λ (stage : Stage). IsKnown ram new.disks new.digest (front ++ take (start + at) bytes) (drop (start + at) bytes) stage) (sym stage) both in (
+      subst (λ (x : List DiskState). AreKept x new.disks) disks w.0,
+      subst (λ (t : RamTerms). IsKnown t new.disks new.digest (front ++ take (start + at) bytes) (drop (start + at) bytes) new.stage) (sym same) known,
     )
 
 -- They were refused.
-pub refused_on : (old mid new : ReaderSeen) (front bytes : List ℕ) (start : ℕ) (e : RecvError) (ds : List DiskState) → mid.disks ≡ old.disks → mid.ram ≡ old.ram → new.disks ≡ ds
-    → AreRefused mid.disks ds e × Tells e ((at : ℕ) × Fault mid.ram (sizes_in mid.disks) ((front ++ take start bytes) ++ drop start bytes) e at) → LookedAt old front bytes (Err e) new
-refused_on old mid new front bytes start e ds disks ram is w =
-    let text : (front ++ take start bytes) ++ drop start bytes ≡ front ++ bytes = sym (cut front bytes start) in
-    let a : AreRefused old.disks new.disks e = subst (λ (x : List DiskState). AreRefused old.disks x e) (sym is) (subst (λ (x : List DiskState). AreRefused x ds e) disks w.0) in
-    let moved = λ (f : (at : ℕ) × Fault mid.ram (sizes_in mid.disks) ((front ++ take start bytes) ++ drop start bytes) e at). subst (λ (x : List ℕ). (at : ℕ) × Fault mid.ram (sizes_in mid.disks) x e at) text f in
-    let seated = λ (f : (at : ℕ) × Fault mid.ram (sizes_in mid.disks) ((front ++ take start bytes) ++ drop start bytes) e at). subst (λ (t : RamTerms). (at : ℕ) × Fault t (sizes_in mid.disks) (front ++ bytes) e at) ram (moved f) in
-    (a, tells_more _ _ e (λ f. subst (λ (x : List DiskState). (at : ℕ) × Fault old.ram (sizes_in x) (front ++ bytes) e at) disks (seated f)) w.1)
+pub refused_on : (old new : ReaderSeen) (ram : RamTerms) (ds after : List DiskState) (front bytes : List ℕ) (start : ℕ) (e : RecvError) → ds ≡ old.disks → ram ≡ old.ram → new.disks ≡ after
+    → AreRefused ds after e × Tells e ((at : ℕ) × Fault ram (sizes_in ds) ((front ++ take start bytes) ++ drop start bytes) e at) → LookedAt old front bytes (Err e) new
+refused_on old new ram ds after front bytes start e disks same is w =
+    let text : (front ++ take start bytes) ++ drop start bytes ≡ front ++ bytes = sym (cut front bytes start) in (
+      subst (λ (x : List DiskState). AreRefused old.disks x e) (sym is) (subst (λ (x : List DiskState). AreRefused x after e) disks w.0),
+      rw (text, disks, same) at w.1,
+    )
 
 -- A header that waits: nothing was worked off.
 pub head_waits : (old mid : ReaderSeen) (front held bytes : List ℕ) (start : ℕ) → Knows old front held → ReadsHeader old bytes (Ok start) mid → old.stage ≡ stages.Head → mid.stage ≡ stages.Head → LookedAt old front bytes (Ok 0) mid
@@ -172,6 +173,15 @@ head_was old mid bytes start o is = by_stage old.stage refl
     by_stage stages.Head e = e
     by_stage (stages.Records i) e = ap (λ (r : ReaderSeen). r.stage) (sym (o.later (subst IsPastHead (sym e) tt)).1) ∙ is
     by_stage stages.Failed e = ap (λ (r : ReaderSeen). r.stage) (sym (o.failed (ap has_failed e)).1) ∙ is
+
+-- What is known of was not refused, and so it is behind the look for the header.
+pub never_failed : (old mid : ReaderSeen) (front held bytes : List ℕ) (start : ℕ) → Knows old front held → ReadsHeader old bytes (Ok start) mid → mid.stage ≡ stages.Failed → ⊥
+never_failed old mid front held bytes start k o is = by_stage old.stage refl k
+  where
+    by_stage : (stage : Stage) → old.stage ≡ stage → IsKnown old.ram old.disks old.digest front held stage → ⊥
+    by_stage stages.Head e known = subst (λ (stage : Stage). HeaderAt old bytes (Ok start) mid stage) is (o.opened held e (subst (λ (x : List ℕ). Knows old x held) known.0 k))
+    by_stage (stages.Records i) e known = true_false (has_failed mid.stage) (ap has_failed is) (ap (λ (r : ReaderSeen). has_failed r.stage) (o.later (subst IsPastHead (sym e) tt)).1 ∙ ap has_failed e)
+    by_stage stages.Failed e known = known
 
 -- A header that is refused.
 pub head_refused_as : (old mid new : ReaderSeen) (front held bytes : List ℕ) (e : RecvError) → Knows old front held → ReadsHeader old bytes (Err e) mid → StandsAside mid new → LookedAt old front bytes (Err e) new
@@ -201,3 +211,7 @@ work_wants old mid front bytes start o past d =
 
 pub no_memory_kept : (old new : List DiskState) → new ≡ old → AreRefused old new errors.NoMemory
 no_memory_kept old new same = subst (λ (ds : List DiskState). AreRefused old ds errors.NoMemory) (sym same) (refused_kept old errors.NoMemory (λ e. cc))
+
+-- The room for a machine of so many devices and disks.
+pub room_of : (room : RoomSeen) (m n p q : ℕ) → room ≡ record { devices = m; disks = n } → m ≡ p → n ≡ q → room ≡ record { devices = p; disks = q }
+room_of room m n p q is e f = rw (← e, ← f) is

@@ -1,7 +1,8 @@
-use Rattle.std.proofs.Common.{refl, rules, sym, ap, subst, ◌≡◌, ◌∙◌, Bool, Some, false, take, drop, map, length, []}
+use Rattle.std.proofs.Common.{refl, rules, arith, sym, ap, subst, ◌≡◌, ◌∙◌, Bool, Some, false, take, drop, map, length, []}
 use Rattle.std.proofs.lemmas.List.{length-map}
 use Rattle.sha2.specs.Hashers.{Holds256}
 use Rattle.wire.specs.Header.{said}
+use Rattle.machine.specs.Shapes.{disk_sizes}
 use Rattle.receiver.specs.Disks.{sizes_of}
 use Rattle.receiver.specs.Fed.{IsUpTo}
 use Rattle.receiver.specs.Opened.{opened}
@@ -9,7 +10,7 @@ use Rattle.receiver.specs.Reading.{ReadsHeader}
 use Rattle.receiver.specs.Receiving.{ReaderSeen, place_aside, place_in}
 use Rattle.receiver.specs.declared.recv_error.RecvError.TheVariants as errors
 use Rattle.receiver.specs.declared.stage.Stage.TheVariants as stages
-use Rattle.receiver.proofs.Looking.{head_is, head_not_failed, head_not_past, open_refused, open_waits, opened_before}
+use Rattle.receiver.proofs.Looking.{head_is, head_not_failed, head_not_past, open_refused, open_waits, opened_before, room_of}
 use Rattle.receiver.proofs.Feeding.{true_false}
 use Rattle.receiver.proofs.Stages.{head_taken, header_refused, mismatch}
 use Rattle.receiver.proofs.Working.{refused_kept}
@@ -63,8 +64,9 @@ new_intake-requires-clause-given g c = rw (head_is c.self.inside.stage (sym c.is
 
 pub invariant_of-self-2 : goal.invariant_of-self-2
 invariant_of-self-2 g c =
+    let i = c.self.inside in
     let fits = rw c.deref.ensures.value at c.in_default.ensures.fits in
-    (c.in-Ok-new_intake.ensures.sized, fits ∙ ap _ (sym c.in-Ok-new_intake.ensures.shapes), ap Some (let q = c.in-Ok in ?))
+    (c.in-Ok-new_intake.ensures.sized, fits ∙ ap disk_sizes (sym c.in-Ok-new_intake.ensures.shapes), ap Some (room_of c.in-Ok.room _ _ _ _ c.in-Ok.ensures (omega (arith, c.len.ensures, ap length c.in-Ok-new_intake.ensures.shapes)) (omega (arith, c.len-2.ensures, length-map i.disks.items g.D.Disk.state))))
 
 pub returns : goal.returns
 returns g c =

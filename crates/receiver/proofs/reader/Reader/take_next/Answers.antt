@@ -1,19 +1,19 @@
 use Rattle.std.proofs.Common.{rules, arith, ◌≡◌, ◌++◌, ap, drop, length, ◌∙◌, []}
-use Rattle.std.proofs.lemmas.List.{nil_from_length}
+use Rattle.std.proofs.lemmas.List.{length-append, length-drop, nil_from_length}
 use Rattle.receiver.proofs.Pieces.{looked}
 use Rattle.receiver.proofs.Wanting.{err_again, ok_not_err}
 use Rattle.receiver.proofs.reader.Reader.take_next.Goals as goal
 
 pub returns-then-is_empty-clause-takes : goal.returns-then-is_empty-clause-takes
 returns-then-is_empty-clause-takes g c =
-    let none : c.args.held.now.items ≡ [] = search rules in
+    let none : c.args.held.now.items ≡ [] = nil_from_length c.args.held.now.items (search rules) in
     let l = c.in-Ok.ensures in
     let more : c.extend_from_slice.new.self.items ≡ c.args.held.now.items ++ c.split_at.result.1.now = search rules in
     let left : c.extend_from_slice.new.self.items ≡ drop c.in-Ok.count c.args.bytes.now = more ∙ ap (λ x. x ++ c.split_at.result.1.now) none ∙ c.split_at.ensures.back in
     rw none (record {
       ram = l.ram;
-      few = search rules;
-      shorter = search rules;
+      few = omega (arith, ap length left, length-drop c.in-Ok.count c.args.bytes.now, l.few);
+      shorter = omega (arith, ap length left, length-drop c.in-Ok.count c.args.bytes.now);
       failed = tt;
       past = l.past;
       place = l.place;
@@ -25,7 +25,7 @@ returns-then-is_empty-clause-takes g c =
 
 pub returns-in-Err-clause-takes : goal.returns-in-Err-clause-takes
 returns-in-Err-clause-takes g c =
-    let none : c.args.held.now.items ≡ [] = search rules in
+    let none : c.args.held.now.items ≡ [] = nil_from_length c.args.held.now.items (search rules) in
     let l = c.in-Err.ensures in
     rw none (record { ram = l.ram; few = tt; shorter = tt; failed = l.failed; past = λ past. tt; place = l.place; memory = λ front k past e. l.memory front [] k past (err_again e); took = λ front k. l.looked front [] k })
 
@@ -36,8 +36,8 @@ returns-in-Ok-look-clause-takes g c =
     let left : c.drop_front.new.bytes.items ≡ drop c.in-Ok-look.count (c.args.held.now.items ++ c.args.bytes.now) = search rules in
     record {
       ram = l.ram;
-      few = search rules;
-      shorter = search rules;
+      few = omega (arith, ap length left, length-drop c.in-Ok-look.count (c.args.held.now.items ++ c.args.bytes.now), ap length all, l.few);
+      shorter = omega (arith, ap length left, length-drop c.in-Ok-look.count (c.args.held.now.items ++ c.args.bytes.now), length-append c.args.held.now.items c.args.bytes.now);
       failed = tt;
       past = l.past;
       place = l.place;

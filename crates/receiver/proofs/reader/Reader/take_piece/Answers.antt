@@ -14,7 +14,7 @@ returns-then-has_failed-clause-pieces g c = piece_refused_again c.args.self.now 
 pub returns-then-is_empty-clause-pieces : goal.returns-then-is_empty-clause-pieces
 returns-then-is_empty-clause-pieces g c =
     let none : length c.args.piece.now ≡ 0 = search rules in
-    piece_of_nothing c.args.self.now c.args.held.now.items c.args.piece.now _ none c.requires (sym c.has_failed.ensures ∙ c.if-has_failed.false)
+    piece_of_nothing c.args.self.now c.args.held.now.items c.args.piece.now _ none c.requires.few (sym c.has_failed.ensures ∙ c.if-has_failed.false)
 
 pub returns-then-is_err-clause-pieces : goal.returns-then-is_err-clause-pieces
 returns-then-is_err-clause-pieces g c =
@@ -29,7 +29,7 @@ returns-then-is_err-clause-pieces g c =
       already = λ failed. absurd (true_false _ failed on);
       memory = λ roomy front k past e.
           let full = on_err c.reserve_exact.result _ c.reserve_exact.ensures.full c.if-is_err.ensures.value in
-          absurd (omega (arith, roomy past, full, c.requires, c.len-room.ensures));
+          absurd (omega (arith, roomy past, full, c.requires.few, c.len-room.ensures));
       took = λ front k. (no_memory_kept c.args.self.now.disks c.fail.new.self.disks f.disks, tt);
     }
 
@@ -37,7 +37,7 @@ pub loop-rest-init : goal.loop-rest-init
 loop-rest-init g c =
     let enough : 131078 ≤ vec_capacity c.reserve_exact.new.self = search rules in
     record {
-      few = rw c.reserve_exact.ensures.items c.requires;
+      few = rw c.reserve_exact.ensures.items c.requires.few;
       room = enough;
       shorter = omega (arith, ap length c.reserve_exact.ensures.items);
       ram = refl;
@@ -59,7 +59,7 @@ loop-rest-preserved g c =
       place = t.place ∙ c.loop-rest.invariant.place;
       partly = λ front known.
           let p = c.loop-rest.invariant.partly front known in
-          next_part c.take_next.new.self.ram _ _ _ _ c.take_next.new.self.digest _ _ c.loop-rest.rest.now _ _ _ c.loop-rest.self.stage c.take_next.new.self.stage (rw (← t.ram) at p) parts (t.took p.front p.known);
+          rw t.ram (next_part c.loop-rest.self.ram _ _ _ _ c.take_next.new.self.digest _ _ c.loop-rest.rest.now _ _ _ c.loop-rest.self.stage c.take_next.new.self.stage p parts (rw t.ram at (t.took p.front p.known)));
     }
 
 pub returns-in-Err-clause-pieces : goal.returns-in-Err-clause-pieces

@@ -1,4 +1,5 @@
 use Rattle.std.proofs.Common.{arith, false, length, refl, Bool, ◌≡◌, ◌++◌, ap, map, sym, subst, ◌∙◌}
+use Rattle.std.proofs.lemmas.Bool.{not-false, not-true}
 use Rattle.guestmem.specs.Memory.{Memory}
 use Rattle.machine.specs.First.{dealt_marks}
 use Rattle.machine.specs.Room.{RoomSeen}
@@ -24,28 +25,28 @@ pub restore_in-requires-clause-sound : goal.restore_in-requires-clause-sound
 restore_in-requires-clause-sound g c =
     let r = c.reader.inside in
     let s = seen_of r.ram (map g.D.Disk.state r.disks.items) r.aside r.room r.digest r.stage in
-    let h = (has_come s c.self.inside.held.items _ _ c.in-Records.intake (rw (← c.reader.view_is) at c.self.invariant) c.in-Records.is c.if-not-intake.false).1 in
+    let h = (has_come s c.self.inside.held.items _ _ c.in-Records.intake (rw (← c.reader.view_is) at c.self.invariant) c.in-Records.is (not-false _ c.if-not-intake.false)).1 in
     rw c.into_ram-ram.ensures (here_sound h.ended.read (h.ended.complete.devices refl) c.recall.ensures.bytes (rw c.deref.ensures.value at c.recall_disks.ensures))
 
 pub restore_in-requires-clause-shapes : goal.restore_in-requires-clause-shapes
 restore_in-requires-clause-shapes g c =
     let r = c.reader.inside in
     let s = seen_of r.ram (map g.D.Disk.state r.disks.items) r.aside r.room r.digest r.stage in
-    let h = (has_come s c.self.inside.held.items _ _ c.in-Records.intake (rw (← c.reader.view_is) at c.self.invariant) c.in-Records.is c.if-not-intake.false).1 in
+    let h = (has_come s c.self.inside.held.items _ _ c.in-Records.intake (rw (← c.reader.view_is) at c.self.invariant) c.in-Records.is (not-false _ c.if-not-intake.false)).1 in
     h.ended.read.shapes_are ∙ sym (whole_shapes h.ended.read (h.ended.complete.devices refl))
 
 pub restore_in-requires-clause-bad : goal.restore_in-requires-clause-bad
 restore_in-requires-clause-bad g c =
     let r = c.reader.inside in
     let s = seen_of r.ram (map g.D.Disk.state r.disks.items) r.aside r.room r.digest r.stage in
-    let h = (has_come s c.self.inside.held.items _ _ c.in-Records.intake (rw (← c.reader.view_is) at c.self.invariant) c.in-Records.is c.if-not-intake.false).1 in
+    let h = (has_come s c.self.inside.held.items _ _ c.in-Records.intake (rw (← c.reader.view_is) at c.self.invariant) c.in-Records.is (not-false _ c.if-not-intake.false)).1 in
     h.ended.read.written.marks
 
 pub restore_in-requires-clause-devices : goal.restore_in-requires-clause-devices
 restore_in-requires-clause-devices g c =
     let r = c.reader.inside in
     let s = seen_of r.ram (map g.D.Disk.state r.disks.items) r.aside r.room r.digest r.stage in
-    let h = (has_come s c.self.inside.held.items _ _ c.in-Records.intake (rw (← c.reader.view_is) at c.self.invariant) c.in-Records.is c.if-not-intake.false).1 in
+    let h = (has_come s c.self.inside.held.items _ _ c.in-Records.intake (rw (← c.reader.view_is) at c.self.invariant) c.in-Records.is (not-false _ c.if-not-intake.false)).1 in
     let room = (subst (λ (stage : Stage). IsReader s.ram s.disks s.aside s.room stage) c.in-Records.is c.reader.invariant).2 in
     let count : length c.in-Records.intake.shapes.items ≡ length c.in-Records.intake.devices.items = ap length h.ended.read.shapes_are ∙ sym (h.ended.complete.devices refl) ∙ devices_are h.ended.read in
     ap (λ (r : RoomSeen). r.devices) (same_room c.unwrap-room.ensures room) ∙ count
@@ -54,7 +55,7 @@ pub restore_in-requires-clause-disks : goal.restore_in-requires-clause-disks
 restore_in-requires-clause-disks g c =
     let r = c.reader.inside in
     let s = seen_of r.ram (map g.D.Disk.state r.disks.items) r.aside r.room r.digest r.stage in
-    let h = (has_come s c.self.inside.held.items _ _ c.in-Records.intake (rw (← c.reader.view_is) at c.self.invariant) c.in-Records.is c.if-not-intake.false).1 in
+    let h = (has_come s c.self.inside.held.items _ _ c.in-Records.intake (rw (← c.reader.view_is) at c.self.invariant) c.in-Records.is (not-false _ c.if-not-intake.false)).1 in
     let room = (subst (λ (stage : Stage). IsReader s.ram s.disks s.aside s.room stage) c.in-Records.is c.reader.invariant).2 in
     let count = marks_count _ c.in-Records.intake.bad.items h.ended.read.written.marks in
     omega (arith, count, ap (λ (r : RoomSeen). r.disks) (same_room c.unwrap-room.ensures room))
@@ -63,8 +64,8 @@ pub returns-in-Records : goal.returns-in-Records
 returns-in-Records g c =
     let r = c.reader.inside in
     let s = seen_of r.ram (map g.D.Disk.state r.disks.items) r.aside r.room r.digest r.stage in
-    let h = (has_come s c.self.inside.held.items _ _ c.in-Records.intake (rw (← c.reader.view_is) at c.self.invariant) c.in-Records.is c.if-not-intake.false).1 in
-    let come = λ b (t : IsTaken s.ram s.disks s.digest b c.self.inside.held.items s.stage). come_of s.ram s.disks s.digest b c.self.inside.held.items c.in-Records.intake c.if-not-intake.false (subst (λ (stage : Stage). IsTaken s.ram s.disks s.digest b c.self.inside.held.items stage) c.in-Records.is t) in
+    let h = (has_come s c.self.inside.held.items _ _ c.in-Records.intake (rw (← c.reader.view_is) at c.self.invariant) c.in-Records.is (not-false _ c.if-not-intake.false)).1 in
+    let come = λ b (t : IsTaken s.ram s.disks s.digest b c.self.inside.held.items s.stage). come_of s.ram s.disks s.digest b c.self.inside.held.items c.in-Records.intake (not-false _ c.if-not-intake.false) (subst (λ (stage : Stage). IsTaken s.ram s.disks s.digest b c.self.inside.held.items stage) c.in-Records.is t) in
     let on : has_failed r.stage ≡ false = ap has_failed c.in-Records.is in
     let shapes : c.in-Records.intake.shapes.items ≡ shapes_in (state_of c.restore_in.result).devices =
     h.ended.read.shapes_are ∙ sym (whole_shapes h.ended.read (h.ended.complete.devices refl)) ∙ sym (ap (λ (m : MachineState). shapes_in m.devices) c.restore_in.ensures.restored) in
@@ -95,12 +96,12 @@ returns-then-not-intake g c =
     let s = seen_of r.ram (map g.D.Disk.state r.disks.items) r.aside r.room r.digest r.stage in
     let held = c.self.inside.held.items in
     let new = c.given_up.ensures in
-    let not_yet : has_ended s.stage ≡ false = ap has_ended c.in-Records.is ∙ c.if-not-intake.true in
+    let not_yet : has_ended s.stage ≡ false = ap has_ended c.in-Records.is ∙ (not-true _ c.if-not-intake.true) in
     rw (← c.self.view_is, ← c.reader.view_is)
     (ends_cut s held c.given_up.result (ap has_failed c.in-Records.is) not_yet
     (λ b f m stream.
     let t : IsTaken s.ram s.disks s.digest b held (stages.Records c.in-Records.intake) = subst (λ (stage : Stage). IsTaken s.ram s.disks s.digest b held stage) c.in-Records.is f.taken in
-    let known : IsKnownIn false s.ram s.disks s.digest t.front held c.in-Records.intake = subst (λ (ended : Bool). IsKnownIn ended s.ram s.disks s.digest t.front held c.in-Records.intake) c.if-not-intake.true t.known in
+    let known : IsKnownIn false s.ram s.disks s.digest t.front held c.in-Records.intake = subst (λ (ended : Bool). IsKnownIn ended s.ram s.disks s.digest t.front held c.in-Records.intake) (not-true _ c.if-not-intake.true) t.known in
     no_stream_reading s.ram _ t.front held b c.in-Records.intake m f.bytes t.whole known.1 stream)
     (given_back_as s held c.given_up.result new.failed new.ram new.disks new.sizes new.marks (new.place ∙ sym (ap (place_in s.aside) c.in-Records.is))))
 
