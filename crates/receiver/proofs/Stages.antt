@@ -15,7 +15,7 @@ use Rattle.machine.specs.Layout.{firsts_of, size_of}
 use Rattle.receiver.proofs.Takings.{new_taken}
 use Rattle.receiver.specs.Good.{AreGood}
 use Rattle.machine.specs.Shapes.{disk_sizes}
-use Rattle.receiver.specs.Disks.{AreKept, AreRefused, sizes_in}
+use Rattle.receiver.specs.Disks.{AreRefused, sizes_in}
 use Rattle.receiver.specs.Faults.{IsComplete, IsTrailing, IsHeaderFault, Fault, TellsHead}
 use Rattle.receiver.specs.Fed.{AreWritten, HasCome, HasRead, IsUpTo, Tells, device_records}
 use Rattle.receiver.specs.Receiving.{IsKnown}

@@ -17,7 +17,7 @@ use Rattle.wire.specs.declared.record_head.RecordHead.TheVariants as heads
 use Rattle.wire.proofs.Heads.{no_body, no_record, one_head, sector_found, short_head, some_head, spelled_with}
 use Rattle.wire.proofs.Spelling.{head_same, tail_same}
 use Rattle.blk.specs.Disk.{DiskState}
-use Rattle.receiver.specs.Disks.{AreKept, AreRefused}
+use Rattle.receiver.specs.Disks.{AreRefused}
 use Rattle.receiver.specs.Good.{devices_in}
 use Rattle.receiver.specs.Faults.{IsBadBody, IsBadDigest, IsBadHead, IsBadPage, IsFault, IsLongZeros, IsPageTag, IsTrailing, Opens}
 use Rattle.receiver.specs.Fed.{Ends, HasRead, TookRecord, Waits}

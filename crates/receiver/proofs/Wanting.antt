@@ -16,7 +16,7 @@ use Rattle.wire.specs.declared.record_head.RecordHead.TheVariants as heads
 use Rattle.wire.proofs.Heads.{spelled_with}
 use Rattle.receiver.specs.Disks.{sizes_in}
 use Rattle.receiver.specs.Fed.{HasRead}
-use Rattle.receiver.specs.Receiving.{HasBeenFed, HasDevice, IsKnown, IsPastHead, IsTaken, Received, received_by}
+use Rattle.receiver.specs.Receiving.{HasBeenFed, HasDevice, IsKnown, IsPastHead, IsTaken, received_by}
 use Rattle.receiver.specs.Standing.{BeginsDevice, IsWholeDevice}
 use Rattle.receiver.specs.declared.intake.Intake.{Intake}
 use Rattle.receiver.specs.declared.ram_terms.RamTerms.{RamTerms}

@@ -15,7 +15,6 @@ use Rattle.receiver.specs.Good.{devices_in}
 use Rattle.receiver.specs.Spots.{IsSpotOf, disks_before}
 use Rattle.receiver.specs.declared.intake.Intake.{Intake}
 use Rattle.receiver.specs.declared.intake.Spot.{Spot}
-use Rattle.receiver.specs.declared.recv_error.RecvError.{RecvError}
 use Rattle.receiver.specs.declared.recv_error.RecvError.TheVariants as errors
 use Rattle.receiver.proofs.Sectors.{disk_below, marks_kept, marks_length, sizes_kept}
 use Rattle.receiver.proofs.Steps.{more_sector}

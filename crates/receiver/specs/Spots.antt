@@ -1,5 +1,5 @@
 -- Where a sector is: its disk among all disks, and the number of its item.
-use Rattle.std.specs.Prelude.{◌≡◌, ◌<◌, ℕ, Bool, true, false, List, ◌+◌, ◌∷◌, [], ◌++◌, count_by, map, length, nat_lt, slice_index_or, slice_set, take, Result, Ok, Err, if◌then◌else◌}
+use Rattle.std.specs.Prelude.{◌≡◌, ◌<◌, ℕ, Bool, true, false, List, ◌+◌, [], count_by, map, length, nat_lt, slice_index_or, slice_set, take, Result, Ok, Err, if◌then◌else◌}
 use Rattle.guestmem.specs.Item as items
 use Rattle.machine.specs.Layout.{IsItemIn, number_of}
 use Rattle.machine.specs.Shapes.{sector_count}

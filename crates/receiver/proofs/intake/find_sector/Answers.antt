@@ -1,4 +1,4 @@
-use Rattle.std.proofs.Common.{rules, arith, ap, ◌≡◌, ◌<◌, ◌∙◌, [], map, length, get_or}
+use Rattle.std.proofs.Common.{rules, arith, ap, ◌≡◌}
 use Rattle.machine.specs.Shapes.{sector_count}
 use Rattle.receiver.specs.Spots.{disks_before}
 use Rattle.receiver.proofs.Spots.{count_at, dev_below, has_sector, there}

@@ -1,4 +1,4 @@
-use Rattle.std.proofs.Common.{arith, rules, refl, ap, ◌≡◌, ◌∷◌, ◌++◌, ◌+◌, ◌*◌, ◌<◌, ◌^◌, [], drop, take, get_or, length, ◌∙◌}
+use Rattle.std.proofs.Common.{arith, rules, refl, ◌≡◌, ◌∷◌, ◌++◌, ◌+◌, ◌*◌, ◌<◌, ◌^◌, [], drop, take, get_or, length, ◌∙◌}
 use Rattle.std.proofs.lemmas.List.{length-take}
 use Rattle.guestmem.proofs.ByteLaws.{IsBytes-take}
 use Rattle.wire.specs.declared.record_head.RecordHead.TheVariants as heads

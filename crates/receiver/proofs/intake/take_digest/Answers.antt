@@ -1,4 +1,4 @@
-use Rattle.std.proofs.Common.{arith, refl, rules, ◌≡◌, ap, length, take}
+use Rattle.std.proofs.Common.{arith, refl, rules, ◌≡◌, length, take}
 use Rattle.sha2.specs.Sha256.{sha256}
 use Rattle.wire.specs.declared.record_head.RecordHead.TheVariants as heads
 use Rattle.receiver.proofs.Lists.{not_both_ways}

@@ -1,11 +1,10 @@
-use Rattle.std.proofs.Common.{arith, refl, rules, inl, ap, sym, ◌∙◌, ◌++◌, List, Bool, true, false, [], get_or, length, map, take, ◌≡◌, ◌<◌}
+use Rattle.std.proofs.Common.{arith, refl, rules, inl, ap, sym, ◌∙◌, List, Bool, true, false, [], get_or, length, map, ◌≡◌, ◌<◌}
 use Rattle.std.specs.Prelude.{set}
 use Rattle.std.specs.Array.{IsFirstChunk}
 use Rattle.std.proofs.lemmas.List.{get_or-map, length-map, length-set, length-take, map-set}
 use Rattle.guestmem.proofs.ByteLaws.{IsBytes-take}
 use Rattle.wire.specs.declared.record_head.RecordHead.TheVariants as heads
 use Rattle.receiver.specs.Disks.{sizes_of}
-use Rattle.receiver.specs.declared.recv_error.RecvError.TheVariants as errors
 use Rattle.receiver.proofs.Sectors.{sizes_kept}
 use Rattle.receiver.proofs.Spots.{no_spot, on_disk, spot_of}
 use Rattle.receiver.proofs.Standing.{entered_refused, entered_waits, marks_long, opens_at, sized_on}

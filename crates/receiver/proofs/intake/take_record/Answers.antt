@@ -1,7 +1,5 @@
-use Rattle.std.proofs.Common.{arith, refl, rules, map, true, false, ◌≡◌, ◌∙◌}
-use Rattle.std.specs.Prelude.{Ok, Err}
+use Rattle.std.proofs.Common.{refl, map, true, false, ◌∙◌}
 use Rattle.wire.specs.declared.record_head.RecordHead.TheVariants as heads
-use Rattle.receiver.specs.declared.recv_error.RecvError.TheVariants as errors
 use Rattle.receiver.proofs.Standing.{all_long, all_short, anyway, digest_done, digest_goes_on, digest_untouched, followed_by, followed_end, never_memory}
 use Rattle.receiver.proofs.intake.take_record.Goals as goal
 

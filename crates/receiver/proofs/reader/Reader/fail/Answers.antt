@@ -1,5 +1,5 @@
 use Rattle.std.proofs.Common.{ap, sym, ◌∙◌}
-use Rattle.receiver.specs.Receiving.{ReaderSeen, place_aside, place_in}
+use Rattle.receiver.specs.Receiving.{ReaderSeen, place_in}
 use Rattle.receiver.proofs.reader.Reader.fail.Goals as goal
 
 pub returns-in-Records : goal.returns-in-Records

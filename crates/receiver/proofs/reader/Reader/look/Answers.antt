@@ -1,8 +1,6 @@
-use Rattle.std.proofs.Common.{rules, arith, refl, sym, ap, subst, ◌≡◌, ◌∙◌, ◌++◌, ◌+◌, take, drop, map, length, List}
-use Rattle.blk.specs.Disk.{DiskState}
+use Rattle.std.proofs.Common.{arith, refl, sym, ap, subst, ◌≡◌, ◌∙◌, ◌++◌, take, drop, map, length}
 use Rattle.receiver.specs.Disks.{sizes_in, sizes_of}
-use Rattle.receiver.specs.Receiving.{HasDevice, IsPastHead, ReaderSeen, has_failed, place_in}
-use Rattle.receiver.specs.Reading.{Looks}
+use Rattle.receiver.specs.Receiving.{HasDevice, IsPastHead, ReaderSeen, place_in}
 use Rattle.receiver.specs.declared.stage.Stage.TheVariants as stages
 use Rattle.receiver.proofs.Feeding.{given_back, same_count}
 use Rattle.receiver.proofs.Looking.{head_refused_as, head_waits, head_was, never_failed, ready_for, refused_on, work_wants, worked_on}

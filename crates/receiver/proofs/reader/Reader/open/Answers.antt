@@ -1,4 +1,4 @@
-use Rattle.std.proofs.Common.{refl, rules, arith, sym, ap, subst, ◌≡◌, ◌∙◌, Bool, Some, false, take, drop, map, length, []}
+use Rattle.std.proofs.Common.{refl, arith, sym, ap, subst, ◌∙◌, Bool, Some, take, drop, map, length, []}
 use Rattle.std.proofs.lemmas.List.{length-map}
 use Rattle.sha2.specs.Hashers.{Holds256}
 use Rattle.wire.specs.Header.{said}
@@ -6,10 +6,8 @@ use Rattle.machine.specs.Shapes.{disk_sizes}
 use Rattle.receiver.specs.Disks.{sizes_of}
 use Rattle.receiver.specs.Fed.{IsUpTo}
 use Rattle.receiver.specs.Opened.{opened}
-use Rattle.receiver.specs.Reading.{ReadsHeader}
-use Rattle.receiver.specs.Receiving.{ReaderSeen, place_aside, place_in}
+use Rattle.receiver.specs.Receiving.{place_in}
 use Rattle.receiver.specs.declared.recv_error.RecvError.TheVariants as errors
-use Rattle.receiver.specs.declared.stage.Stage.TheVariants as stages
 use Rattle.receiver.proofs.Looking.{head_is, head_not_failed, head_not_past, open_refused, open_waits, opened_before, room_of}
 use Rattle.receiver.proofs.Feeding.{true_false}
 use Rattle.receiver.proofs.Stages.{head_taken, header_refused, mismatch}

@@ -1,4 +1,4 @@
-use Rattle.std.proofs.Common.{arith, rules, refl, sym, ◌≡◌, ◌≤◌, ◌∙◌, ◌++◌, length, ap, true, false}
+use Rattle.std.proofs.Common.{arith, rules, refl, sym, ◌≡◌, ◌≤◌, ◌∙◌, ◌++◌, length, ap, false}
 use Rattle.std.specs.Vec.{vec_capacity}
 use Rattle.std.proofs.lemmas.List.{length-append}
 use Rattle.receiver.specs.Receiving.{has_failed}

@@ -1,7 +1,7 @@
-use Rattle.std.proofs.Common.{ℕ, List, ◌≡◌, ◌+◌, ◌≤◌, ◌++◌, false, length}
+use Rattle.std.proofs.Common.{ℕ, List, ◌≡◌, ◌+◌, ◌≤◌, ◌++◌, length}
 use Rattle.std.specs.Vec.{vec_capacity}
 use Rattle.receiver.specs.Reading.{place_of}
-use Rattle.receiver.specs.Receiving.{IsPastHead, Knows, has_failed}
+use Rattle.receiver.specs.Receiving.{IsPastHead, Knows}
 use Rattle.receiver.proofs.Pieces.{IsPartly}
 use Rattle.receiver.proofs.reader.Reader.take_piece.Given as goal
 

@@ -1,4 +1,4 @@
-use Rattle.std.proofs.Common.{arith, false, length, refl, Bool, ◌≡◌, ◌++◌, ap, map, sym, subst, ◌∙◌}
+use Rattle.std.proofs.Common.{arith, false, length, refl, ℕ, List, Bool, ◌≡◌, ◌++◌, ap, map, sym, subst, ◌∙◌}
 use Rattle.std.proofs.lemmas.Bool.{not-false, not-true}
 use Rattle.guestmem.specs.Memory.{Memory}
 use Rattle.machine.specs.First.{dealt_marks}
@@ -7,6 +7,7 @@ use Rattle.machine.specs.Seen.{state_of}
 use Rattle.machine.specs.Shapes.{disk_sizes}
 use Rattle.machine.specs.State.{MachineState, base_of}
 use Rattle.wire.specs.Stream.{shapes_in}
+use Rattle.receiver.specs.Disks.{disk_marks_of}
 use Rattle.receiver.specs.Fed.{IsKnownIn}
 use Rattle.receiver.specs.Reading.{IsReader}
 use Rattle.receiver.specs.Receiving.{IsTaken, has_ended, has_failed, place_in}
@@ -65,7 +66,7 @@ returns-in-Records g c =
     let r = c.reader.inside in
     let s = seen_of r.ram (map g.D.Disk.state r.disks.items) r.aside r.room r.digest r.stage in
     let h = (has_come s c.self.inside.held.items _ _ c.in-Records.intake (rw (← c.reader.view_is) at c.self.invariant) c.in-Records.is (not-false _ c.if-not-intake.false)).1 in
-    let come = λ b (t : IsTaken s.ram s.disks s.digest b c.self.inside.held.items s.stage). come_of s.ram s.disks s.digest b c.self.inside.held.items c.in-Records.intake (not-false _ c.if-not-intake.false) (subst (λ (stage : Stage). IsTaken s.ram s.disks s.digest b c.self.inside.held.items stage) c.in-Records.is t) in
+    let come = λ (b : List ℕ) (t : IsTaken s.ram s.disks s.digest b c.self.inside.held.items s.stage). come_of s.ram s.disks s.digest b c.self.inside.held.items c.in-Records.intake (not-false _ c.if-not-intake.false) (subst (λ (stage : Stage). IsTaken s.ram s.disks s.digest b c.self.inside.held.items stage) c.in-Records.is t) in
     let on : has_failed r.stage ≡ false = ap has_failed c.in-Records.is in
     let shapes : c.in-Records.intake.shapes.items ≡ shapes_in (state_of c.restore_in.result).devices =
     h.ended.read.shapes_are ∙ sym (whole_shapes h.ended.read (h.ended.complete.devices refl)) ∙ sym (ap (λ (m : MachineState). shapes_in m.devices) c.restore_in.ensures.restored) in
@@ -76,7 +77,7 @@ returns-in-Records g c =
       received = λ honest b f.
           let w = come b f.taken in
           rw (c.restore_in.ensures.restored, c.into_ram-ram.ensures) (whole_stream _ b w.opening c.in-Records.intake w.ended c.recall.ensures.bytes honest);
-      marks = c.restore_in.ensures.marks ∙ ap (λ ms. dealt_marks c.in-Records.intake.shapes.items ms) (marks_mapped g.D.Disk.state r.disks.items) ∙ ap (λ ss. dealt_marks ss _) shapes;
+      marks = c.restore_in.ensures.marks ∙ ap (λ ms. dealt_marks c.in-Records.intake.shapes.items ms) (marks_mapped g.D.Disk.state r.disks.items) ∙ ap (λ ss. dealt_marks ss (disk_marks_of g.D.Disk.state r.disks.items)) shapes;
       based = ap (λ (m : MachineState). base_of m.devices) c.restore_in.ensures.restored ∙ read_based h.ended.read (h.ended.complete.devices refl) ∙ ap (λ (t : RamTerms). t.base) h.based;
       fits = h.ended.read.fits ∙ ap disk_sizes (sym h.ended.read.shapes_are) ∙ ap disk_sizes shapes;
       refused = tt;
