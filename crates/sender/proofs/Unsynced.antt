@@ -2,7 +2,6 @@
 use Rattle.std.proofs.Common.{◌≡◌, ◌≢◌, ℕ, List, Bool, true, false, ◌||◌, refl, ap, sym, subst, ◌∙◌}
 use Rattle.std.specs.Prelude.{All, IsTrue, Ok}
 use Rattle.std.proofs.lemmas.List.{append-nil}
-use Rattle.sha2.specs.declared.Sha256.{Sha256}
 use Rattle.machine.specs.Effect.{Effect, applied}
 use Rattle.machine.specs.Layout.{firsts_of, size_of}
 use Rattle.machine.specs.Seen.{Marks, Seen, state_of}
@@ -14,7 +13,7 @@ use Rattle.machine.specs.Unsynced.{FailsFlush, FailsFlushIf, makes_flush}
 use Rattle.machine.specs.declared.event.Event.TheVariants.{Step}
 use Rattle.machine.specs.declared.reply.Reply.TheVariants.{DiskFailed}
 use Rattle.machine.proofs.Numbering.{same_layout}
-use Rattle.wire.specs.Sinks.{SinkState}
+use Rattle.wire.specs.Sinks.{Digested, SinkState}
 use Rattle.wire.specs.Stream.{texts}
 use Rattle.sender.specs.Follows.{Relates}
 use Rattle.sender.specs.History.{History, has_fault, text, then_came}
@@ -102,11 +101,11 @@ live_tried old new phase due dirty firsts at dev pick true live f = live_failed 
 live_tried old new phase due dirty firsts at dev pick false live f = subst (λ (x : Seen). IsLive x phase due dirty firsts at) (sym f) live
 
 -- The call.
-answered_by : (old new : Seen) (phase : Phase) (due dirty : List Bool) (digest : Sha256) (out : SinkState) (dev pick : ℕ) (was : Bool) → FailsFlushIf was old dev pick new
+answered_by : (old new : Seen) (phase : Phase) (due dirty : List Bool) (digest : Digested) (out : SinkState) (dev pick : ℕ) (was : Bool) → FailsFlushIf was old dev pick new
     → FailsLiveFlushIf was (record { machine = old; phase = phase; due = due; dirty = dirty; digest = digest; out = out }) dev pick (record { machine = new; phase = phase; due = due; dirty = dirty; digest = digest; out = out })
 answered_by old new phase due dirty digest out dev pick true f = record { failed = f; rest = refl }
 answered_by old new phase due dirty digest out dev pick false f = rw f refl
 
-pub answered : (old new : Seen) (phase : Phase) (due dirty : List Bool) (digest : Sha256) (out : SinkState) (dev pick : ℕ) (was : Bool) → phase ≢ phases.Stopped → was ≡ makes_flush (state_of old) dev pick → FailsFlushIf was old dev pick new
+pub answered : (old new : Seen) (phase : Phase) (due dirty : List Bool) (digest : Digested) (out : SinkState) (dev pick : ℕ) (was : Bool) → phase ≢ phases.Stopped → was ≡ makes_flush (state_of old) dev pick → FailsFlushIf was old dev pick new
     → TriesFlush (record { machine = old; phase = phase; due = due; dirty = dirty; digest = digest; out = out }) dev pick (Ok was) (record { machine = new; phase = phase; due = due; dirty = dirty; digest = digest; out = out })
 answered old new phase due dirty digest out dev pick was goes is f = rw (guest_free phase (Step dev pick) goes) (is, answered_by old new phase due dirty digest out dev pick was f)

@@ -5,6 +5,7 @@ pub mod FrameReading
 pub mod FrameText
 pub mod Header
 pub mod HeaderReading
+pub mod Lagging
 pub mod Numbers
 pub mod RecordHeads
 pub mod Records

@@ -9,13 +9,15 @@
 //! `specs/FrameReading`), and is proved to be the inverse of the encoding.
 //!
 //! # What the layers above may rely on
-//! - Each `encode_` function adds the encoding of its part to an honest sink; each `write_` function does the same, and
-//!   a `Tally`, such as a digest, takes the same bytes; each `decode_` function succeeds exactly on an encoding at the
-//!   front, and `decode_device` on a body that is all of the bytes, of a device that is sound in a RAM from 0 on and that the
-//!   version has, out of memory aside; `decode_device_at` names another address at which RAM begins.
+//! - Each `encode_` function adds the encoding of its part to an honest sink, and where the sink digests, its digest covers the
+//!   same bytes; each `decode_` function succeeds exactly on an encoding at the front, and `decode_device` on a body that is all of
+//!   the bytes, of a device that is sound in a RAM from 0 on and that the version has, out of memory aside; `decode_device_at`
+//!   names another address at which RAM begins.
 //! - The trait `Sink`: the bytes held, a count of failures modulo 2^64, whether it is honest, and whether it is
 //!   flushed: it is if the last call was a flush that succeeded (`specs/Sinks`). A page and a good sector go to it in
 //!   one call each.
+//! - A `Digesting` sink gives the digest of what was put into it. `Eager` makes one of any sink, and digests each byte as it is put.
+//!   `Waiting` keeps its bytes until they are taken, and digests them then, at the latest when the digest is asked for.
 //! - Two versions of the stream are read, 2 is written. They differ in how a page of zeros is encoded, and in that version 1 has no
 //!   block device whose driver accepted WRITE_ZEROES, so no request to clear sectors; and in nothing else. A page has one
 //!   encoding in each.
@@ -28,7 +30,7 @@
 
 mod decode_error;
 mod device_reading;
-mod encode;
+mod digesting;
 mod fault_writer;
 mod frame_reading;
 mod frame_writing;
@@ -46,14 +48,12 @@ mod sector_writing;
 mod shape_spelling;
 mod sink;
 mod size_text;
-mod tally;
+mod waiting;
 mod writing;
 
 pub use decode_error::DecodeError;
 pub use device_reading::{decode_device, decode_device_at};
-pub use encode::{
-    encode_commit, encode_device, encode_header, encode_page, encode_round, encode_zero_page,
-};
+pub use digesting::{Digesting, Eager, Nowhere};
 pub use fault_writer::FaultWriter;
 pub use header::{FIRST_VERSION, FRONT_LEN, Header, MAGIC, VERSION, decode_header, is_version};
 pub use lengths::{
@@ -69,5 +69,8 @@ pub use record_head::{
 pub use sector_writing::{encode_sector, write_bad_sector, write_sector};
 pub use shape_spelling::{shape_at, shape_len};
 pub use sink::{Sink, SinkFault, WriteSink};
-pub use tally::{NoTally, Tally};
-pub use writing::{write_device, write_header, write_page, write_round};
+pub use waiting::Waiting;
+pub use writing::{
+    encode_commit, encode_device, encode_header, encode_page, encode_round, encode_zero_page,
+    write_page,
+};
