@@ -5,6 +5,7 @@ pub mod Digits
 mod FaultWriters
 mod FrameLemmas
 pub mod HeaderLemmas
+pub mod HeaderParts
 pub mod Heads
 pub mod ItemRecords
 mod KindTexts

@@ -5,7 +5,7 @@
 //! `specs/Records` and `specs/DeviceBody` (how each part is encoded; requests and frames in `specs/RequestText` and
 //! `specs/FrameText`), and the machine's own `Sound` (which machines there are). Addresses stand in a stream as the guest wrote them,
 //! and the address at which RAM begins does not: who reads a device names it. How parts are decoded is defined
-//! separately (`specs/HeaderReading`, `specs/ShapeReading`, `specs/BodyReading`, `specs/RequestReading`,
+//! separately (`specs/ShapeReading`, `specs/BodyReading`, `specs/RequestReading`,
 //! `specs/FrameReading`), and is proved to be the inverse of the encoding.
 //!
 //! # What the layers above may rely on
@@ -35,6 +35,7 @@ mod fault_writer;
 mod frame_reading;
 mod frame_writing;
 mod header;
+mod header_error;
 mod kind_reading;
 pub mod laws;
 mod lengths;
@@ -55,7 +56,10 @@ pub use decode_error::DecodeError;
 pub use device_reading::{decode_device, decode_device_at};
 pub use digesting::{Digesting, Eager, Nowhere};
 pub use fault_writer::FaultWriter;
-pub use header::{FIRST_VERSION, FRONT_LEN, Header, MAGIC, VERSION, decode_header, is_version};
+pub use header::{
+    FIRST_VERSION, FRONT_LEN, Header, MAGIC, VERSION, decode_header, is_version, read_header,
+};
+pub use header_error::HeaderError;
 pub use lengths::{
     BAD_SECTOR_LEN, COMMIT_LEN, GOOD_SECTOR_LEN, PAGE_RECORD_LEN, ZERO_PAGE_LEN, device_len,
     header_len, page_len,
