@@ -1,4 +1,10 @@
 //! A sink whose bytes wait until they are taken, and are digested no sooner than they must.
+//!
+//! A full buffer of whoever takes them fails nothing, and the only failure is want of memory. Taking n bytes costs O(n), amortized;
+//! the memory can hold up to twice what waits.
+//!
+//! Bytes are taken by a copy, and not lent: no clause can say which bytes lie behind a pointer that is handed out while the sink
+//! owns them, nor until when they stay. The clauses of `take` say which bytes came, and which still wait.
 
 ghost use Rattle.std.specs.Prelude.{◌≡◌, ◌++◌, Some, [], drop, false, length, min, take};
 ghost use Rattle.wire.specs.Sinks.{Covers, Takes, over_writer};
