@@ -360,8 +360,7 @@ opening_parts v w m n ss ts e f g = rw (e, f, g) refl
 pub begins_once : {bytes x y : List ℕ} {o p : Opening} → Begins bytes o x → Begins bytes p y → (o ≡ p) × (x ≡ y)
 begins_once {bytes} {x} {y} {o} {p} a b =
     let shapes : o.shapes ≡ p.shapes = header_same a b in
-    let behind_both : spelled_shapes o.shapes ++ x ≡ spelled_shapes p.shapes ++ y = sym (shapes_behind a) ∙ shapes_behind b in
-    (
+    let behind_both : spelled_shapes o.shapes ++ x ≡ spelled_shapes p.shapes ++ y = sym (shapes_behind a) ∙ shapes_behind b in (
       opening_parts o.version p.version o.pages p.pages o.shapes p.shapes (sym (numbered a).version_is ∙ (numbered b).version_is) (sym (says_of a).pages_are ∙ (says_of b).pages_are) shapes,
       (split_same (spelled_shapes o.shapes) (spelled_shapes p.shapes) x y (ap (λ (s : List Shape). length (spelled_shapes s)) shapes) behind_both).1,
     )

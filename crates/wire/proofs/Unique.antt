@@ -202,7 +202,7 @@ same_parts v w bytes m n es fs a b =
     let oa = opening_in v (pages_of m) m.devices in
     let ob = opening_in w (pages_of n) n.devices in
     parts_from_texts v w bytes m n es fs ca cb a b
-    (begins_once {bytes} {texts es ++ (device_texts 0 m.devices ++ ca)} {texts fs ++ (device_texts 0 n.devices ++ cb)} {oa} {ob} (stream_begins a) (stream_begins b))
+    (begins_once {o = oa} {p = ob} (stream_begins a) (stream_begins b))
 
 -- At one base the devices are the same too.
 same_devices : {v w : ℕ} {es fs : List Record} {ca cb : List ℕ} (m n : MachineState) → IsSound m → IsSound n → base_of m.devices ≡ base_of n.devices → SameParts m n v w es fs ca cb → m.devices ≡ n.devices
