@@ -60,15 +60,13 @@ pub use header::{
     FIRST_VERSION, FRONT_LEN, Header, MAGIC, VERSION, decode_header, is_version, read_header,
 };
 pub use header_error::HeaderError;
-pub use lengths::{
-    BAD_SECTOR_LEN, COMMIT_LEN, GOOD_SECTOR_LEN, PAGE_RECORD_LEN, ZERO_PAGE_LEN, device_len,
-    header_len, page_len,
-};
+pub use lengths::{device_len, header_len, page_len};
 pub use numbers::{u8_at, u32_at};
 pub use record::{Record, decode_record, has_record};
 pub use record_head::{
-    BODY_MAX, COMMIT_RECORD, COMMIT_TAG, DEVICE_TAG, FoundHead, HEAD_MAX, PAGE_TAG, RECORD_MAX,
-    ROUND_END_TAG, RecordHead, SECTOR_TAG, ZERO_PAGE_TAG, read_head,
+    BAD_SECTOR_RECORD, BODY_MAX, COMMIT_RECORD, COMMIT_TAG, DEVICE_TAG, FoundHead,
+    GOOD_SECTOR_RECORD, HEAD_MAX, PAGE_TAG, RECORD_MAX, ROUND_END_TAG, RecordHead, SECTOR_TAG,
+    ZERO_PAGE_TAG, read_head,
 };
 pub use sector_writing::{encode_sector, write_bad_sector, write_sector};
 pub use shape_spelling::{shape_at, shape_len};

@@ -25,6 +25,7 @@ use crate::record_head::{
 };
 use crate::registers_text::{COMMON_LEN, QUEUE_LEN, common_bytes, queue_bytes};
 use crate::request_writing::{requests_len, write_requests};
+use crate::shape_spelling::{BLOCK_ID, CONSOLE_ID, ENTROPY_ID, NET_ID};
 use crate::sink::{Sink, SinkFault};
 use crate::size_text::{SIZE_LEN, size_bytes};
 use byteorder::{ByteOrder, LittleEndian};
@@ -81,7 +82,7 @@ fn write_shape<S: Sink>(shape: Shape, out: &mut S) -> Result<(), SinkFault>
 {
     match shape {
         Shape::Net { mac } => {
-            out.put(&[1])?;
+            out.put(&[NET_ID])?;
             out.put(&mac)
         }
         Shape::Block {
@@ -89,13 +90,13 @@ fn write_shape<S: Sink>(shape: Shape, out: &mut S) -> Result<(), SinkFault>
             read_only,
             id,
         } => {
-            let mut head = [2, 0, 0, 0, 0, 0, 0, 0, 0, read_only as u8];
+            let mut head = [BLOCK_ID, 0, 0, 0, 0, 0, 0, 0, 0, read_only as u8];
             LittleEndian::write_u64(&mut head[1..], sectors);
             out.put(&head)?;
             out.put(&id)
         }
-        Shape::Console => out.put(&[3]),
-        Shape::Entropy => out.put(&[4]),
+        Shape::Console => out.put(&[CONSOLE_ID]),
+        Shape::Entropy => out.put(&[ENTROPY_ID]),
     }
 }
 
