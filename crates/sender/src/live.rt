@@ -33,6 +33,9 @@ use std::alloc::{AllocError, Global};
 use std::marker::Model;
 use wire::{Digesting, Eager, Sink, Waiting, encode_header, encode_round};
 
+/// The last round that the record of a round's end can number. It can't be ended.
+const LAST_ROUND: u32 = u32::MAX;
+
 /// A machine, the stream that is written of it, and what is still to be sent. The writer digests what it takes, when it will.
 #[derive(Drop)]
 pub struct LiveOver<D: Disk, W: Digesting> {
@@ -273,7 +276,7 @@ impl<D: Disk, W: Digesting> LiveOver<D, W> {
             (Phase::Fresh, _) => Some(MigError::NotBegun),
             (Phase::Open(_), LiveEvent::Begin) => Some(MigError::AlreadyBegun),
             (Phase::Open(round), LiveEvent::EndRound) => {
-                if round == 4294967295 {
+                if round == LAST_ROUND {
                     Some(MigError::RoundsEnded)
                 } else {
                     None

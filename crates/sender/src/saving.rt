@@ -20,7 +20,8 @@ ghost use Rattle.sender.specs.Saving.{AddsItem, NamesItem, Sends, TakesOn};
 
 use crate::event::Item;
 use crate::mig_error::MigError;
-use guestmem::{PAGE_SIZE, recall_bytes};
+use crate::numbering::page_count;
+use guestmem::recall_bytes;
 use machine::{Disk, Machine, SECTOR_SIZE};
 use wire::{
     Digesting, Eager, Nowhere, Sink, SinkFault, encode_commit, encode_device, encode_header,
@@ -83,9 +84,7 @@ fn write_front<D: Disk, S: Sink>(machine: &Machine<D>, out: &mut S) -> Result<()
     ensures out { Appends (S.state out.old) (front_text (state_of machine.now)) result (S.state out.new) }
     ensures taken { OnOk result (Takes (S.sum out.old) (front_text (state_of machine.now)) (S.sum out.new)) }
 {
-    machine.ram().recall();
-    let pages = machine.ram().len() / PAGE_SIZE as u64;
-    encode_header(pages as u32, machine.shapes(), out)?;
+    encode_header(page_count(machine) as u32, machine.shapes(), out)?;
     write_pages(machine, out)
 }
 
@@ -97,7 +96,7 @@ fn write_pages<D: Disk, S: Sink>(machine: &Machine<D>, out: &mut S) -> Result<()
 {
     let ram = machine.ram();
     ram.recall();
-    for number in 0..ram.len() / PAGE_SIZE as u64 {
+    for number in 0..page_count(machine) {
         write_page(number as u32, ram.page(number), out)?;
     }
     Ok(())
