@@ -1,5 +1,5 @@
 -- A machine that is sent, and its sets, after each call.
-use Rattle.std.proofs.Common.{◌≡◌, ◌≢◌, ℕ, zero, suc, ◌+◌, ◌<◌, ◌≤◌, ◌^◌, Bool, true, false, List, [], ◌∷◌, inl, inr, ◌⊎◌, length, map, replicate, set, None, refl, sym, ap, subst, ◌∙◌, arith}
+use Rattle.std.proofs.Common.{◌≡◌, ◌≢◌, ℕ, zero, suc, ◌+◌, ◌<◌, ◌≤◌, ◌^◌, Bool, true, false, List, [], ◌∷◌, inl, inr, ◌⊎◌, length, map, replicate, set, None, Some, refl, sym, ap, subst, ◌∙◌, arith}
 use Rattle.std.proofs.lemmas.Bool.{eq-eqb}
 use Rattle.std.proofs.lemmas.List.{get_or-set_same, length-set, length-replicate}
 use Rattle.dirtylog.specs.Members.{HasNone, IsLeast, has}
@@ -24,6 +24,8 @@ use Rattle.sender.specs.declared.phase.Phase.TheVariants as phases
 use Rattle.sender.specs.declared.event.LiveEvent.{LiveEvent}
 use Rattle.sender.specs.declared.event.LiveEvent.TheVariants.{Guest, EndRound}
 use Rattle.sender.specs.declared.event.LiveReply.TheVariants as r
+use Rattle.sender.specs.declared.mig_error.MigError.{MigError}
+use Rattle.sender.specs.declared.mig_error.MigError.TheVariants.{AlreadyStopped}
 use Rattle.sender.proofs.Numbers.{length-firsts}
 use Rattle.sender.proofs.Parts.{within_length}
 
@@ -159,6 +161,12 @@ guest_free phases.Fresh e open_still = refl
 guest_free (phases.Open k) e open_still = refl
 guest_free phases.Stopped e open_still = absurd (open_still refl)
 guest_free phases.Failed e open_still = refl
+
+-- After a stop that closed the stream the guest's events are refused.
+pub guest_refused : (s : LiveSeen) (e : Event) (x : MigError) → (x ≡ AlreadyStopped) × (s.phase ≡ phases.Stopped) → Serves s (Guest e) (r.Mig x) s
+guest_refused s e x closed =
+    let refused : refusal_for s.phase (Guest e) ≡ Some AlreadyStopped = ap (λ (p : Phase). refusal_for p (Guest e)) closed.1 in
+    rw refused (ap (λ (y : MigError). r.Mig y) closed.0, refl)
 
 module _ (machine next : Seen) (d new : Dirty) (phase : Phase) (due : List Bool) (at : ℕ) (digest : Digested) (out : SinkState) (e : Event) (reply : Reply) (live : IsLive machine phase due d.set d.firsts.items at) (h : IsAppliedLogged after_taking machine d e reply next new) where
   noted : new ≡ record d { set = with_items d.firsts.items d.set (items_of h.is_applied.effect) }

@@ -6,7 +6,7 @@
 //! A stop goes over its two sets side by side, and searches each on only from the member that it has just sent: a search of
 //! both from each item on would go over the rest of a set that has one late member for each item of the other.
 
-ghost use Rattle.std.specs.Prelude.{◌≡◌, ◌≢◌, ◌<◌, ◌^◌, ◌-◌, ◌++◌, IfOk, IfErr, None, Some, [], drop, false, length, min, take, true};
+ghost use Rattle.std.specs.Prelude.{◌≡◌, ◌≢◌, ◌<◌, ◌^◌, ◌-◌, ◌++◌, IfOk, IfErr, None, OnOk, Some, [], drop, false, length, min, take, true};
 ghost use Rattle.dirtylog.specs.Members.{HasNone, IsLeastFrom, member_count};
 ghost use Rattle.machine.specs.declared.event.Event.TheVariants as events;
 ghost use Rattle.machine.specs.Calls.{CallsDisk};
@@ -286,30 +286,40 @@ impl<D: Disk, W: Digesting> LiveOver<D, W> {
         }
     }
 
+    /// Whether the guest still runs: a stop that closed the stream has paused it.
+    fn running(&self) -> Result<(), MigError>
+        ensures open { OnOk result (self.now.phase ≢ Phase.Stopped) }
+        ensures closed { IfErr result (λ e. (e ≡ MigError.AlreadyStopped) × (self.now.phase ≡ Phase.Stopped)) }
+    {
+        if let Phase::Stopped = self.stage {
+            return Err(MigError::AlreadyStopped);
+        }
+        Ok(())
+    }
+
     /// Applies the guest's event, and marks as dirty what it writes.
+    #[tactic(auto, using(crate::proofs::Living::guest_refused))]
     pub fn apply(&mut self, event: &Event) -> Result<Reply, MigError>
         ensures served { Serves self.old (LiveEvent.Guest event.now) (guest_reply result) self.new }
         ensures calls { HasLiveCalled D.called self.old (LiveEvent.Guest event.now) (guest_reply result) self.new }
     {
-        if let Phase::Stopped = self.stage {
-            return Err(MigError::AlreadyStopped);
-        }
+        self.running()?;
         Ok(self.source.apply_logged(event, &mut self.changed))
     }
 
     /// The driver reads a register. As `apply` of that event.
+    #[tactic(auto, using(crate::proofs::Living::guest_refused))]
     pub fn read_register(&mut self, dev: u8, offset: u32, width: u8) -> Result<Reply, MigError>
         ensures served { Serves self.old (LiveEvent.Guest (events.RegRead dev offset width)) (guest_reply result) self.new }
         ensures calls { HasLiveCalled D.called self.old (LiveEvent.Guest (events.RegRead dev offset width)) (guest_reply result) self.new }
     {
-        if let Phase::Stopped = self.stage {
-            return Err(MigError::AlreadyStopped);
-        }
+        self.running()?;
         let answer = self.source.read_register(dev, offset, width);
         Ok(Reply::from_value(answer))
     }
 
     /// The driver writes a register. As `apply` of that event.
+    #[tactic(auto, using(crate::proofs::Living::guest_refused))]
     pub fn write_register(
         &mut self,
         dev: u8,
@@ -320,34 +330,30 @@ impl<D: Disk, W: Digesting> LiveOver<D, W> {
         ensures served { Serves self.old (LiveEvent.Guest (events.RegWrite dev offset width value)) (guest_reply result) self.new }
         ensures calls { HasLiveCalled D.called self.old (LiveEvent.Guest (events.RegWrite dev offset width value)) (guest_reply result) self.new }
     {
-        if let Phase::Stopped = self.stage {
-            return Err(MigError::AlreadyStopped);
-        }
+        self.running()?;
         let answer = self.source.write_register(dev, offset, width, value);
         Ok(Reply::from_written(answer))
     }
 
     /// The host sets the size of a console, in characters. As `apply` of that event.
+    #[tactic(auto, using(crate::proofs::Living::guest_refused))]
     pub fn resize(&mut self, dev: u8, cols: u16, rows: u16) -> Result<Reply, MigError>
         ensures served { Serves self.old (LiveEvent.Guest (events.Resize dev cols rows)) (guest_reply result) self.new }
         ensures calls { HasLiveCalled D.called self.old (LiveEvent.Guest (events.Resize dev cols rows)) (guest_reply result) self.new }
     {
-        if let Phase::Stopped = self.stage {
-            return Err(MigError::AlreadyStopped);
-        }
+        self.running()?;
         let answer = self.source.resize(dev, cols, rows);
         Ok(Reply::from_done(answer))
     }
 
     /// A device does one piece of its work, which the pick names. As `apply` of that event; the bytes of a message go into the buffer,
     /// which is cut or grows to them, and where none is sent it may hold anything.
+    #[tactic(auto, using(crate::proofs::Living::guest_refused))]
     pub fn step_into(&mut self, dev: u8, pick: u8, sent: &mut Vec<u8>) -> Result<Stepped, MigError>
         ensures served { Serves self.old (LiveEvent.Guest (events.Step dev pick)) (guest_reply (stepped_result result sent.new.items)) self.new }
         ensures calls { HasLiveCalled D.called self.old (LiveEvent.Guest (events.Step dev pick)) (guest_reply (stepped_result result sent.new.items)) self.new }
     {
-        if let Phase::Stopped = self.stage {
-            return Err(MigError::AlreadyStopped);
-        }
+        self.running()?;
         Ok(
             self.source
                 .step_into_logged(dev, pick, sent, &mut self.changed),
@@ -365,37 +371,34 @@ impl<D: Disk, W: Digesting> LiveOver<D, W> {
 
     /// In place of a step that flushes a disk: makes it as a step whose disk failed, and calls no disk (`Machine::fail_flush`). The
     /// result says whether the step with this pick flushes; if not, nothing has changed.
+    #[tactic(auto, using(crate::proofs::Unsynced::flush_refused))]
     pub fn fail_flush(&mut self, dev: u8, pick: u8) -> Result<bool, MigError>
         ensures tried { TriesFlush self.old dev pick result self.new }
         ensures calls { CallsNone self.old.machine self.new.machine }
     {
-        if let Phase::Stopped = self.stage {
-            return Err(MigError::AlreadyStopped);
-        }
+        self.running()?;
         Ok(self.source.fail_flush(dev, pick))
     }
 
     /// The guest writes bytes into RAM from address `addr` on. As `apply` of that event, whose bytes need not be
     /// copied.
+    #[tactic(auto, using(crate::proofs::Living::guest_refused))]
     pub fn write_ram(&mut self, addr: u64, bytes: &[u8]) -> Result<Reply, MigError>
         ensures served { Serves self.old (LiveEvent.Guest (events.MemWrite addr bytes.now)) (guest_reply result) self.new }
         ensures calls { HasLiveCalled D.called self.old (LiveEvent.Guest (events.MemWrite addr bytes.now)) (guest_reply result) self.new }
     {
-        if let Phase::Stopped = self.stage {
-            return Err(MigError::AlreadyStopped);
-        }
+        self.running()?;
         let answer = self.source.write_ram_logged(addr, bytes, &mut self.changed);
         Ok(Reply::from_done(answer))
     }
 
     /// The host puts bytes in. As `apply` of that event, whose bytes need not be copied.
+    #[tactic(auto, using(crate::proofs::Living::guest_refused))]
     pub fn input(&mut self, dev: u8, bytes: &[u8]) -> Result<Reply, MigError>
         ensures served { Serves self.old (LiveEvent.Guest (events.Input dev bytes.now)) (guest_reply result) self.new }
         ensures calls { HasLiveCalled D.called self.old (LiveEvent.Guest (events.Input dev bytes.now)) (guest_reply result) self.new }
     {
-        if let Phase::Stopped = self.stage {
-            return Err(MigError::AlreadyStopped);
-        }
+        self.running()?;
         Ok(Reply::from_accepted(self.source.input(dev, bytes)))
     }
 

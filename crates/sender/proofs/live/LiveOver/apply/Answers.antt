@@ -12,5 +12,6 @@ invariant_of-self g c =
 pub returns-clause-served : goal.returns-clause-served
 returns-clause-served g c =
     let i = c.self.inside in
+    let still = rw (← c.self.view_is) at c.in_ok-running.ensures.open in
     rw (← c.self.view_is)
-    (guest_served i.source c.apply_logged.new.self i.changed c.apply_logged.new.log i.stage i.left i.at (g.W.Sink.sum i.writer) (g.W.Sink.state i.writer) c.args.event.now c.apply_logged.result c.self.invariant c.apply_logged.ensures.applied c.in_default.not-Stopped)
+    (guest_served i.source c.apply_logged.new.self i.changed c.apply_logged.new.log i.stage i.left i.at (g.W.Sink.sum i.writer) (g.W.Sink.state i.writer) c.args.event.now c.apply_logged.result c.self.invariant c.apply_logged.ensures.applied still)

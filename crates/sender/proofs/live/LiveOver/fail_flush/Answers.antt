@@ -9,5 +9,6 @@ invariant_of-self g c =
 pub returns-clause-tried : goal.returns-clause-tried
 returns-clause-tried g c =
     let i = c.self.inside in
+    let still = rw (← c.self.view_is) at c.in_ok-running.ensures.open in
     rw (← c.self.view_is)
-    (answered i.source c.fail_flush.new.self i.stage i.left i.changed.set (g.W.Sink.sum i.writer) (g.W.Sink.state i.writer) c.args.dev c.args.pick c.fail_flush.result c.in_default.not-Stopped c.fail_flush.ensures.was c.fail_flush.ensures.failed)
+    (answered i.source c.fail_flush.new.self i.stage i.left i.changed.set (g.W.Sink.sum i.writer) (g.W.Sink.state i.writer) c.args.dev c.args.pick c.fail_flush.result still c.fail_flush.ensures.was c.fail_flush.ensures.failed)

@@ -15,6 +15,7 @@ invariant_of-self g c =
 pub returns-clause-served : goal.returns-clause-served
 returns-clause-served g c =
     let i = c.self.inside in
+    let still = rw (← c.self.view_is) at c.in_ok-running.ensures.open in
     let was = c.step_into_logged in
     rw (← c.self.view_is)
-    (guest_served i.source was.new.self i.changed was.new.log i.stage i.left i.at (g.W.Sink.sum i.writer) (g.W.Sink.state i.writer) (Step c.args.dev c.args.pick) (reply_in was.result was.new.sent.items) c.self.invariant was.ensures.applied c.in_default.not-Stopped)
+    (guest_served i.source was.new.self i.changed was.new.log i.stage i.left i.at (g.W.Sink.sum i.writer) (g.W.Sink.state i.writer) (Step c.args.dev c.args.pick) (reply_in was.result was.new.sent.items) c.self.invariant was.ensures.applied still)
