@@ -51,7 +51,7 @@
 //!   what is due, and the two sets together are what is stale; a history that ends in a stop is a stream; its machine
 //!   is that of a run of the guest's events alone; events and replies determine all of it; no call depends on what the
 //!   writer holds.
-//! - Only `Live::new` and `replay` take memory. What single calls promise of bytes holds for an honest writer and any disks: of a
+//! - Only the `new` of a `Live` and `replay` take memory. What single calls promise of bytes holds for an honest writer and any disks: of a
 //!   sector goes out what its disk returned, which is its content if the disk is honest (`specs/Told`,
 //!   `laws::honest_disks_tell_contents`). The history of `replay`, and the bytes of `save`, are promised for honest disks. For any it
 //!   is promised that each event has a reply or none has, that nothing is changed where none has, that each reply is that of its

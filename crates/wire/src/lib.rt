@@ -5,14 +5,16 @@
 //! `specs/Records` and `specs/DeviceBody` (how each part is encoded; requests and frames in `specs/RequestText` and
 //! `specs/FrameText`), and the machine's own `Sound` (which machines there are). Addresses stand in a stream as the guest wrote them,
 //! and the address at which RAM begins does not: who reads a device names it. How parts are decoded is defined
-//! separately (`specs/ShapeReading`, `specs/BodyReading`, `specs/RequestReading`,
-//! `specs/FrameReading`), and is proved to be the inverse of the encoding.
+//! separately (`specs/ShapeReading`, `specs/BodyReading`, `specs/RequestReading`, `specs/FrameReading`), and is proved to be the inverse
+//! of the encoding.
 //!
 //! # What the layers above may rely on
 //! - Each `encode_` function adds the encoding of its part to an honest sink, and where the sink digests, its digest covers the
 //!   same bytes; each `decode_` function succeeds exactly on an encoding at the front, and `decode_device` on a body that is all of
 //!   the bytes, of a device that is sound in a RAM from 0 on and that the version has, out of memory aside; `decode_device_at`
 //!   names another address at which RAM begins.
+//! - `read_header` tells a header as far as it has come: a header, its fault at the byte that shows it (`specs/HeaderFaults`), or that it is
+//!   not whole. To `decode_header` a fault is no header.
 //! - The trait `Sink`: the bytes held, a count of failures modulo 2^64, whether it is honest, and whether it is
 //!   flushed: it is if the last call was a flush that succeeded (`specs/Sinks`). A page and a good sector go to it in
 //!   one call each.
