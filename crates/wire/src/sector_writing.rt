@@ -21,6 +21,9 @@ pub fn encode_sector<S: Sink>(
     ensures out { MatchOption content.entry
         (Appends (S.state out.old) (spelled_record (sector device number None)) result (S.state out.new))
         (λ bytes. Appends (S.state out.old) (spelled_record (sector device number (Some bytes.now))) result (S.state out.new)) }
+    ensures taken { OnOk result (MatchOption content.entry
+        (Takes (S.sum out.old) (spelled_record (sector device number None)) (S.sum out.new))
+        (λ bytes. Takes (S.sum out.old) (spelled_record (sector device number (Some bytes.now))) (S.sum out.new))) }
 {
     match content {
         Some(bytes) => write_sector(device, number, bytes, out),
