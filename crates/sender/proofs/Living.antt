@@ -1,9 +1,8 @@
 -- A machine that is sent, and its sets, after each call.
-use Rattle.std.proofs.Common.{◌≡◌, ◌≢◌, ℕ, zero, suc, ◌+◌, ◌<◌, ◌≤◌, ◌^◌, Bool, true, false, List, [], ◌∷◌, inl, inr, ◌⊎◌, length, map, replicate, set, None, refl, sym, ap, subst, ◌∙◌, arith}
+use Rattle.std.proofs.Common.{◌≡◌, ◌≢◌, ℕ, zero, suc, ◌+◌, ◌<◌, ◌≤◌, ◌^◌, Bool, true, false, List, [], ◌∷◌, inl, inr, ◌⊎◌, length, map, replicate, set, None, Some, refl, sym, ap, subst, ◌∙◌, arith}
 use Rattle.std.proofs.lemmas.Bool.{eq-eqb}
 use Rattle.std.proofs.lemmas.List.{get_or-set_same, length-set, length-replicate}
 use Rattle.dirtylog.specs.Members.{HasNone, IsLeast, has}
-use Rattle.sha2.specs.declared.Sha256.{Sha256}
 use Rattle.guestmem.specs.Item.{Item, after_all, page, sector}
 use Rattle.machine.specs.Applied.{IsAppliedLogged, MayItems}
 use Rattle.machine.specs.Effect.{items_of}
@@ -14,10 +13,10 @@ use Rattle.machine.specs.State.{MachineState}
 use Rattle.machine.specs.declared.event.Event.{Event}
 use Rattle.machine.specs.declared.reply.Reply.{Reply}
 use Rattle.machine.proofs.Numbering.{in_layout, number_below, same_layout}
-use Rattle.wire.specs.Sinks.{SinkState}
+use Rattle.wire.specs.Sinks.{Digested, SinkState}
 use Rattle.sender.specs.Calls.{EndsRound, Serves, with_items}
 use Rattle.sender.specs.Dirty.{HasFirst, after_taking, may_take}
-use Rattle.sender.specs.LiveState.{HasPlaces, LiveSeen, last_round, refusal_for}
+use Rattle.sender.specs.LiveState.{LiveSeen, last_round, refusal_for}
 use Rattle.sender.specs.Stopping.{IsLive, RoundFits}
 use Rattle.sender.specs.declared.dirty.Dirty.{Dirty}
 use Rattle.sender.specs.declared.phase.Phase.{Phase}
@@ -25,6 +24,8 @@ use Rattle.sender.specs.declared.phase.Phase.TheVariants as phases
 use Rattle.sender.specs.declared.event.LiveEvent.{LiveEvent}
 use Rattle.sender.specs.declared.event.LiveEvent.TheVariants.{Guest, EndRound}
 use Rattle.sender.specs.declared.event.LiveReply.TheVariants as r
+use Rattle.sender.specs.declared.mig_error.MigError.{MigError}
+use Rattle.sender.specs.declared.mig_error.MigError.TheVariants.{AlreadyStopped}
 use Rattle.sender.proofs.Numbers.{length-firsts}
 use Rattle.sender.proofs.Parts.{within_length}
 
@@ -74,9 +75,6 @@ live_first machine left set_ firsts size sound are is few l s =
       reached = omega arith;
       passed = λ k below. absurd (omega (arith, below));
     }
-
-pub live_places : (s : LiveSeen) (firsts : List ℕ) (at : ℕ) → IsLive s.machine s.phase s.due s.dirty firsts at → HasPlaces s
-live_places s firsts at live = record { sound = live.sound; few = live.few; due_size = live.room.due_size; dirty_size = live.room.dirty_size }
 
 -- The machine is of the same shape, the sets keep their lengths, and the next due item is looked for from another number on.
 live_next : (old new : Seen) (p q : Phase) (due new_due dirty new_dirty : List Bool) (firsts new_firsts : List ℕ) (at new_at : ℕ) → IsLive old p due dirty firsts at → IsSound (state_of new) → layout_of (state_of new) ≡ layout_of (state_of old) → length new_due ≡ length due → length new_dirty ≡ length dirty
@@ -164,7 +162,13 @@ guest_free (phases.Open k) e open_still = refl
 guest_free phases.Stopped e open_still = absurd (open_still refl)
 guest_free phases.Failed e open_still = refl
 
-module _ (machine next : Seen) (d new : Dirty) (phase : Phase) (due : List Bool) (at : ℕ) (digest : Sha256) (out : SinkState) (e : Event) (reply : Reply) (live : IsLive machine phase due d.set d.firsts.items at) (h : IsAppliedLogged after_taking machine d e reply next new) where
+-- After a stop that closed the stream the guest's events are refused.
+pub guest_refused : (s : LiveSeen) (e : Event) (x : MigError) → (x ≡ AlreadyStopped) × (s.phase ≡ phases.Stopped) → Serves s (Guest e) (r.Mig x) s
+guest_refused s e x closed =
+    let refused : refusal_for s.phase (Guest e) ≡ Some AlreadyStopped = ap (λ (p : Phase). refusal_for p (Guest e)) closed.1 in
+    rw refused (ap (λ (y : MigError). r.Mig y) closed.0, refl)
+
+module _ (machine next : Seen) (d new : Dirty) (phase : Phase) (due : List Bool) (at : ℕ) (digest : Digested) (out : SinkState) (e : Event) (reply : Reply) (live : IsLive machine phase due d.set d.firsts.items at) (h : IsAppliedLogged after_taking machine d e reply next new) where
   noted : new ≡ record d { set = with_items d.firsts.items d.set (items_of h.is_applied.effect) }
   noted = h.logged ∙ all_noted d (items_of h.is_applied.effect)
 

@@ -3,7 +3,6 @@ use Rattle.std.specs.Prelude.{◌≡◌, ◌≢◌, ℕ, ◌+◌, ◌*◌, ◌/�
 use Rattle.dirtylog.specs.Members.{has}
 use Rattle.region.specs.Address.{address}
 use Rattle.region.specs.declared.region.Region.{Region}
-use Rattle.sha2.specs.declared.Sha256.{Sha256}
 use Rattle.guestmem.specs.Lent.{AreBelow, given_back, is_named}
 use Rattle.guestmem.specs.Memory.{IsMemory, Memory}
 use Rattle.guestmem.specs.Number.{IsBytes}
@@ -15,7 +14,7 @@ use Rattle.machine.specs.State.{MachineState, base_of}
 use Rattle.machine.specs.declared.event.Event.{Event}
 use Rattle.machine.specs.declared.event.Event.TheVariants.{MemWrite}
 use Rattle.machine.specs.declared.reply.Reply.TheVariants.{Done}
-use Rattle.wire.specs.Sinks.{SinkState}
+use Rattle.wire.specs.Sinks.{Digested, SinkState}
 use Rattle.sender.specs.Calls.{Serves}
 use Rattle.sender.specs.Follows.{Relates}
 use Rattle.sender.specs.History.{History, guest_events, text}
@@ -32,7 +31,7 @@ pub record LiveParkedSeen : Type 0 where
   pub phase : Phase
   pub due : List Bool
   pub dirty : List Bool
-  pub digest : Sha256
+  pub digest : Digested
   pub out : SinkState
 
 -- The layout of a machine whose RAM is lent.

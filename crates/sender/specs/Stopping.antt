@@ -1,11 +1,11 @@
 -- The parts of a copy and of a stop.
 use Rattle.std.specs.Prelude.{◌≡◌, ℕ, ◌+◌, ◌<◌, ◌≤◌, ◌^◌, if◌then◌else◌, List, Bool, true, false, Option, Some, None, Result, Ok, Err, length, min}
 use Rattle.dirtylog.specs.Members.{has}
-use Rattle.sha2.specs.Hashers.{Holds256}
 use Rattle.guestmem.specs.Item as items
 use Rattle.machine.specs.Layout.{firsts_of, item_at, layout_of, size_of}
 use Rattle.machine.specs.Seen.{Seen, state_of}
 use Rattle.machine.specs.Sound.{IsSound}
+use Rattle.wire.specs.Sinks.{Covers}
 use Rattle.sender.specs.Calls.{AreSent, Fails, IsSent, IsUnread, StopsShort, Took, in_either}
 use Rattle.sender.specs.LiveState.{LiveSeen, closing, item_of, last_round, now, pages_among, sectors_among}
 use Rattle.sender.specs.declared.event.Item.{Item}
@@ -86,7 +86,7 @@ pub record IsClosed (old new : LiveSeen) : Type 0 where
   pub dirty : new.dirty ≡ old.dirty
   pub count : new.out.failures ≡ old.out.failures
   pub flushed : new.out.is_flushed ≡ true
-  pub took : (b : List ℕ) → Holds256 old.digest b → Took old new (closing (now old) b)
+  pub took : (b : List ℕ) → Covers old.digest b → Took old new (closing (now old) b)
 
 abbrev pub Closes : {A : Type 0} → LiveSeen → Result A MigError → LiveSeen → Type 0
 Closes old (Ok x) new = IsClosed old new

@@ -6,18 +6,18 @@
 //! A stop goes over its two sets side by side, and searches each on only from the member that it has just sent: a search of
 //! both from each item on would go over the rest of a set that has one late member for each item of the other.
 
-ghost use Rattle.std.specs.Prelude.{◌≡◌, ◌≢◌, ◌<◌, ◌^◌, ◌-◌, IfOk, IfErr, None, Some, [], true, length};
+ghost use Rattle.std.specs.Prelude.{◌≡◌, ◌≢◌, ◌<◌, ◌^◌, ◌-◌, ◌++◌, IfOk, IfErr, None, OnOk, Some, [], drop, false, length, min, take, true};
 ghost use Rattle.dirtylog.specs.Members.{HasNone, IsLeastFrom, member_count};
-ghost use Rattle.sha2.specs.Hashers.{Holds256};
 ghost use Rattle.machine.specs.declared.event.Event.TheVariants as events;
 ghost use Rattle.machine.specs.Calls.{CallsDisk};
 ghost use Rattle.machine.specs.Layout.{item_at, layout_of, size_of};
+ghost use Rattle.wire.specs.Sinks.{Covers, Takes, over_writer};
 ghost use Rattle.sender.specs.LiveState.{HasPlaces, now, refusal_for};
 ghost use Rattle.sender.specs.Calls.{Serves, begun_reply, copied_reply, ended_reply, guest_reply, stepped_result, stopped_reply};
 ghost use Rattle.sender.specs.Parked.{IsLiveParked};
 ghost use Rattle.sender.specs.Reads.{CallsNone, HasLiveCalled, ReadsItem, SendCalls};
 ghost use Rattle.sender.specs.Unsynced.{FlushesLiveDisk, TriesFlush};
-ghost use Rattle.sender.specs.Stopping.{Closes, HasNoneUpTo, SendsAll, SendsItem, lesser, one_more, phase_after};
+ghost use Rattle.sender.specs.Stopping.{Closes, HasNoneUpTo, IsLive, SendsAll, SendsItem, lesser, one_more, phase_after};
 
 use crate::dirty::Dirty;
 use crate::event::{CopyAnswer, End, Item, LiveEvent, LiveReply, Remaining, Stopped};
@@ -29,18 +29,18 @@ use crate::saving::{send_item, write_devices, write_end};
 use dirtylog::BitSet;
 use machine::{Disk, DiskFault, Event, Machine, Reply, Stepped};
 use region::Region;
-use sha2::{Digest, Sha256};
 use std::alloc::{AllocError, Global};
 use std::marker::Model;
-use std::mem;
-use wire::{Sink, write_header, write_round};
+use wire::{Digesting, Eager, Sink, Waiting, encode_header, encode_round};
 
-/// A machine, the stream that is written of it, and what is still to be sent.
+/// The last round that the record of a round's end can number. It can't be ended.
+const LAST_ROUND: u32 = u32::MAX;
+
+/// A machine, the stream that is written of it, and what is still to be sent. The writer digests what it takes, when it will.
 #[derive(Drop)]
-pub struct Live<D: Disk, W: Sink> {
+pub struct LiveOver<D: Disk, W: Digesting> {
     pub(crate) source: Machine<D>,
     pub(crate) writer: W,
-    pub(crate) taken: Sha256,
     pub(crate) stage: Phase,
     pub(crate) left: BitSet,
     // No item below this number is due. The search for the next one starts here.
@@ -48,19 +48,25 @@ pub struct Live<D: Disk, W: Sink> {
     pub(crate) changed: Dirty,
 }
 
-impl<D: Disk, W: Sink> Model for Live<D, W> {
+/// One whose writer is any sink. What is written is digested at once.
+pub type Live<D, W> = LiveOver<D, Eager<W>>;
+
+/// One whose bytes wait in memory until they are taken, and are digested no sooner than they must.
+pub type LiveWaiting<D> = LiveOver<D, Waiting>;
+
+impl<D: Disk, W: Digesting> Model for LiveOver<D, W> {
     ghost use Rattle.sender.specs.LiveState.{LiveSeen};
 
     ghost Value = { LiveSeen };
 
     ghost use Rattle.sender.specs.Stopping.{IsLive};
 
-    ghost view = { λ l. record { machine = l.source; phase = l.stage; due = l.left; dirty = l.changed.set; digest = l.taken; out = W.state l.writer } };
+    ghost view = { λ l. record { machine = l.source; phase = l.stage; due = l.left; dirty = l.changed.set; digest = W.sum l.writer; out = W.state l.writer } };
 
     ghost invariant = { λ l. IsLive l.source l.stage l.left l.changed.set l.changed.firsts.items l.at };
 }
 
-impl<D: Disk, W: Sink> Live<D, W> {
+impl<D: Disk, W: Sink> LiveOver<D, Eager<W>> {
     /// A machine of which nothing is sent yet. Fails only if memory is refused.
     pub fn new(
         alloc: Global,
@@ -70,32 +76,98 @@ impl<D: Disk, W: Sink> Live<D, W> {
         ensures machine { IfOk result (λ l. l.machine ≡ machine) }
         ensures fresh { IfOk result (λ l. l.phase ≡ Phase.Fresh) }
         ensures empty { IfOk result (λ l. HasNone l.due × HasNone l.dirty) }
-        ensures digest { IfOk result (λ l. Holds256 l.digest []) }
+        ensures digest { IfOk result (λ l. Covers l.digest []) }
         ensures places { IfOk result (λ l. HasPlaces l) }
         ensures out { IfOk result (λ l. l.out ≡ W.state writer) }
         ensures err { IfErr result (λ e. (e.1 ≡ machine) × (e.2 ≡ writer)) }
     {
-        let _shapes = machine.shapes();
-        let Ok((firsts, size)) = number_items(alloc, &machine) else {
+        let Ok((left, changed)) = make_room(alloc, &machine) else {
             return Err((AllocError, machine, writer));
         };
-        let Ok(left) = BitSet::new(alloc, size) else {
-            return Err((AllocError, machine, writer));
-        };
-        let Ok(set) = BitSet::new(alloc, size) else {
-            return Err((AllocError, machine, writer));
-        };
-        Ok(Live {
+        let live = LiveOver {
             source: machine,
-            writer,
-            taken: Sha256::new(),
+            writer: Eager::new(writer),
             stage: Phase::Fresh,
             left,
             at: 0,
-            changed: Dirty { set, firsts },
-        })
+            changed,
+        };
+        live.recall();
+        Ok(live)
     }
 
+    /// The machine and the writer, as they are.
+    pub fn into_parts(self) -> (Machine<D>, W)
+        ensures machine { result.0 ≡ self.machine }
+        ensures out { W.state result.1 ≡ self.out }
+    {
+        let (machine, writer) = self.parts();
+        (machine, writer.into_inner())
+    }
+
+    /// Replaces the writer, and returns the old one. All else stays the same. No call depends on what a writer holds
+    /// (`laws::calls_ignore_what_was_taken`), so a caller may take that out between two calls.
+    pub fn replace_writer(&mut self, writer: W) -> W
+        ensures out { W.state result ≡ self.old.out }
+        ensures rest { self.new ≡ record self.old { out = W.state writer } }
+    {
+        self.writer.replace(writer)
+    }
+}
+
+impl<D: Disk> LiveOver<D, Waiting> {
+    /// A machine of which nothing is sent yet. Fails only if memory is refused.
+    pub fn new(
+        alloc: Global,
+        machine: Machine<D>,
+        writer: Waiting,
+    ) -> Result<LiveWaiting<D>, (AllocError, Machine<D>, Waiting)>
+        ensures machine { IfOk result (λ l. l.machine ≡ machine) }
+        ensures fresh { IfOk result (λ l. l.phase ≡ Phase.Fresh) }
+        ensures empty { IfOk result (λ l. HasNone l.due × HasNone l.dirty) }
+        ensures digest { IfOk result (λ l. Covers l.digest []) }
+        ensures places { IfOk result (λ l. HasPlaces l) }
+        ensures out { IfOk result (λ l. l.out ≡ writer.out) }
+        ensures err { IfErr result (λ e. (e.1 ≡ machine) × (e.2 ≡ writer)) }
+    {
+        let Ok((left, changed)) = make_room(alloc, &machine) else {
+            return Err((AllocError, machine, writer));
+        };
+        let mut writer = writer;
+        writer.begin();
+        let live = LiveOver {
+            source: machine,
+            writer,
+            stage: Phase::Fresh,
+            left,
+            at: 0,
+            changed,
+        };
+        live.recall();
+        Ok(live)
+    }
+
+    /// The machine and the writer, as they are.
+    pub fn into_parts(self) -> (Machine<D>, Waiting)
+        ensures machine { result.0 ≡ self.machine }
+        ensures out { result.1.out ≡ self.out }
+    {
+        self.parts()
+    }
+
+    /// Takes the first of the bytes that wait, as `Waiting::take` does. No call depends on what the writer holds
+    /// (`laws::calls_ignore_what_was_taken`), so bytes may be taken between two calls.
+    pub fn take(&mut self, buf: &mut [u8]) -> usize
+        ensures count { result ≡ min (length buf.old) (length self.old.out.held) }
+        ensures taken { buf.new ≡ take result self.old.out.held ++ drop result buf.old }
+        ensures left { self.new ≡ record self.old { out = over_writer (Some (drop result self.old.out.held)) 0 false; digest = self.new.digest } }
+        ensures digest { Takes self.old.digest [] self.new.digest }
+    {
+        self.writer.take(buf)
+    }
+}
+
+impl<D: Disk, W: Digesting> LiveOver<D, W> {
     /// The machine, to be read: its registers, its RAM, its interrupt lines.
     pub fn machine(&self) -> &Machine<D>
         ensures { result.now ≡ self.now.machine }
@@ -127,34 +199,24 @@ impl<D: Disk, W: Sink> Live<D, W> {
         W: Drop,
         ensures { result ≡ self.machine }
     {
-        let (machine, _writer) = self.into_parts();
+        let (machine, _writer) = self.parts();
         machine
     }
 
     /// The machine and the writer, as they are.
-    pub fn into_parts(self) -> (Machine<D>, W)
+    fn parts(self) -> (Machine<D>, W)
         ensures machine { result.0 ≡ self.machine }
         ensures out { W.state result.1 ≡ self.out }
     {
-        let Live {
+        let LiveOver {
             source,
             writer,
-            taken: _,
             stage: _,
             left: _,
             at: _,
             changed: _,
         } = self;
         (source, writer)
-    }
-
-    /// Replaces the writer, and returns the old one. All else stays the same. No call depends on what a writer holds
-    /// (`laws::calls_ignore_what_was_taken`), so a caller may take that out between two calls.
-    pub fn replace_writer(&mut self, writer: W) -> W
-        ensures out { W.state result ≡ self.old.out }
-        ensures rest { self.new ≡ record self.old { out = W.state writer } }
-    {
-        mem::replace(&mut self.writer, writer)
     }
 
     /// For proofs: the sets have an index for each item (see the page of `guestmem`).
@@ -165,16 +227,15 @@ impl<D: Disk, W: Sink> Live<D, W> {
     }
 
     /// Lends the RAM of the machine, if it lies in memory of the caller. Takes no memory; its time does not depend on the size of RAM.
-    pub fn lend(self) -> Result<(Region, LiveParked<D, W>), Live<D, W>>
+    pub fn lend(self) -> Result<(Region, LiveParked<D, W>), LiveOver<D, W>>
         ensures lent { IfOk result (λ r. IsLiveParked self r.0 r.1) }
         ensures own { IfErr result (λ _. self.machine.memory.place ≡ None) }
         ensures same { IfErr result (λ l. l ≡ self) }
     {
         self.source.ram().recall();
-        let Live {
+        let LiveOver {
             source,
             writer,
-            taken,
             stage,
             left,
             at,
@@ -186,17 +247,15 @@ impl<D: Disk, W: Sink> Live<D, W> {
                 LiveParked {
                     parked,
                     writer,
-                    taken,
                     stage,
                     left,
                     at,
                     changed,
                 },
             )),
-            Err(source) => Err(Live {
+            Err(source) => Err(LiveOver {
                 source,
                 writer,
-                taken,
                 stage,
                 left,
                 at,
@@ -217,7 +276,7 @@ impl<D: Disk, W: Sink> Live<D, W> {
             (Phase::Fresh, _) => Some(MigError::NotBegun),
             (Phase::Open(_), LiveEvent::Begin) => Some(MigError::AlreadyBegun),
             (Phase::Open(round), LiveEvent::EndRound) => {
-                if round == 4294967295 {
+                if round == LAST_ROUND {
                     Some(MigError::RoundsEnded)
                 } else {
                     None
@@ -227,30 +286,40 @@ impl<D: Disk, W: Sink> Live<D, W> {
         }
     }
 
+    /// Whether the guest still runs: a stop that closed the stream has paused it.
+    fn running(&self) -> Result<(), MigError>
+        ensures open { OnOk result (self.now.phase ≢ Phase.Stopped) }
+        ensures closed { IfErr result (λ e. (e ≡ MigError.AlreadyStopped) × (self.now.phase ≡ Phase.Stopped)) }
+    {
+        if let Phase::Stopped = self.stage {
+            return Err(MigError::AlreadyStopped);
+        }
+        Ok(())
+    }
+
     /// Applies the guest's event, and marks as dirty what it writes.
+    #[tactic(auto, using(crate::proofs::Living::guest_refused))]
     pub fn apply(&mut self, event: &Event) -> Result<Reply, MigError>
         ensures served { Serves self.old (LiveEvent.Guest event.now) (guest_reply result) self.new }
         ensures calls { HasLiveCalled D.called self.old (LiveEvent.Guest event.now) (guest_reply result) self.new }
     {
-        if let Phase::Stopped = self.stage {
-            return Err(MigError::AlreadyStopped);
-        }
+        self.running()?;
         Ok(self.source.apply_logged(event, &mut self.changed))
     }
 
     /// The driver reads a register. As `apply` of that event.
+    #[tactic(auto, using(crate::proofs::Living::guest_refused))]
     pub fn read_register(&mut self, dev: u8, offset: u32, width: u8) -> Result<Reply, MigError>
         ensures served { Serves self.old (LiveEvent.Guest (events.RegRead dev offset width)) (guest_reply result) self.new }
         ensures calls { HasLiveCalled D.called self.old (LiveEvent.Guest (events.RegRead dev offset width)) (guest_reply result) self.new }
     {
-        if let Phase::Stopped = self.stage {
-            return Err(MigError::AlreadyStopped);
-        }
+        self.running()?;
         let answer = self.source.read_register(dev, offset, width);
         Ok(Reply::from_value(answer))
     }
 
     /// The driver writes a register. As `apply` of that event.
+    #[tactic(auto, using(crate::proofs::Living::guest_refused))]
     pub fn write_register(
         &mut self,
         dev: u8,
@@ -261,34 +330,30 @@ impl<D: Disk, W: Sink> Live<D, W> {
         ensures served { Serves self.old (LiveEvent.Guest (events.RegWrite dev offset width value)) (guest_reply result) self.new }
         ensures calls { HasLiveCalled D.called self.old (LiveEvent.Guest (events.RegWrite dev offset width value)) (guest_reply result) self.new }
     {
-        if let Phase::Stopped = self.stage {
-            return Err(MigError::AlreadyStopped);
-        }
+        self.running()?;
         let answer = self.source.write_register(dev, offset, width, value);
         Ok(Reply::from_written(answer))
     }
 
     /// The host sets the size of a console, in characters. As `apply` of that event.
+    #[tactic(auto, using(crate::proofs::Living::guest_refused))]
     pub fn resize(&mut self, dev: u8, cols: u16, rows: u16) -> Result<Reply, MigError>
         ensures served { Serves self.old (LiveEvent.Guest (events.Resize dev cols rows)) (guest_reply result) self.new }
         ensures calls { HasLiveCalled D.called self.old (LiveEvent.Guest (events.Resize dev cols rows)) (guest_reply result) self.new }
     {
-        if let Phase::Stopped = self.stage {
-            return Err(MigError::AlreadyStopped);
-        }
+        self.running()?;
         let answer = self.source.resize(dev, cols, rows);
         Ok(Reply::from_done(answer))
     }
 
     /// A device does one piece of its work, which the pick names. As `apply` of that event; the bytes of a message go into the buffer,
     /// which is cut or grows to them, and where none is sent it may hold anything.
+    #[tactic(auto, using(crate::proofs::Living::guest_refused))]
     pub fn step_into(&mut self, dev: u8, pick: u8, sent: &mut Vec<u8>) -> Result<Stepped, MigError>
         ensures served { Serves self.old (LiveEvent.Guest (events.Step dev pick)) (guest_reply (stepped_result result sent.new.items)) self.new }
         ensures calls { HasLiveCalled D.called self.old (LiveEvent.Guest (events.Step dev pick)) (guest_reply (stepped_result result sent.new.items)) self.new }
     {
-        if let Phase::Stopped = self.stage {
-            return Err(MigError::AlreadyStopped);
-        }
+        self.running()?;
         Ok(
             self.source
                 .step_into_logged(dev, pick, sent, &mut self.changed),
@@ -306,37 +371,34 @@ impl<D: Disk, W: Sink> Live<D, W> {
 
     /// In place of a step that flushes a disk: makes it as a step whose disk failed, and calls no disk (`Machine::fail_flush`). The
     /// result says whether the step with this pick flushes; if not, nothing has changed.
+    #[tactic(auto, using(crate::proofs::Unsynced::flush_refused))]
     pub fn fail_flush(&mut self, dev: u8, pick: u8) -> Result<bool, MigError>
         ensures tried { TriesFlush self.old dev pick result self.new }
         ensures calls { CallsNone self.old.machine self.new.machine }
     {
-        if let Phase::Stopped = self.stage {
-            return Err(MigError::AlreadyStopped);
-        }
+        self.running()?;
         Ok(self.source.fail_flush(dev, pick))
     }
 
     /// The guest writes bytes into RAM from address `addr` on. As `apply` of that event, whose bytes need not be
     /// copied.
+    #[tactic(auto, using(crate::proofs::Living::guest_refused))]
     pub fn write_ram(&mut self, addr: u64, bytes: &[u8]) -> Result<Reply, MigError>
         ensures served { Serves self.old (LiveEvent.Guest (events.MemWrite addr bytes.now)) (guest_reply result) self.new }
         ensures calls { HasLiveCalled D.called self.old (LiveEvent.Guest (events.MemWrite addr bytes.now)) (guest_reply result) self.new }
     {
-        if let Phase::Stopped = self.stage {
-            return Err(MigError::AlreadyStopped);
-        }
+        self.running()?;
         let answer = self.source.write_ram_logged(addr, bytes, &mut self.changed);
         Ok(Reply::from_done(answer))
     }
 
     /// The host puts bytes in. As `apply` of that event, whose bytes need not be copied.
+    #[tactic(auto, using(crate::proofs::Living::guest_refused))]
     pub fn input(&mut self, dev: u8, bytes: &[u8]) -> Result<Reply, MigError>
         ensures served { Serves self.old (LiveEvent.Guest (events.Input dev bytes.now)) (guest_reply result) self.new }
         ensures calls { HasLiveCalled D.called self.old (LiveEvent.Guest (events.Input dev bytes.now)) (guest_reply result) self.new }
     {
-        if let Phase::Stopped = self.stage {
-            return Err(MigError::AlreadyStopped);
-        }
+        self.running()?;
         Ok(Reply::from_accepted(self.source.input(dev, bytes)))
     }
 
@@ -349,12 +411,7 @@ impl<D: Disk, W: Sink> Live<D, W> {
             return Err(error);
         }
         let pages = page_count(&self.source);
-        if let Err(_) = write_header(
-            pages as u32,
-            self.source.shapes(),
-            &mut self.writer,
-            &mut self.taken,
-        ) {
+        if let Err(_) = encode_header(pages as u32, self.source.shapes(), &mut self.writer) {
             self.stage = Phase::Failed;
             return Err(MigError::StreamFailed);
         }
@@ -372,7 +429,7 @@ impl<D: Disk, W: Sink> Live<D, W> {
         ensures calls { ReadsItem D.called self.old.machine (item_at (layout_of (now self.old)) number) self.new.machine }
     {
         let item = item_at(&self.source, number);
-        if let Err(error) = send_item(&mut self.source, item, &mut self.writer, &mut self.taken) {
+        if let Err(error) = send_item(&mut self.source, item, &mut self.writer) {
             self.stage = phase_after(self.stage, error);
             return Err(error);
         }
@@ -412,7 +469,7 @@ impl<D: Disk, W: Sink> Live<D, W> {
         if !self.left.is_empty() {
             return Ok(End::RoundOpen);
         }
-        if let Err(_) = write_round(round, &mut self.writer, &mut self.taken) {
+        if let Err(_) = encode_round(round, &mut self.writer) {
             self.stage = Phase::Failed;
             return Err(MigError::StreamFailed);
         }
@@ -452,12 +509,12 @@ impl<D: Disk, W: Sink> Live<D, W> {
         ensures closed { Closes self.old result self.new }
         ensures calls { CallsNone self.old.machine self.new.machine }
     {
-        if let Err(_) = write_devices(&self.source, &mut self.writer, &mut self.taken) {
+        if let Err(_) = write_devices(&self.source, &mut self.writer) {
             self.stage = Phase::Failed;
             return Err(MigError::StreamFailed);
         }
-        let digest = mem::replace(&mut self.taken, Sha256::new());
-        if let Err(_) = write_end(&digest.finalize(), &mut self.writer) {
+        let digest = self.writer.digest();
+        if let Err(_) = write_end(&digest, &mut self.writer) {
             self.stage = Phase::Failed;
             return Err(MigError::StreamFailed);
         }
@@ -509,6 +566,18 @@ impl<D: Disk, W: Sink> Live<D, W> {
             },
         }
     }
+}
+
+/// Room for the sets of a machine of which nothing is sent yet. Fails only if memory is refused.
+fn make_room<D: Disk>(alloc: Global, machine: &Machine<D>) -> Result<(BitSet, Dirty), AllocError>
+    ensures empty { IfOk result (λ r. HasNone r.0 × HasNone r.1.set) }
+    ensures live { IfOk result (λ r. IsLive machine.now Phase.Fresh r.0 r.1.set r.1.firsts.items 0) }
+{
+    let _shapes = machine.shapes();
+    let (firsts, size) = number_items(alloc, machine)?;
+    let left = BitSet::new(alloc, size)?;
+    let set = BitSet::new(alloc, size)?;
+    Ok((left, Dirty { set, firsts }))
 }
 
 /// The phase after sending an item failed with `error`.
