@@ -58,7 +58,7 @@ impl Twins {
     /// The same call of both.
     fn call(&mut self, draw: u32) -> Result<()> {
         let addr = (draw >> 17) as u64;
-        let bytes = [1, draw as u8];
+        let bytes = [1, (draw % 256) as u8];
         let is_same = match (draw >> 16) % 8 {
             0 => self.eager.end_round() == self.lagging.end_round(),
             1 | 2 => self.eager.write_ram(addr, &bytes) == self.lagging.write_ram(addr, &bytes),
