@@ -1,5 +1,5 @@
 -- A digest that takes bytes later than they were put.
-use Rattle.std.proofs.Common.{◌≡◌, ◌≤◌, ◌-◌, ℕ, List, [], ◌++◌, ap, sym, ◌∙◌, append_assoc, append-nil, drop, length}
+use Rattle.std.proofs.Common.{◌≡◌, ◌≤◌, ℕ, List, [], ◌++◌, ap, sym, ◌∙◌, append_assoc, append-nil, drop, length}
 use Rattle.std.proofs.lemmas.List.Folds.{drop_split}
 use Rattle.std.proofs.lemmas.List.{drop-append-le, drop_all}
 use Rattle.std.specs.Prelude.{slice_range}
