@@ -3,13 +3,12 @@ use Rattle.std.proofs.Common.{◌≡◌, ◌≢◌, ℕ, List, Bool, true, false
 use Rattle.std.specs.Prelude.{All, Err, IsTrue, Ok, Result, Some}
 use Rattle.std.proofs.lemmas.List.{append-nil}
 use Rattle.machine.specs.Effect.{Effect, applied}
-use Rattle.machine.specs.Layout.{firsts_of, size_of}
 use Rattle.machine.specs.Seen.{Marks, Seen, state_of}
 use Rattle.machine.specs.Sound.{IsSound}
 use Rattle.machine.specs.State.{MachineState}
 use Rattle.machine.specs.Step.{HasEffect}
 use Rattle.machine.specs.Outcome.{disk_failed}
-use Rattle.machine.specs.Unsynced.{FailsFlush, FailsFlushIf, makes_flush}
+use Rattle.machine.specs.Unsynced.{FailsFlushIf, makes_flush}
 use Rattle.machine.specs.declared.event.Event.TheVariants.{Step}
 use Rattle.machine.specs.declared.reply.Reply.TheVariants.{DiskFailed}
 use Rattle.machine.proofs.Numbering.{same_layout}
@@ -28,7 +27,7 @@ use Rattle.sender.specs.declared.mig_error.MigError.TheVariants.{AlreadyStopped}
 use Rattle.sender.specs.declared.phase.Phase.{Phase}
 use Rattle.sender.specs.declared.phase.Phase.TheVariants as phases
 use Rattle.sender.proofs.Following.{IsLogged, guest_follows}
-use Rattle.sender.proofs.Living.{guest_free}
+use Rattle.sender.proofs.Living.{guest_free, live_on}
 
 or_none : (b : Bool) → (b || false) ≡ b
 or_none true = refl
@@ -92,21 +91,8 @@ taken_failure_follows m h out taken dev pick old new rel places goes f =
     failure_follows m h out dev pick (untaken taken old) (untaken taken new) rel there goes (record { failed = f.failed; rest = ap (untaken taken) f.rest })
 
 -- What a machine that is being migrated keeps.
-module _ (old new : Seen) (phase : Phase) (due dirty : List Bool) (firsts : List ℕ) (at dev pick : ℕ) (live : IsLive old phase due dirty firsts at) where
-  live_failed : FailsFlush old dev pick new → IsLive new phase due dirty firsts at
-  live_failed f =
-      let same = same_layout (state_of old) (state_of new) f.shape in
-      record {
-        sound = f.sound;
-        few = live.few;
-        room = record { due_size = live.room.due_size ∙ ap size_of (sym same); dirty_size = live.room.dirty_size ∙ ap size_of (sym same); firsts_are = live.room.firsts_are ∙ ap firsts_of (sym same) };
-        round = live.round;
-        reached = live.reached;
-        passed = live.passed;
-      }
-
 pub live_tried : (old new : Seen) (phase : Phase) (due dirty : List Bool) (firsts : List ℕ) (at dev pick : ℕ) (was : Bool) → IsLive old phase due dirty firsts at → FailsFlushIf was old dev pick new → IsLive new phase due dirty firsts at
-live_tried old new phase due dirty firsts at dev pick true live f = live_failed old new phase due dirty firsts at dev pick live f
+live_tried old new phase due dirty firsts at dev pick true live f = live_on old new phase due dirty firsts at live f.sound (same_layout (state_of old) (state_of new) f.shape)
 live_tried old new phase due dirty firsts at dev pick false live f = subst (λ (x : Seen). IsLive x phase due dirty firsts at) (sym f) live
 
 -- The call.

@@ -21,20 +21,21 @@ use wire::{Digesting, Eager, Sink, Waiting};
 pub struct LiveParked<D: Disk, W: Digesting> {
     pub(crate) parked: Parked<D>,
     pub(crate) writer: W,
-    pub(crate) stage: Phase,
-    pub(crate) left: BitSet,
+    pub(crate) phase: Phase,
+    pub(crate) due: BitSet,
     pub(crate) at: u64,
-    pub(crate) changed: Dirty,
+    pub(crate) dirty: Dirty,
 }
 
 impl<D: Disk, W: Digesting> Model for LiveParked<D, W> {
-    ghost use Rattle.sender.specs.Parked.{LiveParkedSeen, WasLive};
+    ghost use Rattle.sender.specs.Parked.{LiveParkedSeen, parked_layout};
+    ghost use Rattle.sender.specs.Stopping.{SetsFit};
 
     ghost Value = { LiveParkedSeen };
 
-    ghost view = { λ l. record { parked = l.parked; phase = l.stage; due = l.left; dirty = l.changed.set; digest = W.sum l.writer; out = W.state l.writer } };
+    ghost view = { λ l. record { parked = l.parked; phase = l.phase; due = l.due; dirty = l.dirty.set; digest = W.sum l.writer; out = W.state l.writer } };
 
-    ghost invariant = { λ l. WasLive l.parked l.stage l.left l.changed.set l.changed.firsts.items l.at };
+    ghost invariant = { λ l. SetsFit (parked_layout l.parked) l.phase l.due l.dirty.set l.dirty.firsts.items l.at };
 }
 
 impl<D: Disk, W: Digesting> LiveParked<D, W> {
@@ -61,21 +62,21 @@ impl<D: Disk, W: Digesting> LiveParked<D, W> {
         let LiveParked {
             parked,
             writer,
-            stage,
-            left,
+            phase,
+            due,
             at,
-            mut changed,
+            mut dirty,
         } = self;
-        let source = parked.give_back(region, pages, &mut changed);
-        source.ram().recall();
-        let _shapes = source.shapes();
+        let machine = parked.give_back(region, pages, &mut dirty);
+        machine.ram().recall();
+        let _shapes = machine.shapes();
         LiveOver {
-            source,
+            machine,
             writer,
-            stage,
-            left,
+            phase,
+            due,
             at,
-            changed,
+            dirty,
         }
     }
 }

@@ -39,13 +39,13 @@ const LAST_ROUND: u32 = u32::MAX;
 /// A machine, the stream that is written of it, and what is still to be sent. The writer digests what it takes, when it will.
 #[derive(Drop)]
 pub struct LiveOver<D: Disk, W: Digesting> {
-    pub(crate) source: Machine<D>,
+    pub(crate) machine: Machine<D>,
     pub(crate) writer: W,
-    pub(crate) stage: Phase,
-    pub(crate) left: BitSet,
+    pub(crate) phase: Phase,
+    pub(crate) due: BitSet,
     // No item below this number is due. The search for the next one starts here.
     pub(crate) at: u64,
-    pub(crate) changed: Dirty,
+    pub(crate) dirty: Dirty,
 }
 
 /// One whose writer is any sink. What is written is digested at once.
@@ -61,9 +61,9 @@ impl<D: Disk, W: Digesting> Model for LiveOver<D, W> {
 
     ghost use Rattle.sender.specs.Stopping.{IsLive};
 
-    ghost view = { λ l. record { machine = l.source; phase = l.stage; due = l.left; dirty = l.changed.set; digest = W.sum l.writer; out = W.state l.writer } };
+    ghost view = { λ l. record { machine = l.machine; phase = l.phase; due = l.due; dirty = l.dirty.set; digest = W.sum l.writer; out = W.state l.writer } };
 
-    ghost invariant = { λ l. IsLive l.source l.stage l.left l.changed.set l.changed.firsts.items l.at };
+    ghost invariant = { λ l. IsLive l.machine l.phase l.due l.dirty.set l.dirty.firsts.items l.at };
 }
 
 impl<D: Disk, W: Sink> LiveOver<D, Eager<W>> {
@@ -81,16 +81,16 @@ impl<D: Disk, W: Sink> LiveOver<D, Eager<W>> {
         ensures out { IfOk result (λ l. l.out ≡ W.state writer) }
         ensures err { IfErr result (λ e. (e.1 ≡ machine) × (e.2 ≡ writer)) }
     {
-        let Ok((left, changed)) = make_room(alloc, &machine) else {
+        let Ok((due, dirty)) = make_room(alloc, &machine) else {
             return Err((AllocError, machine, writer));
         };
         let live = LiveOver {
-            source: machine,
+            machine,
             writer: Eager::new(writer),
-            stage: Phase::Fresh,
-            left,
+            phase: Phase::Fresh,
+            due,
             at: 0,
-            changed,
+            dirty,
         };
         live.recall();
         Ok(live)
@@ -130,18 +130,18 @@ impl<D: Disk> LiveOver<D, Waiting> {
         ensures out { IfOk result (λ l. l.out ≡ writer.out) }
         ensures err { IfErr result (λ e. (e.1 ≡ machine) × (e.2 ≡ writer)) }
     {
-        let Ok((left, changed)) = make_room(alloc, &machine) else {
+        let Ok((due, dirty)) = make_room(alloc, &machine) else {
             return Err((AllocError, machine, writer));
         };
         let mut writer = writer;
         writer.begin();
         let live = LiveOver {
-            source: machine,
+            machine,
             writer,
-            stage: Phase::Fresh,
-            left,
+            phase: Phase::Fresh,
+            due,
             at: 0,
-            changed,
+            dirty,
         };
         live.recall();
         Ok(live)
@@ -172,14 +172,14 @@ impl<D: Disk, W: Digesting> LiveOver<D, W> {
     pub fn machine(&self) -> &Machine<D>
         ensures { result.now ≡ self.now.machine }
     {
-        &self.source
+        &self.machine
     }
 
     /// How far its migration has come.
     pub fn phase(&self) -> Phase
         ensures { result ≡ self.now.phase }
     {
-        self.stage
+        self.phase
     }
 
     /// How many items are due, and how many are dirty. It takes constant time.
@@ -188,8 +188,8 @@ impl<D: Disk, W: Digesting> LiveOver<D, W> {
         ensures dirty { result.dirty ≡ member_count self.now.dirty }
     {
         Remaining {
-            due: self.left.count(),
-            dirty: self.changed.set.count(),
+            due: self.due.count(),
+            dirty: self.dirty.set.count(),
         }
     }
 
@@ -209,21 +209,21 @@ impl<D: Disk, W: Digesting> LiveOver<D, W> {
         ensures out { W.state result.1 ≡ self.out }
     {
         let LiveOver {
-            source,
+            machine,
             writer,
-            stage: _,
-            left: _,
+            phase: _,
+            due: _,
             at: _,
-            changed: _,
+            dirty: _,
         } = self;
-        (source, writer)
+        (machine, writer)
     }
 
     /// For proofs: the sets have an index for each item (see the page of `guestmem`).
     pub fn recall(&self)
         ensures { HasPlaces self.now }
     {
-        let _left = &self.left;
+        let _due = &self.due;
     }
 
     /// Lends the RAM of the machine, if it lies in memory of the caller. Takes no memory; its time does not depend on the size of RAM.
@@ -232,34 +232,34 @@ impl<D: Disk, W: Digesting> LiveOver<D, W> {
         ensures own { IfErr result (λ _. self.machine.memory.place ≡ None) }
         ensures same { IfErr result (λ l. l ≡ self) }
     {
-        self.source.ram().recall();
+        self.machine.ram().recall();
         let LiveOver {
-            source,
+            machine,
             writer,
-            stage,
-            left,
+            phase,
+            due,
             at,
-            changed,
+            dirty,
         } = self;
-        match source.lend() {
+        match machine.lend() {
             Ok((region, parked)) => Ok((
                 region,
                 LiveParked {
                     parked,
                     writer,
-                    stage,
-                    left,
+                    phase,
+                    due,
                     at,
-                    changed,
+                    dirty,
                 },
             )),
-            Err(source) => Err(LiveOver {
-                source,
+            Err(machine) => Err(LiveOver {
+                machine,
                 writer,
-                stage,
-                left,
+                phase,
+                due,
                 at,
-                changed,
+                dirty,
             }),
         }
     }
@@ -267,7 +267,7 @@ impl<D: Disk, W: Digesting> LiveOver<D, W> {
     fn refusal(&self, event: &LiveEvent) -> Option<MigError>
         ensures { result ≡ refusal_for self.now.phase event.now }
     {
-        match (self.stage, event) {
+        match (self.phase, event) {
             (Phase::Failed, LiveEvent::Guest(_)) => None,
             (Phase::Failed, _) => Some(MigError::StreamFailed),
             (Phase::Stopped, _) => Some(MigError::AlreadyStopped),
@@ -291,7 +291,7 @@ impl<D: Disk, W: Digesting> LiveOver<D, W> {
         ensures open { OnOk result (self.now.phase ≢ Phase.Stopped) }
         ensures closed { IfErr result (λ e. (e ≡ MigError.AlreadyStopped) × (self.now.phase ≡ Phase.Stopped)) }
     {
-        if let Phase::Stopped = self.stage {
+        if let Phase::Stopped = self.phase {
             return Err(MigError::AlreadyStopped);
         }
         Ok(())
@@ -304,7 +304,7 @@ impl<D: Disk, W: Digesting> LiveOver<D, W> {
         ensures calls { HasLiveCalled D.called self.old (LiveEvent.Guest event.now) (guest_reply result) self.new }
     {
         self.running()?;
-        Ok(self.source.apply_logged(event, &mut self.changed))
+        Ok(self.machine.apply_logged(event, &mut self.dirty))
     }
 
     /// The driver reads a register. As `apply` of that event.
@@ -314,7 +314,7 @@ impl<D: Disk, W: Digesting> LiveOver<D, W> {
         ensures calls { HasLiveCalled D.called self.old (LiveEvent.Guest (events.RegRead dev offset width)) (guest_reply result) self.new }
     {
         self.running()?;
-        let answer = self.source.read_register(dev, offset, width);
+        let answer = self.machine.read_register(dev, offset, width);
         Ok(Reply::from_value(answer))
     }
 
@@ -331,7 +331,7 @@ impl<D: Disk, W: Digesting> LiveOver<D, W> {
         ensures calls { HasLiveCalled D.called self.old (LiveEvent.Guest (events.RegWrite dev offset width value)) (guest_reply result) self.new }
     {
         self.running()?;
-        let answer = self.source.write_register(dev, offset, width, value);
+        let answer = self.machine.write_register(dev, offset, width, value);
         Ok(Reply::from_written(answer))
     }
 
@@ -342,7 +342,7 @@ impl<D: Disk, W: Digesting> LiveOver<D, W> {
         ensures calls { HasLiveCalled D.called self.old (LiveEvent.Guest (events.Resize dev cols rows)) (guest_reply result) self.new }
     {
         self.running()?;
-        let answer = self.source.resize(dev, cols, rows);
+        let answer = self.machine.resize(dev, cols, rows);
         Ok(Reply::from_done(answer))
     }
 
@@ -355,8 +355,8 @@ impl<D: Disk, W: Digesting> LiveOver<D, W> {
     {
         self.running()?;
         Ok(
-            self.source
-                .step_into_logged(dev, pick, sent, &mut self.changed),
+            self.machine
+                .step_into_logged(dev, pick, sent, &mut self.dirty),
         )
     }
 
@@ -366,7 +366,7 @@ impl<D: Disk, W: Digesting> LiveOver<D, W> {
         ensures flushed { FlushesLiveDisk self.old dev result self.new }
         ensures calls { CallsDisk D.called true dev self.old.machine self.new.machine }
     {
-        self.source.flush_disk(dev)
+        self.machine.flush_disk(dev)
     }
 
     /// In place of a step that flushes a disk: makes it as a step whose disk failed, and calls no disk (`Machine::fail_flush`). The
@@ -377,7 +377,7 @@ impl<D: Disk, W: Digesting> LiveOver<D, W> {
         ensures calls { CallsNone self.old.machine self.new.machine }
     {
         self.running()?;
-        Ok(self.source.fail_flush(dev, pick))
+        Ok(self.machine.fail_flush(dev, pick))
     }
 
     /// The guest writes bytes into RAM from address `addr` on. As `apply` of that event, whose bytes need not be
@@ -388,7 +388,7 @@ impl<D: Disk, W: Digesting> LiveOver<D, W> {
         ensures calls { HasLiveCalled D.called self.old (LiveEvent.Guest (events.MemWrite addr bytes.now)) (guest_reply result) self.new }
     {
         self.running()?;
-        let answer = self.source.write_ram_logged(addr, bytes, &mut self.changed);
+        let answer = self.machine.write_ram_logged(addr, bytes, &mut self.dirty);
         Ok(Reply::from_done(answer))
     }
 
@@ -399,7 +399,7 @@ impl<D: Disk, W: Digesting> LiveOver<D, W> {
         ensures calls { HasLiveCalled D.called self.old (LiveEvent.Guest (events.Input dev bytes.now)) (guest_reply result) self.new }
     {
         self.running()?;
-        Ok(Reply::from_accepted(self.source.input(dev, bytes)))
+        Ok(Reply::from_accepted(self.machine.input(dev, bytes)))
     }
 
     /// Begins: the header is written, and every item is due.
@@ -410,15 +410,15 @@ impl<D: Disk, W: Digesting> LiveOver<D, W> {
         if let Some(error) = self.refusal(&LiveEvent::Begin) {
             return Err(error);
         }
-        let pages = page_count(&self.source);
-        if let Err(_) = encode_header(pages as u32, self.source.shapes(), &mut self.writer) {
-            self.stage = Phase::Failed;
+        let pages = page_count(&self.machine);
+        if let Err(_) = encode_header(pages as u32, self.machine.shapes(), &mut self.writer) {
+            self.phase = Phase::Failed;
             return Err(MigError::StreamFailed);
         }
-        self.left.fill();
+        self.due.fill();
         self.at = 0;
-        self.changed.set.clear();
-        self.stage = Phase::Open(1);
+        self.dirty.set.clear();
+        self.phase = Phase::Open(1);
         Ok(1)
     }
 
@@ -428,13 +428,13 @@ impl<D: Disk, W: Digesting> LiveOver<D, W> {
         ensures sent { SendsItem self.old number result self.new }
         ensures calls { ReadsItem D.called self.old.machine (item_at (layout_of (now self.old)) number) self.new.machine }
     {
-        let item = item_at(&self.source, number);
-        if let Err(error) = send_item(&mut self.source, item, &mut self.writer) {
-            self.stage = phase_after(self.stage, error);
+        let item = item_at(&self.machine, number);
+        if let Err(error) = send_item(&mut self.machine, item, &mut self.writer) {
+            self.phase = phase_after(self.phase, error);
             return Err(error);
         }
-        self.left.remove(number);
-        self.changed.set.remove(number);
+        self.due.remove(number);
+        self.dirty.set.remove(number);
         Ok(item)
     }
 
@@ -447,7 +447,7 @@ impl<D: Disk, W: Digesting> LiveOver<D, W> {
         if let Some(error) = self.refusal(&LiveEvent::Copy) {
             return Err(error);
         }
-        let Some(number) = self.left.first_from(self.at) else {
+        let Some(number) = self.due.first_from(self.at) else {
             return Ok(CopyAnswer::RoundDone);
         };
         let item = self.send(number)?;
@@ -463,19 +463,19 @@ impl<D: Disk, W: Digesting> LiveOver<D, W> {
         if let Some(error) = self.refusal(&LiveEvent::EndRound) {
             return Err(error);
         }
-        let Phase::Open(round) = self.stage else {
+        let Phase::Open(round) = self.phase else {
             return Err(MigError::NotBegun);
         };
-        if !self.left.is_empty() {
+        if !self.due.is_empty() {
             return Ok(End::RoundOpen);
         }
         if let Err(_) = encode_round(round, &mut self.writer) {
-            self.stage = Phase::Failed;
+            self.phase = Phase::Failed;
             return Err(MigError::StreamFailed);
         }
-        self.changed.set.swap_out(&mut self.left);
+        self.dirty.set.swap_out(&mut self.due);
         self.at = 0;
-        self.stage = Phase::Open(round + 1);
+        self.phase = Phase::Open(round + 1);
         Ok(End::Begun(round + 1))
     }
 
@@ -486,20 +486,20 @@ impl<D: Disk, W: Digesting> LiveOver<D, W> {
         ensures calls { SendCalls D.called self.old result self.new }
     {
         self.recall();
-        let pages = page_count(&self.source);
+        let pages = page_count(&self.machine);
         let mut sent = Stopped {
             pages: 0,
             sectors: 0,
         };
-        let mut due = self.left.first_from(0);
-        let mut dirty = self.changed.set.first_from(0);
+        let mut due = self.due.first_from(0);
+        let mut dirty = self.dirty.set.first_from(0);
         'items: while let Some(number) = lesser(due, dirty) {
             if let Err(error) = self.send(number) {
                 return Err(error);
             }
             sent = counted(sent, number < pages);
-            due = next_past(&self.left, number, due);
-            dirty = next_past(&self.changed.set, number, dirty);
+            due = next_past(&self.due, number, due);
+            dirty = next_past(&self.dirty.set, number, dirty);
         }
         Ok(sent)
     }
@@ -509,16 +509,16 @@ impl<D: Disk, W: Digesting> LiveOver<D, W> {
         ensures closed { Closes self.old result self.new }
         ensures calls { CallsNone self.old.machine self.new.machine }
     {
-        if let Err(_) = write_devices(&self.source, &mut self.writer) {
-            self.stage = Phase::Failed;
+        if let Err(_) = write_devices(&self.machine, &mut self.writer) {
+            self.phase = Phase::Failed;
             return Err(MigError::StreamFailed);
         }
         let digest = self.writer.digest();
         if let Err(_) = write_end(&digest, &mut self.writer) {
-            self.stage = Phase::Failed;
+            self.phase = Phase::Failed;
             return Err(MigError::StreamFailed);
         }
-        self.stage = Phase::Stopped;
+        self.phase = Phase::Stopped;
         Ok(())
     }
 
@@ -575,9 +575,9 @@ fn make_room<D: Disk>(alloc: Global, machine: &Machine<D>) -> Result<(BitSet, Di
 {
     let _shapes = machine.shapes();
     let (firsts, size) = number_items(alloc, machine)?;
-    let left = BitSet::new(alloc, size)?;
+    let due = BitSet::new(alloc, size)?;
     let set = BitSet::new(alloc, size)?;
-    Ok((left, Dirty { set, firsts }))
+    Ok((due, Dirty { set, firsts }))
 }
 
 /// The phase after sending an item failed with `error`.

@@ -42,12 +42,12 @@ counted-sent-requires-clause-sectors g c =
 
 pub next_past-due-requires-clause-found : goal.next_past-due-requires-clause-found
 next_past-due-requires-clause-found g c = λ other.
-    let taken : c.self-in-Some.inside.left ≡ set c.items.self.due c.in-Some.number false = ap (λ (v : LiveSeen). v.due) c.self-in-Some.view_is ∙ c.in_default-send.ensures.sent.sent.due in
+    let taken : c.self-in-Some.inside.due ≡ set c.items.self.due c.in-Some.number false = ap (λ (v : LiveSeen). v.due) c.self-in-Some.view_is ∙ c.in_default-send.ensures.sent.sent.due in
     subst (λ s. IsLeastFrom s 0 c.items.due) (sym taken) (still_next c.items.self.due c.in-Some.number c.items.due c.items.invariant.onward.due_next other)
 
 pub next_past-dirty-requires-clause-found : goal.next_past-dirty-requires-clause-found
 next_past-dirty-requires-clause-found g c = λ other.
-    let taken : c.self-in-Some.inside.changed.set ≡ set c.items.self.dirty c.in-Some.number false = ap (λ (v : LiveSeen). v.dirty) c.self-in-Some.view_is ∙ c.in_default-send.ensures.sent.sent.dirty in
+    let taken : c.self-in-Some.inside.dirty.set ≡ set c.items.self.dirty c.in-Some.number false = ap (λ (v : LiveSeen). v.dirty) c.self-in-Some.view_is ∙ c.in_default-send.ensures.sent.sent.dirty in
     subst (λ s. IsLeastFrom s 0 c.items.dirty) (sym taken) (still_next c.items.self.dirty c.in-Some.number c.items.dirty c.items.invariant.onward.dirty_next other)
 
 pub items-smaller : goal.items-smaller
