@@ -1,5 +1,5 @@
 -- A flush of a disk beside all steps, and the history.
-use Rattle.std.proofs.Common.{ℕ, List, Bool, ap, sym, subst, ◌∙◌}
+use Rattle.std.proofs.Common.{ℕ, List, Bool, sym, subst, ◌∙◌}
 use Rattle.std.specs.Prelude.{Result, Ok, Err}
 use Rattle.machine.specs.EffectLaws.{IsSameShape}
 use Rattle.machine.specs.Seen.{AreHonest, Seen, all_marks}

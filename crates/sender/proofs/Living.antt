@@ -1,8 +1,8 @@
 -- A machine that is sent, and its sets, after each call.
 use Rattle.std.proofs.Common.{◌≡◌, ◌≢◌, ℕ, zero, suc, ◌+◌, ◌<◌, ◌≤◌, ◌^◌, Bool, true, false, List, [], ◌∷◌, inl, inr, ◌⊎◌, length, map, replicate, set, None, Some, refl, sym, ap, subst, ◌∙◌, arith}
 use Rattle.std.proofs.lemmas.Bool.{eq-eqb}
-use Rattle.std.proofs.lemmas.List.{get_or-set_same, length-set, length-replicate}
-use Rattle.dirtylog.specs.Members.{HasNone, IsLeast, has}
+use Rattle.std.proofs.lemmas.List.{length-set, length-replicate}
+use Rattle.dirtylog.specs.Members.{HasNone, has}
 use Rattle.guestmem.specs.Item.{Item, after_all, page, sector}
 use Rattle.machine.specs.Applied.{IsAppliedLogged, MayItems}
 use Rattle.machine.specs.Effect.{items_of}
@@ -53,13 +53,6 @@ still_none (b ∷ s) zero zero none = refl
 still_none (b ∷ s) zero (suc k) none = none
 still_none (b ∷ s) (suc n) zero none = none
 still_none (b ∷ s) (suc n) (suc k) none = still_none s n k none
-
--- Nothing up to the least member is left once it is taken out.
-behind : (s : List Bool) (n k : ℕ) → n < length s → IsLeast s 0 n → k ≤ n → has (set s n false) k ≡ false
-behind s n k inside least le = elim (le_or n k) as (λ _. has (set s n false) k ≡ false) [
-  | inl past ↦ let same : k ≡ n = omega (arith, past, le) in rw same (get_or-set_same s n false false inside)
-  | inr before ↦ still_none s n k (least.least k (omega arith) before)
-]
 
 -- A new machine that is sent.
 pub live_first : (machine : Seen) (left set_ : List Bool) (firsts : List ℕ) (size : ℕ) → IsSound (state_of machine) → firsts ≡ firsts_of (layout_of (state_of machine)) → size ≡ size_of (layout_of (state_of machine)) → size < 2 ^ 64
@@ -119,31 +112,10 @@ live_sent old new p due new_due dirty new_dirty firsts at n live state d dirty_l
       sets = fit_next (layout_of (state_of new)) p p due new_due dirty new_dirty firsts firsts at at sets due_long dirty_long refl sets.round (omega (arith, due_long, sets.reached)) (λ k below. rw d (still_none due n k (sets.passed k below)));
     }
 
--- The next due item is looked for behind the one that was sent.
-pub live_behind : (machine : Seen) (p : Phase) (old due dirty : List Bool) (firsts : List ℕ) (at next n : ℕ) → IsLive machine p due dirty firsts at → due ≡ set old n false → length old ≡ length due → IsLeast old 0 n → next ≡ n + 1
-    → IsLive machine p due dirty firsts next
-live_behind machine p old due dirty firsts at next n live d long least is =
-    let inside : n < length old = member_below old n least.member in
-    record {
-      sound = live.sound;
-      sets = fit_next (layout_of (state_of machine)) p p due due dirty dirty firsts firsts at next live.sets refl refl refl live.sets.round (omega (arith, is, inside, long)) (λ k below. rw d (behind old n k inside least (omega (arith, is, below))));
-    }
-
 -- Every set is another.
 pub live_begun : (machine : Seen) (p q : Phase) (due new_due dirty new_dirty : List Bool) (firsts : List ℕ) (at : ℕ) → IsLive machine p due dirty firsts at → length new_due ≡ length due → length new_dirty ≡ length dirty → RoundFits q → IsLive machine q new_due new_dirty firsts 0
 live_begun machine p q due new_due dirty new_dirty firsts at live due_long dirty_long round =
     record { sound = live.sound; sets = fit_next (layout_of (state_of machine)) p q due new_due dirty new_dirty firsts firsts at 0 live.sets due_long dirty_long refl round (omega arith) (λ k below. absurd (omega (arith, below))) }
-
--- The least due item, where none below a number is due.
-pub least_of_all : (s : List Bool) (at n : ℕ) → ((k : ℕ) → k < at → has s k ≡ false) → IsLeast s at n → IsLeast s 0 n
-least_of_all s at n none least = record {
-  reached = omega arith;
-  member = least.member;
-  least = λ k _ below. elim (le_or at k) as (λ _. has s k ≡ false) [ inl past ↦ least.least k past below | inr before ↦ none k before ];
-}
-
-pub none_of_all : (s : List Bool) (at : ℕ) → ((k : ℕ) → k < at → has s k ≡ false) → ((k : ℕ) → at ≤ k → has s k ≡ false) → HasNone s
-none_of_all s at before after = λ k. elim (le_or at k) as (λ _. has s k ≡ false) [ inl past ↦ after k past | inr under ↦ before k under ]
 
 -- The log may be told of every item.
 first_of : (m : MachineState) (firsts : List ℕ) (i : Item) → firsts ≡ firsts_of (layout_of m) → IsItemIn (layout_of m) i → HasFirst firsts i

@@ -54,9 +54,6 @@ then_takes_on old mid a b c x y done (Err e) marks first second = tt
 pub sends_ok : {A B E : Type 0} (m : Seen) (out new_out : SinkState) (x : List ℕ) (done : A) (other : B) → Appends {E = E} out x (Ok done) new_out → Sends m out x (Ok other) m new_out
 sends_ok m out new_out x done other h = record { memory = refl; state = refl; flushed = refl; marks = refl; named = tt; count = h.count; holds = λ disks. h.holds }
 
-pub sends_err : {A B E : Type 0} (m : Seen) (out new_out : SinkState) (x : List ℕ) (e : E) → Appends {T = A} out x (Err e) new_out → Sends {A = B} m out x (Err StreamFailed) m new_out
-sends_err m out new_out x e h = record { memory = refl; state = refl; flushed = refl; marks = refl; named = tt; count = h.count; holds = tt }
-
 -- The same, where the second call sends a part of the machine as it then is.
 pub sends_next : {A B : Type 0} (old mid new : Seen) (out mid_out new_out : SinkState) (x z : List ℕ) (y : MachineState → List ℕ) (done : A) (result : Result B MigError) → x ++ y (state_of old) ≡ z → Sends old out x (Ok done) mid mid_out → Sends mid mid_out (y (state_of mid)) result new new_out → Sends old out z result new new_out
 sends_next old mid new out mid_out new_out x z y done result e first second =

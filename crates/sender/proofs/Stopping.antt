@@ -1,5 +1,5 @@
 -- Items sent one after another.
-use Rattle.std.proofs.Common.{◌≡◌, ◌≢◌, ◌^◌, ◌-◌, ℕ, zero, suc, add-one, ◌+◌, ◌<◌, ◌≤◌, List, [], ◌∷◌, ◌++◌, length, None, Ok, Err, Bool, true, false, cond, ◌&&◌, not, nat_lt, refl, ap, sym, subst, ◌∙◌, append_assoc, append-nil, ◌⊎◌, inl, inr, arith}
+use Rattle.std.proofs.Common.{◌≡◌, ◌≢◌, ◌^◌, ◌-◌, ℕ, zero, suc, add-one, ◌+◌, ◌<◌, ◌≤◌, List, [], ◌∷◌, ◌++◌, length, None, Err, Bool, true, false, cond, ◌&&◌, not, nat_lt, refl, ap, sym, subst, ◌∙◌, append_assoc, append-nil, ◌⊎◌, inl, inr, arith}
 use Rattle.sender.proofs.Living.{member_below}
 use Rattle.std.proofs.lemmas.List.{get_or-set_same, get_or-set_other, length-set}
 use Rattle.dirtylog.specs.Members.{HasNone, IsLeast}
@@ -231,16 +231,6 @@ short_of old mid new at pages sent errors.AlreadyStopped h below member s = absu
 short_of old mid new at pages sent errors.NotBegun h below member s = absurd s
 short_of old mid new at pages sent errors.AlreadyBegun h below member s = absurd s
 short_of old mid new at pages sent errors.RoundsEnded h below member s = absurd s
-
-pub all_along : (old mid : LiveSeen) (at pages : ℕ) (sent : Stopped) → Along old at pages sent mid → at ≡ length old.due → SendsAll old (Ok sent) mid
-all_along old mid at pages sent h all =
-    let n = size_of (layout_of (now old)) in
-    let e : at ≡ n = all ∙ h.places.due_size in
-    record {
-      are_sent = (let P : ℕ → Type 0 = λ x. AreSent old x mid in subst P e h.are_sent);
-      pages_are = h.pages_are ∙ ap (pages_among (layout_of (now old)) (in_either old)) e;
-      sectors_are = h.sectors_are ∙ ap (sectors_among (layout_of (now old)) (in_either old)) e;
-    }
 
 -- The least due item.
 pub due_below : (s : LiveSeen) (i : ℕ) → HasPlaces s → IsLeast s.due 0 i → i < size_of (layout_of (now s))
