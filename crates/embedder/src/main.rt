@@ -14,6 +14,7 @@ mod own_sink;
 mod registers;
 mod rings;
 mod streams;
+mod takings;
 mod texts;
 
 use anyhow::Result;
@@ -53,7 +54,9 @@ fn moves_agree(rt: &HostRuntime) -> Result<()> {
     streams::agree(alloc)?;
     say(rt, "streams, and a sink of our own")?;
     moves::agree(alloc)?;
-    say(rt, "machines that move")
+    say(rt, "machines that move")?;
+    takings::agree(alloc)?;
+    say(rt, "a stream that is taken while it grows")
 }
 
 fn main(rt: HostRuntime) -> Result<()> {

@@ -3,14 +3,13 @@ use Rattle.std.proofs.Common.{◌≡◌, ℕ, ◌+◌, ◌<◌, ◌≤◌, List,
 use Rattle.std.proofs.lemmas.List.{length-append, length-take-le, take_more}
 use Rattle.std.proofs.lemmas.List.Elements.{All-nil, All-push}
 use Rattle.dirtylog.specs.Members.{HasNone}
-use Rattle.sha2.specs.Hashers.{Holds256}
 use Rattle.machine.specs.Effect.{Effect}
 use Rattle.machine.specs.EffectLaws.{IsSameShape}
 use Rattle.machine.specs.Seen.{AreHonest, Marks, Seen, all_marks, state_of}
 use Rattle.machine.specs.Sound.{IsSound}
 use Rattle.machine.specs.State.{MachineState}
 use Rattle.machine.proofs.Numbering.{either_way}
-use Rattle.wire.specs.Sinks.{SinkState}
+use Rattle.wire.specs.Sinks.{Covers, SinkState}
 use Rattle.wire.specs.Stream.{IsStream}
 use Rattle.sender.specs.Calls.{Does, Serves}
 use Rattle.sender.specs.History.{History, has_fault, machine_after, nothing, onward, text, then_came}
@@ -52,7 +51,7 @@ pub record IsSending (machine : Seen) (events : List LiveEvent) (replies : List 
 same_shape : (m : MachineState) → IsSameShape m m
 same_shape m = record { ram = refl; devices = refl; disks = refl }
 
-pub sending_first : (machine : Seen) (events : List LiveEvent) (replies : List LiveReply) (s : LiveSeen) → replies ≡ [] → s.machine ≡ machine → s.phase ≡ phases.Fresh → HasNone s.due × HasNone s.dirty → Holds256 s.digest [] → s.out ≡ empty_writer → HasPlaces s → IsSending machine events replies false s
+pub sending_first : (machine : Seen) (events : List LiveEvent) (replies : List LiveReply) (s : LiveSeen) → replies ≡ [] → s.machine ≡ machine → s.phase ≡ phases.Fresh → HasNone s.due × HasNone s.dirty → Covers s.digest [] → s.out ≡ empty_writer → HasPlaces s → IsSending machine events replies false s
 sending_first machine events replies s none same phase empty digest out places = rw none (record {
   alike = (let P : Seen → Type 0 = λ x. AreAlike (all_marks machine) (all_marks x) in subst P (sym same) (alike_first (all_marks machine)));
   unsteady = no_replies (all_marks machine) (take 0 events);

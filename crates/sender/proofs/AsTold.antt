@@ -8,9 +8,7 @@ use Rattle.std.proofs.lemmas.List.{map-append, get_or-set_other, get_or-replicat
 use Rattle.std.proofs.lemmas.List.Elements.{All-set}
 use Rattle.std.proofs.lemmas.Option.{get_or_from_slice_get, slice_get_within}
 use Rattle.dirtylog.specs.Members.{HasNone, has}
-use Rattle.sha2.specs.Hashers.{Holds256}
 use Rattle.sha2.specs.Sha256.{sha256}
-use Rattle.sha2.specs.declared.Sha256.{Sha256}
 use Rattle.blk.specs.Sectors.{AreWhole, IsWhole, Sector}
 use Rattle.guestmem.specs.Among.{Among}
 use Rattle.guestmem.specs.Item as items
@@ -28,7 +26,7 @@ use Rattle.machine.proofs.Within.{sound_by}
 use Rattle.wire.specs.Header.{header, opening_of}
 use Rattle.wire.specs.Records as records
 use Rattle.wire.specs.Records.{Record, commit, page_record, round_end, spelled_record}
-use Rattle.wire.specs.Sinks.{SinkState}
+use Rattle.wire.specs.Sinks.{Covers, Digested, SinkState}
 use Rattle.wire.specs.Stream.{IsStream, content_of, device_texts, last_named, or_else, record_of, rounds, shapes_in, texts}
 use Rattle.wire.proofs.Bodies.{second_has_all}
 use Rattle.wire.proofs.ItemRecords.{named-append, named-snoc}
@@ -441,9 +439,9 @@ pub record IsWriting (out : SinkState) (s : LiveSeen) : Type 0 where
   pub text : List ℕ
   pub writes : Writes s.phase s text
   pub held : s.phase ≢ phases.Failed → IsTrue out.honest → IsTrue s.out.honest × (s.out.held ≡ out.held ++ text)
-  pub taken : s.phase ≢ phases.Failed → s.phase ≢ phases.Stopped → Holds256 s.digest text
+  pub taken : s.phase ≢ phases.Failed → s.phase ≢ phases.Stopped → Covers s.digest text
 
-pub writing_first : (s : LiveSeen) (out : SinkState) → s.phase ≡ phases.Fresh → Holds256 s.digest [] → s.out ≡ out → IsWriting out s
+pub writing_first : (s : LiveSeen) (out : SinkState) → s.phase ≡ phases.Fresh → Covers s.digest [] → s.out ≡ out → IsWriting out s
 writing_first s out fresh digest same = record {
   text = [];
   writes = (let P : Phase → Type 0 = λ p. Writes p s [] in subst P (sym fresh) refl);
@@ -475,7 +473,7 @@ stays out old new g phase sink digest writes = record {
   text = g.text;
   writes = (let P : Phase → Type 0 = λ p. Writes p new g.text in subst P (sym phase) writes);
   held = λ going honest. (let before = g.held (λ e. going (phase ∙ e)) honest in ((let P : SinkState → Type 0 = λ o. IsTrue o.honest in subst P (sym sink) before.0), ap (λ (o : SinkState). o.held) sink ∙ before.1));
-  taken = λ going still_open. (let P : Sha256 → Type 0 = λ d. Holds256 d g.text in subst P (sym digest) (g.taken (λ e. going (phase ∙ e)) (λ e. still_open (phase ∙ e))));
+  taken = λ going still_open. (let P : Digested → Type 0 = λ d. Covers d g.text in subst P (sym digest) (g.taken (λ e. going (phase ∙ e)) (λ e. still_open (phase ∙ e))));
 }
 
 is_open : (p : Phase) (k : ℕ) → p ≡ phases.Open k → (p ≢ phases.Failed) × (p ≢ phases.Stopped)
@@ -596,7 +594,7 @@ pub record HasWritten (out : SinkState) (replies : List LiveReply) (s : LiveSeen
   pub stopped : HasStopped replies → s.phase ≡ phases.Stopped
   pub flushed : IsFlushedIfStopped s
 
-pub written_first : (s : LiveSeen) (out : SinkState) (replies : List LiveReply) → replies ≡ [] → s.phase ≡ phases.Fresh → Holds256 s.digest [] → s.out ≡ out → HasWritten out replies s
+pub written_first : (s : LiveSeen) (out : SinkState) (replies : List LiveReply) → replies ≡ [] → s.phase ≡ phases.Fresh → Covers s.digest [] → s.out ≡ out → HasWritten out replies s
 written_first s out replies none fresh digest same = rw none (record {
   writing = writing_first s out fresh digest same;
   stopped = λ wrong. absurd wrong;

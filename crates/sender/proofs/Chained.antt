@@ -1,9 +1,8 @@
 -- Calls that were served, one after another.
 use Rattle.std.proofs.Common.{◌≡◌, List, [], ◌∷◌, ◌++◌, length, take, refl, subst, arith}
 use Rattle.dirtylog.specs.Members.{HasNone}
-use Rattle.sha2.specs.Hashers.{Holds256}
 use Rattle.machine.specs.Seen.{Seen}
-use Rattle.wire.specs.Sinks.{SinkState}
+use Rattle.wire.specs.Sinks.{Covers, SinkState}
 use Rattle.sender.specs.Calls.{Serves}
 use Rattle.sender.specs.LiveState.{HasPlaces, LiveSeen}
 use Rattle.sender.specs.Ran.{CallsServed, IsUnserved, WasServed}
@@ -28,7 +27,7 @@ pub record Chain (machine : Seen) (out : SinkState) (events : List LiveEvent) (r
   pub unserved : IsUnserved machine out before
   pub served : CallsServed before events replies s
 
-pub chain_first : (s : LiveSeen) (machine : Seen) (out : SinkState) (events : List LiveEvent) (replies : List LiveReply) → replies ≡ [] → s.machine ≡ machine → s.phase ≡ phases.Fresh → HasNone s.due × HasNone s.dirty → Holds256 s.digest [] → s.out ≡ out → HasPlaces s
+pub chain_first : (s : LiveSeen) (machine : Seen) (out : SinkState) (events : List LiveEvent) (replies : List LiveReply) → replies ≡ [] → s.machine ≡ machine → s.phase ≡ phases.Fresh → HasNone s.due × HasNone s.dirty → Covers s.digest [] → s.out ≡ out → HasPlaces s
     → Chain machine out events replies s
 chain_first s machine out events replies none same fresh empty digest sink places = rw none (record {
   before = s;

@@ -1,10 +1,8 @@
 -- A flush of a disk beside all steps, and the history.
-use Rattle.std.proofs.Common.{ℕ, List, Bool, ap, sym, subst, ◌∙◌}
+use Rattle.std.proofs.Common.{ℕ, List, Bool, sym, subst, ◌∙◌}
 use Rattle.std.specs.Prelude.{Result, Ok, Err}
 use Rattle.machine.specs.EffectLaws.{IsSameShape}
-use Rattle.machine.specs.Layout.{firsts_of, layout_of, size_of}
 use Rattle.machine.specs.Seen.{AreHonest, Seen, all_marks}
-use Rattle.machine.specs.Sound.{IsSound}
 use Rattle.machine.specs.State.{MachineState}
 use Rattle.machine.specs.Unsynced.{FlushesDisk}
 use Rattle.wire.specs.Sinks.{SinkState}
@@ -15,6 +13,7 @@ use Rattle.sender.specs.Stopping.{IsLive}
 use Rattle.sender.specs.Unsynced.{FlushFollows}
 use Rattle.sender.specs.declared.phase.Phase.{Phase}
 use Rattle.sender.specs.declared.phase.Phase.TheVariants as phases
+use Rattle.sender.proofs.Living.{live_same}
 use Rattle.sender.proofs.Relating.{honest_once}
 
 honest_after : {T E : Type 0} (old : Seen) (dev : ℕ) (result : Result T E) (new : Seen) → FlushesDisk old dev result new → AreHonest old → AreHonest new
@@ -49,15 +48,4 @@ flush_follows m h out dev result old new rel f = rw f.rest (follows_with m h out
 
 -- What a machine that is being migrated keeps.
 pub live_flushed : {T E : Type 0} (old new : Seen) (phase : Phase) (due dirty : List Bool) (firsts : List ℕ) (at dev : ℕ) (result : Result T E) → IsLive old phase due dirty firsts at → FlushesDisk old dev result new → IsLive new phase due dirty firsts at
-live_flushed old new phase due dirty firsts at dev result live f = record {
-  sound = subst IsSound (sym f.state) live.sound;
-  few = live.few;
-  room = record {
-    due_size = live.room.due_size ∙ ap (λ (m : MachineState). size_of (layout_of m)) (sym f.state);
-    dirty_size = live.room.dirty_size ∙ ap (λ (m : MachineState). size_of (layout_of m)) (sym f.state);
-    firsts_are = live.room.firsts_are ∙ ap (λ (m : MachineState). firsts_of (layout_of m)) (sym f.state);
-  };
-  round = live.round;
-  reached = live.reached;
-  passed = live.passed;
-}
+live_flushed old new phase due dirty firsts at dev result live f = live_same old new phase due dirty firsts at live f.state

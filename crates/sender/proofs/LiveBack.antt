@@ -3,7 +3,6 @@ use Rattle.std.proofs.Common.{◌≡◌, ◌≢◌, ℕ, suc, ◌+◌, ◌-◌, 
 use Rattle.std.proofs.lemmas.List.{append-nil, length-set}
 use Rattle.region.specs.Address.{address}
 use Rattle.region.specs.declared.region.Region.{Region}
-use Rattle.sha2.specs.declared.Sha256.{Sha256}
 use Rattle.guestmem.specs.Item.{Item, after_all, pages_between}
 use Rattle.guestmem.specs.Lent.{AreBelow, given_back, pages_written}
 use Rattle.guestmem.specs.Memory.{IsMemory, Memory}
@@ -24,7 +23,7 @@ use Rattle.machine.specs.declared.event.Event.TheVariants.{MemWrite}
 use Rattle.machine.specs.declared.reply.Reply.TheVariants.{Done}
 use Rattle.machine.proofs.GivenBack.{memory_back, page_logged, still_memory, with_memory}
 use Rattle.machine.proofs.Numbering.{same_layout}
-use Rattle.wire.specs.Sinks.{SinkState}
+use Rattle.wire.specs.Sinks.{Digested, SinkState}
 use Rattle.wire.specs.Stream.{texts}
 use Rattle.sender.specs.Calls.{Serves, with_items}
 use Rattle.sender.specs.Dirty.{set_once, set_order}
@@ -129,7 +128,7 @@ all_related m h out l bytes (n ∷ pages) rel ready =
     }
 
 -- What is given back of it.
-same_live : (ds es : List DeviceSeen) (x y : Memory) (a b : Phase) (due left : List Bool) (s t : List Bool) (g k : Sha256) (o q : SinkState) (pages : List ℕ) → es ≡ ds → x ≡ y → b ≡ a → left ≡ due → t ≡ s → k ≡ g → q ≡ o
+same_live : (ds es : List DeviceSeen) (x y : Memory) (a b : Phase) (due left : List Bool) (s t : List Bool) (g k : Digested) (o q : SinkState) (pages : List ℕ) → es ≡ ds → x ≡ y → b ≡ a → left ≡ due → t ≡ s → k ≡ g → q ≡ o
     → ◌≡◌ {A = LiveSeen} (record { machine = record { memory = y; devices = ds }; phase = a; due = due; dirty = with_pages s pages; digest = g; out = o }) (record { machine = record { memory = x; devices = es }; phase = b; due = left; dirty = with_pages t pages; digest = k; out = q })
 same_live ds es x y a b due left s t g k o q pages d e f u v w z = rw (d, e, f, u, v, w, z) refl
 

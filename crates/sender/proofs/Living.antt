@@ -1,30 +1,31 @@
 -- A machine that is sent, and its sets, after each call.
-use Rattle.std.proofs.Common.{◌≡◌, ◌≢◌, ℕ, zero, suc, ◌+◌, ◌<◌, ◌≤◌, ◌^◌, Bool, true, false, List, [], ◌∷◌, inl, inr, ◌⊎◌, length, map, replicate, set, None, refl, sym, ap, subst, ◌∙◌, arith}
+use Rattle.std.proofs.Common.{◌≡◌, ◌≢◌, ℕ, zero, suc, ◌+◌, ◌<◌, ◌≤◌, ◌^◌, Bool, true, false, List, [], ◌∷◌, inl, inr, ◌⊎◌, length, map, replicate, set, None, Some, refl, sym, ap, subst, ◌∙◌, arith}
 use Rattle.std.proofs.lemmas.Bool.{eq-eqb}
-use Rattle.std.proofs.lemmas.List.{get_or-set_same, length-set, length-replicate}
-use Rattle.dirtylog.specs.Members.{HasNone, IsLeast, has}
-use Rattle.sha2.specs.declared.Sha256.{Sha256}
+use Rattle.std.proofs.lemmas.List.{length-set, length-replicate}
+use Rattle.dirtylog.specs.Members.{HasNone, has}
 use Rattle.guestmem.specs.Item.{Item, after_all, page, sector}
 use Rattle.machine.specs.Applied.{IsAppliedLogged, MayItems}
 use Rattle.machine.specs.Effect.{items_of}
-use Rattle.machine.specs.Layout.{IsItemIn, firsts_of, layout_of, number_in, number_of, size_of}
+use Rattle.machine.specs.Layout.{IsItemIn, Layout, firsts_of, layout_of, number_in, number_of, size_of}
 use Rattle.machine.specs.Seen.{Seen, state_of}
 use Rattle.machine.specs.Sound.{IsSound}
 use Rattle.machine.specs.State.{MachineState}
 use Rattle.machine.specs.declared.event.Event.{Event}
 use Rattle.machine.specs.declared.reply.Reply.{Reply}
 use Rattle.machine.proofs.Numbering.{in_layout, number_below, same_layout}
-use Rattle.wire.specs.Sinks.{SinkState}
+use Rattle.wire.specs.Sinks.{Digested, SinkState}
 use Rattle.sender.specs.Calls.{EndsRound, Serves, with_items}
 use Rattle.sender.specs.Dirty.{HasFirst, after_taking, may_take}
-use Rattle.sender.specs.LiveState.{HasPlaces, LiveSeen, last_round, refusal_for}
-use Rattle.sender.specs.Stopping.{IsLive, RoundFits}
+use Rattle.sender.specs.LiveState.{LiveSeen, last_round, refusal_for}
+use Rattle.sender.specs.Stopping.{IsLive, RoundFits, SetsFit}
 use Rattle.sender.specs.declared.dirty.Dirty.{Dirty}
 use Rattle.sender.specs.declared.phase.Phase.{Phase}
 use Rattle.sender.specs.declared.phase.Phase.TheVariants as phases
 use Rattle.sender.specs.declared.event.LiveEvent.{LiveEvent}
 use Rattle.sender.specs.declared.event.LiveEvent.TheVariants.{Guest, EndRound}
 use Rattle.sender.specs.declared.event.LiveReply.TheVariants as r
+use Rattle.sender.specs.declared.mig_error.MigError.{MigError}
+use Rattle.sender.specs.declared.mig_error.MigError.TheVariants.{AlreadyStopped}
 use Rattle.sender.proofs.Numbers.{length-firsts}
 use Rattle.sender.proofs.Parts.{within_length}
 
@@ -53,13 +54,6 @@ still_none (b ∷ s) zero (suc k) none = none
 still_none (b ∷ s) (suc n) zero none = none
 still_none (b ∷ s) (suc n) (suc k) none = still_none s n k none
 
--- Nothing up to the least member is left once it is taken out.
-behind : (s : List Bool) (n k : ℕ) → n < length s → IsLeast s 0 n → k ≤ n → has (set s n false) k ≡ false
-behind s n k inside least le = elim (le_or n k) as (λ _. has (set s n false) k ≡ false) [
-  | inl past ↦ let same : k ≡ n = omega (arith, past, le) in rw same (get_or-set_same s n false false inside)
-  | inr before ↦ still_none s n k (least.least k (omega arith) before)
-]
-
 -- A new machine that is sent.
 pub live_first : (machine : Seen) (left set_ : List Bool) (firsts : List ℕ) (size : ℕ) → IsSound (state_of machine) → firsts ≡ firsts_of (layout_of (state_of machine)) → size ≡ size_of (layout_of (state_of machine)) → size < 2 ^ 64
     → left ≡ replicate size false → set_ ≡ replicate size false → IsLive machine phases.Fresh left set_ firsts 0
@@ -68,67 +62,60 @@ live_first machine left set_ firsts size sound are is few l s =
     let set_long : length set_ ≡ size = ap length s ∙ length-replicate size false in
     record {
       sound = sound;
-      few = omega (arith, left_long, few);
-      room = record { due_size = left_long ∙ is; dirty_size = set_long ∙ is; firsts_are = are };
-      round = tt;
-      reached = omega arith;
-      passed = λ k below. absurd (omega (arith, below));
+      sets = record {
+        few = omega (arith, left_long, few);
+        due_size = left_long ∙ is;
+        dirty_size = set_long ∙ is;
+        firsts_are = are;
+        round = tt;
+        reached = omega arith;
+        passed = λ k below. absurd (omega (arith, below));
+      };
     }
 
-pub live_places : (s : LiveSeen) (firsts : List ℕ) (at : ℕ) → IsLive s.machine s.phase s.due s.dirty firsts at → HasPlaces s
-live_places s firsts at live = record { sound = live.sound; few = live.few; due_size = live.room.due_size; dirty_size = live.room.dirty_size }
-
--- The machine is of the same shape, the sets keep their lengths, and the next due item is looked for from another number on.
-live_next : (old new : Seen) (p q : Phase) (due new_due dirty new_dirty : List Bool) (firsts new_firsts : List ℕ) (at new_at : ℕ) → IsLive old p due dirty firsts at → IsSound (state_of new) → layout_of (state_of new) ≡ layout_of (state_of old) → length new_due ≡ length due → length new_dirty ≡ length dirty
-    → new_firsts ≡ firsts → RoundFits q → new_at ≤ length new_due → ((k : ℕ) → k < new_at → has new_due k ≡ false) → IsLive new q new_due new_dirty new_firsts new_at
-live_next old new p q due new_due dirty new_dirty firsts new_firsts at new_at live sound same due_long dirty_long firsts_same round reached passed = record {
-  sound = sound;
-  few = omega (arith, due_long, live.few);
-  room = record {
-    due_size = due_long ∙ live.room.due_size ∙ ap size_of (sym same);
-    dirty_size = dirty_long ∙ live.room.dirty_size ∙ ap size_of (sym same);
-    firsts_are = firsts_same ∙ live.room.firsts_are ∙ ap firsts_of (sym same);
-  };
+-- The sets keep their lengths, and the next due item is looked for from another number on.
+pub fit_next : (l : Layout) (p q : Phase) (due new_due dirty new_dirty : List Bool) (firsts new_firsts : List ℕ) (at new_at : ℕ) → SetsFit l p due dirty firsts at → length new_due ≡ length due → length new_dirty ≡ length dirty → new_firsts ≡ firsts → RoundFits q
+    → new_at ≤ length new_due → ((k : ℕ) → k < new_at → has new_due k ≡ false) → SetsFit l q new_due new_dirty new_firsts new_at
+fit_next l p q due new_due dirty new_dirty firsts new_firsts at new_at sets due_long dirty_long firsts_same round reached passed = record {
+  few = omega (arith, due_long, sets.few);
+  due_size = due_long ∙ sets.due_size;
+  dirty_size = dirty_long ∙ sets.dirty_size;
+  firsts_are = firsts_same ∙ sets.firsts_are;
   round = round;
   reached = reached;
   passed = passed;
 }
 
+-- The machine is another of the same layout.
+pub live_on : (old new : Seen) (p : Phase) (due dirty : List Bool) (firsts : List ℕ) (at : ℕ) → IsLive old p due dirty firsts at → IsSound (state_of new) → layout_of (state_of new) ≡ layout_of (state_of old) → IsLive new p due dirty firsts at
+live_on old new p due dirty firsts at live sound same = record { sound = sound; sets = subst (λ l. SetsFit l p due dirty firsts at) (sym same) live.sets }
+
+pub live_same : (old new : Seen) (p : Phase) (due dirty : List Bool) (firsts : List ℕ) (at : ℕ) → IsLive old p due dirty firsts at → state_of new ≡ state_of old → IsLive new p due dirty firsts at
+live_same old new p due dirty firsts at live state = live_on old new p due dirty firsts at live (subst IsSound (sym state) live.sound) (ap layout_of state)
+
 -- Only the phase is another, or the marks of the disks.
 pub live_again : (old new : Seen) (p q : Phase) (due dirty : List Bool) (firsts : List ℕ) (at : ℕ) → IsLive old p due dirty firsts at → state_of new ≡ state_of old → RoundFits q → IsLive new q due dirty firsts at
 live_again old new p q due dirty firsts at live state round =
-    live_next old new p q due due dirty dirty firsts firsts at at live (subst IsSound (sym state) live.sound) (ap layout_of state) refl refl refl round live.reached live.passed
+    let same = live_same old new p due dirty firsts at live state in
+    let sets = same.sets in
+    record { sound = same.sound; sets = fit_next (layout_of (state_of new)) p q due due dirty dirty firsts firsts at at sets refl refl refl round sets.reached sets.passed }
 
 -- An item left both sets.
-pub live_sent : (old new : Seen) (p : Phase) (due new_due dirty new_dirty : List Bool) (firsts : List ℕ) (at n : ℕ) → IsLive old p due dirty firsts at → state_of new ≡ state_of old → new_due ≡ set due n false → new_dirty ≡ set dirty n false
+pub live_sent : (old new : Seen) (p : Phase) (due new_due dirty new_dirty : List Bool) (firsts : List ℕ) (at n : ℕ) → IsLive old p due dirty firsts at → state_of new ≡ state_of old → new_due ≡ set due n false → length new_dirty ≡ length dirty
     → IsLive new p new_due new_dirty firsts at
-live_sent old new p due new_due dirty new_dirty firsts at n live state d e =
+live_sent old new p due new_due dirty new_dirty firsts at n live state d dirty_long =
+    let same = live_same old new p due dirty firsts at live state in
+    let sets = same.sets in
     let due_long : length new_due ≡ length due = ap length d ∙ length-set due n false in
-    live_next old new p p due new_due dirty new_dirty firsts firsts at at live (subst IsSound (sym state) live.sound) (ap layout_of state) due_long (ap length e ∙ length-set dirty n false) refl live.round
-    (omega (arith, due_long, live.reached)) (λ k below. rw d (still_none due n k (live.passed k below)))
-
--- The next due item is looked for behind the one that was sent.
-pub live_behind : (machine : Seen) (p : Phase) (old due dirty : List Bool) (firsts : List ℕ) (at next n : ℕ) → IsLive machine p due dirty firsts at → due ≡ set old n false → length old ≡ length due → IsLeast old 0 n → next ≡ n + 1
-    → IsLive machine p due dirty firsts next
-live_behind machine p old due dirty firsts at next n live d long least is =
-    let inside : n < length old = member_below old n least.member in
-    live_next machine machine p p due due dirty dirty firsts firsts at next live live.sound refl refl refl refl live.round (omega (arith, is, inside, long)) (λ k below. rw d (behind old n k inside least (omega (arith, is, below))))
+    record {
+      sound = same.sound;
+      sets = fit_next (layout_of (state_of new)) p p due new_due dirty new_dirty firsts firsts at at sets due_long dirty_long refl sets.round (omega (arith, due_long, sets.reached)) (λ k below. rw d (still_none due n k (sets.passed k below)));
+    }
 
 -- Every set is another.
 pub live_begun : (machine : Seen) (p q : Phase) (due new_due dirty new_dirty : List Bool) (firsts : List ℕ) (at : ℕ) → IsLive machine p due dirty firsts at → length new_due ≡ length due → length new_dirty ≡ length dirty → RoundFits q → IsLive machine q new_due new_dirty firsts 0
 live_begun machine p q due new_due dirty new_dirty firsts at live due_long dirty_long round =
-    live_next machine machine p q due new_due dirty new_dirty firsts firsts at 0 live live.sound refl due_long dirty_long refl round (omega arith) (λ k below. absurd (omega (arith, below)))
-
--- The least due item, where none below a number is due.
-pub least_of_all : (s : List Bool) (at n : ℕ) → ((k : ℕ) → k < at → has s k ≡ false) → IsLeast s at n → IsLeast s 0 n
-least_of_all s at n none least = record {
-  reached = omega arith;
-  member = least.member;
-  least = λ k _ below. elim (le_or at k) as (λ _. has s k ≡ false) [ inl past ↦ least.least k past below | inr before ↦ none k before ];
-}
-
-pub none_of_all : (s : List Bool) (at : ℕ) → ((k : ℕ) → k < at → has s k ≡ false) → ((k : ℕ) → at ≤ k → has s k ≡ false) → HasNone s
-none_of_all s at before after = λ k. elim (le_or at k) as (λ _. has s k ≡ false) [ inl past ↦ after k past | inr under ↦ before k under ]
+    record { sound = live.sound; sets = fit_next (layout_of (state_of machine)) p q due new_due dirty new_dirty firsts firsts at 0 live.sets due_long dirty_long refl round (omega arith) (λ k below. absurd (omega (arith, below))) }
 
 -- The log may be told of every item.
 first_of : (m : MachineState) (firsts : List ℕ) (i : Item) → firsts ≡ firsts_of (layout_of m) → IsItemIn (layout_of m) i → HasFirst firsts i
@@ -140,13 +127,13 @@ first_of m firsts (sector dev n) are within =
 pub may_all : (machine : Seen) (d : Dirty) (p : Phase) (due : List Bool) (at : ℕ) → IsLive machine p due d.set d.firsts.items at → MayItems may_take d (state_of machine)
 may_all machine d p due at live = λ i there.
     let m = state_of machine in
-    let room = live.room in
+    let sets = live.sets in
     let within : IsItemIn (layout_of m) i = in_layout m i live.sound.whole_pages there in
-    let below : number_of (layout_of m) i < length d.set = subst (λ n. number_of (layout_of m) i < n) (sym room.dirty_size) (number_below (layout_of m) i within) in
+    let below : number_of (layout_of m) i < length d.set = subst (λ n. number_of (layout_of m) i < n) (sym sets.dirty_size) (number_below (layout_of m) i within) in
     record {
-      first = first_of m d.firsts.items i room.firsts_are within;
-      place = subst (λ firsts. number_in firsts i < length d.set) (sym room.firsts_are) below;
-      few = omega (arith, live.few, room.due_size, room.dirty_size);
+      first = first_of m d.firsts.items i sets.firsts_are within;
+      place = subst (λ firsts. number_in firsts i < length d.set) (sym sets.firsts_are) below;
+      few = omega (arith, sets.few, sets.due_size, sets.dirty_size);
     }
 
 -- The log after a step.
@@ -164,19 +151,29 @@ guest_free (phases.Open k) e open_still = refl
 guest_free phases.Stopped e open_still = absurd (open_still refl)
 guest_free phases.Failed e open_still = refl
 
-module _ (machine next : Seen) (d new : Dirty) (phase : Phase) (due : List Bool) (at : ℕ) (digest : Sha256) (out : SinkState) (e : Event) (reply : Reply) (live : IsLive machine phase due d.set d.firsts.items at) (h : IsAppliedLogged after_taking machine d e reply next new) where
+-- After a stop that closed the stream the guest's events are refused.
+pub guest_refused : (s : LiveSeen) (e : Event) (x : MigError) → (x ≡ AlreadyStopped) × (s.phase ≡ phases.Stopped) → Serves s (Guest e) (r.Mig x) s
+guest_refused s e x closed =
+    let refused : refusal_for s.phase (Guest e) ≡ Some AlreadyStopped = ap (λ (p : Phase). refusal_for p (Guest e)) closed.1 in
+    rw refused (ap (λ (y : MigError). r.Mig y) closed.0, refl)
+
+module _ (machine next : Seen) (d new : Dirty) (phase : Phase) (due : List Bool) (at : ℕ) (digest : Digested) (out : SinkState) (e : Event) (reply : Reply) (live : IsLive machine phase due d.set d.firsts.items at) (h : IsAppliedLogged after_taking machine d e reply next new) where
   noted : new ≡ record d { set = with_items d.firsts.items d.set (items_of h.is_applied.effect) }
   noted = h.logged ∙ all_noted d (items_of h.is_applied.effect)
 
   pub live_guest : IsLive next phase due new.set new.firsts.items at
   live_guest =
-      live_next machine next phase phase due due d.set new.set d.firsts.items new.firsts.items at at live h.is_applied.sound (same_layout (state_of machine) (state_of next) h.is_applied.shape) refl
-      (ap (λ (x : Dirty). length x.set) noted ∙ length-with_items d.firsts.items d.set (items_of h.is_applied.effect)) (ap (λ (x : Dirty). x.firsts.items) noted) live.round live.reached live.passed
+      let same = live_on machine next phase due d.set d.firsts.items at live h.is_applied.sound (same_layout (state_of machine) (state_of next) h.is_applied.shape) in
+      let long = ap (λ (x : Dirty). length x.set) noted ∙ length-with_items d.firsts.items d.set (items_of h.is_applied.effect) in
+      record {
+        sound = same.sound;
+        sets = fit_next (layout_of (state_of next)) phase phase due due d.set new.set d.firsts.items new.firsts.items at at same.sets refl long (ap (λ (x : Dirty). x.firsts.items) noted) same.sets.round same.sets.reached same.sets.passed;
+      }
 
   pub guest_served : phase ≢ phases.Stopped → Serves (record { machine = machine; phase = phase; due = due; dirty = d.set; digest = digest; out = out }) (Guest e) (r.Guest reply) (record { machine = next; phase = phase; due = due; dirty = new.set; digest = digest; out = out })
   guest_served open_still = rw (guest_free phase e open_still) (record {
     is_applied = h.is_applied;
-    dirty = ap (λ (x : Dirty). x.set) noted ∙ ap (λ (fs : List ℕ). with_items fs d.set (items_of h.is_applied.effect)) live.room.firsts_are;
+    dirty = ap (λ (x : Dirty). x.set) noted ∙ ap (λ (fs : List ℕ). with_items fs d.set (items_of h.is_applied.effect)) live.sets.firsts_are;
     rest = refl;
   })
 

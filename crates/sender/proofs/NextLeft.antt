@@ -1,7 +1,7 @@
 -- The next item of two sets that are gone over side by side.
 use Rattle.std.proofs.Common.{◌≡◌, ◌≢◌, ℕ, ◌+◌, ◌-◌, ◌<◌, ◌≤◌, List, length, set, Bool, true, false, Option, Some, None, min, nat_lt, refl, ap, sym, subst, ◌∙◌, ◌⊎◌, inl, inr, arith}
 use Rattle.std.specs.Prelude.{◌||◌, Err}
-use Rattle.std.proofs.lemmas.Bool.{or_parts, true≢false}
+use Rattle.std.proofs.lemmas.Bool.{true≢false}
 use Rattle.std.proofs.lemmas.List.{get_or-set_other}
 use Rattle.dirtylog.specs.Members.{IsLeastFrom, has}
 use Rattle.machine.specs.Layout.{item_at, layout_of, pages_of}
@@ -9,7 +9,7 @@ use Rattle.machine.proofs.Numbering.{either_way}
 use Rattle.sender.specs.Calls.{AreCleared, in_either}
 use Rattle.sender.specs.LiveState.{HasPlaces, LiveSeen, now}
 use Rattle.sender.specs.Reads.{FailedCalls, ReadsBelow, ReadsItem}
-use Rattle.sender.specs.Stopping.{HasNoneUpTo, SendsItem, SendsOk, lesser, one_more}
+use Rattle.sender.specs.Stopping.{SendsItem, SendsOk, lesser, one_more}
 use Rattle.sender.specs.declared.event.Item.{Item}
 use Rattle.sender.specs.declared.event.Stopped.{Stopped}
 use Rattle.sender.specs.declared.mig_error.MigError.{MigError}
@@ -115,13 +115,6 @@ module _ (old mid : LiveSeen) (due dirty : Option ℕ) (n pages : ℕ) (sent : S
       → FailedCalls called old e new
   reads_failed called new e before one s =
       failed_at_item called old mid new n e (omega (arith, next_inside, along_here.places.due_size)) along_here.are_sent.machine.state s (reads_next called new before one)
-
--- After an item was sent.
-pub gone_due : (old new : LiveSeen) (n pages : ℕ) (sent : Stopped) → Along old (n + 1) pages sent new → HasNoneUpTo new.due n
-gone_due old new n pages sent h = λ k le. (or_parts (has new.due k) (has new.dirty k) (h.are_sent.sets.gone k (omega (arith, le)))).0
-
-pub gone_dirty : (old new : LiveSeen) (n pages : ℕ) (sent : Stopped) → Along old (n + 1) pages sent new → HasNoneUpTo new.dirty n
-gone_dirty old new n pages sent h = λ k le. (or_parts (has new.due k) (has new.dirty k) (h.are_sent.sets.gone k (omega (arith, le)))).1
 
 module _ (old new : LiveSeen) (due dirty : Option ℕ) (n pages : ℕ) (sent : Stopped) (along : Along old (n + 1) pages sent new) (inside : n < length old.due) (h : IsLeastFrom new.due 0 due) (i : IsLeastFrom new.dirty 0 dirty) where
   not_behind : (found : Option ℕ) → lesser due dirty ≡ found → n + 1 ≤ reached found (length old.due)

@@ -1,5 +1,5 @@
 -- The numbering of a machine's items, disk by disk.
-use Rattle.std.proofs.Common.{◌≡◌, ◌≢◌, ℕ, zero, suc, ◌+◌, ◌-◌, ◌*◌, ◌<◌, ◌≤◌, true, false, List, [], ◌∷◌, ◌++◌, length, map, take, drop, get_or, ltb, eqb, refl, sym, ap, ◌∙◌, arith}
+use Rattle.std.proofs.Common.{◌≡◌, ℕ, zero, suc, ◌+◌, ◌-◌, ◌*◌, ◌<◌, ◌≤◌, true, false, List, [], ◌∷◌, ◌++◌, length, map, take, drop, get_or, ltb, eqb, refl, sym, ap, ◌∙◌, arith}
 use Rattle.std.proofs.lemmas.Bool.{eqb-true, eq-eqb}
 use Rattle.std.proofs.lemmas.List.{length-map, take_more}
 use Rattle.std.specs.Prelude.{◌↔◌}
@@ -62,19 +62,6 @@ firsts_all m dev firsts sound end are =
     let long = length-firsts (map length m.disks) (pages_of m) in
     are ∙ all_taken (firsts_of (layout_of m)) dev (omega (arith, end, long, sizes_long m sound))
 
--- Whether these are the first numbers.
-pub wrong_length : (m : MachineState) (firsts : List ℕ) (count : ℕ) → IsSound m → count ≡ length m.devices → length firsts ≢ count → firsts ≡ firsts_of (layout_of m) → ⊥
-wrong_length m firsts count sound counts differ are = differ (ap length are ∙ length-firsts (map length m.disks) (pages_of m) ∙ sizes_long m sound ∙ sym counts)
-
-pub wrong_number : (m : MachineState) (firsts : List ℕ) (dev first : ℕ) → IsAt m dev first → dev < length m.devices → get_or firsts dev 0 ≢ first → firsts ≡ firsts_of (layout_of m) → ⊥
-wrong_number m firsts dev first h below differ are =
-    let within : dev < length (map length m.disks) = omega (arith, below, sizes_long m h.sound) in
-    differ (ap (λ xs. get_or xs dev 0) are ∙ first_at (map length m.disks) (pages_of m) dev within ∙ sym h.is)
-
-pub same_more : (m : MachineState) (firsts : List ℕ) (dev first : ℕ) → IsAt m dev first → dev < length m.devices → length firsts ≡ length m.devices → get_or firsts dev 0 ≡ first → take dev firsts ≡ take dev (firsts_of (layout_of m))
-    → take (dev + 1) firsts ≡ take (dev + 1) (firsts_of (layout_of m))
-same_more m firsts dev first h below long is same = take_more firsts dev 0 (omega (arith, below, long)) ∙ rw (is, same) (sym (firsts_more m dev first h below))
-
 pub same_all : (m : MachineState) (firsts : List ℕ) (dev : ℕ) → IsSound m → dev ≡ length m.devices → length firsts ≡ length m.devices → take dev firsts ≡ take dev (firsts_of (layout_of m)) → firsts ≡ firsts_of (layout_of m)
 same_all m firsts dev sound end long same = firsts_all m dev firsts sound end (sym (all_taken firsts dev (omega (arith, end, long))) ∙ same)
 
@@ -103,9 +90,6 @@ seeks_first m number first sound is few from = record {
   from = from;
   item = rw (is, is_past number (pages_of m) (omega (arith, is, from))) refl;
 }
-
-pub item_page : (m : MachineState) (number : ℕ) → number < pages_of m → page number ≡ item_at (layout_of m) number
-item_page m number below = rw (is_below number (pages_of m) below) refl
 
 pub item_found : (m : MachineState) (number dev first size : ℕ) → Seeks m number dev first → dev < length m.devices → size ≡ size_on m dev → number - first < size → sector dev (number - first) ≡ item_at (layout_of m) number
 item_found m number dev first size h below is less =

@@ -1,21 +1,21 @@
 -- A machine that is being migrated, whose RAM is lent and given back.
-use Rattle.std.proofs.Common.{◌≡◌, ℕ, ◌*◌, ◌/◌, ◌<◌, Bool, true, List, [], ◌∷◌, length, map, set, refl, sym, ap, ◌∙◌, arith}
+use Rattle.std.proofs.Common.{◌≡◌, ℕ, ◌*◌, ◌/◌, ◌<◌, Bool, true, List, [], ◌∷◌, length, map, set, refl, sym, ap, subst, ◌∙◌, arith}
 use Rattle.std.proofs.lemmas.List.{length-set}
 use Rattle.guestmem.specs.Item.{MayPages, after_all, page}
 use Rattle.guestmem.specs.Lent.{page_items}
 use Rattle.guestmem.specs.Memory.{IsMemory}
-use Rattle.machine.specs.Layout.{Layout, firsts_of, layout_of, size_of}
+use Rattle.machine.specs.Layout.{Layout, layout_of, size_of}
 use Rattle.machine.specs.Parked.{ParkedSeen}
 use Rattle.machine.specs.Seen.{DeviceSeen, Seen, state_of}
 use Rattle.machine.specs.Sound.{IsSound}
 use Rattle.machine.proofs.Numbering.{number_below}
 use Rattle.sender.specs.Calls.{with_items}
 use Rattle.sender.specs.Dirty.{after_taking, may_take}
-use Rattle.sender.specs.Parked.{WasLive, parked_layout, with_pages}
-use Rattle.sender.specs.Stopping.{IsLive}
+use Rattle.sender.specs.Parked.{parked_layout, with_pages}
+use Rattle.sender.specs.Stopping.{IsLive, SetsFit}
 use Rattle.sender.specs.declared.dirty.Dirty.{Dirty}
 use Rattle.sender.specs.declared.phase.Phase.{Phase}
-use Rattle.sender.proofs.Living.{all_noted}
+use Rattle.sender.proofs.Living.{all_noted, fit_next}
 
 same_parts : (a b : ℕ) (xs ys : List ℕ) → a ≡ b → xs ≡ ys → ◌≡◌ {A = Layout} (record { pages = a; disks = xs }) (record { pages = b; disks = ys })
 same_parts a b xs ys e f = rw (e, f) refl
@@ -24,39 +24,20 @@ layout_is : (m : Seen) (p : ParkedSeen) → length m.memory.bytes ≡ 4096 * len
 layout_is m p whole devices =
     same_parts (length m.memory.bytes / 4096) (length p.versions) _ _ (omega (arith, whole)) (ap (λ (ds : List DeviceSeen). map length (map (λ (d : DeviceSeen). d.sectors) ds)) (sym devices))
 
+-- The sets are those of the same layout, RAM lent or not.
 pub was_live : (m : Seen) (p : ParkedSeen) (phase : Phase) (due dirty : List Bool) (firsts : List ℕ) (at : ℕ) → IsLive m phase due dirty firsts at → IsMemory m.memory → p.versions ≡ m.memory.versions → p.devices ≡ m.devices
-    → WasLive p phase due dirty firsts at
-was_live m p phase due dirty firsts at live mem versions devices =
-    let same : layout_of (state_of m) ≡ parked_layout p = layout_is m p (omega (arith, mem.pages, ap length versions)) devices in
-    record {
-      few = live.few;
-      due_size = live.room.due_size ∙ ap size_of same;
-      dirty_size = live.room.dirty_size ∙ ap size_of same;
-      firsts_are = live.room.firsts_are ∙ ap firsts_of same;
-      round = live.round;
-      reached = live.reached;
-      passed = live.passed;
-    }
+    → SetsFit (parked_layout p) phase due dirty firsts at
+was_live m p phase due dirty firsts at live mem versions devices = subst (λ l. SetsFit l phase due dirty firsts at) (layout_is m p (omega (arith, mem.pages, ap length versions)) devices) live.sets
 
-pub is_live : (m : Seen) (p : ParkedSeen) (phase : Phase) (due dirty new_dirty : List Bool) (firsts : List ℕ) (at : ℕ) → WasLive p phase due dirty firsts at → IsSound (state_of m) → length m.memory.bytes ≡ 4096 * length p.versions → m.devices ≡ p.devices
+pub is_live : (m : Seen) (p : ParkedSeen) (phase : Phase) (due dirty new_dirty : List Bool) (firsts : List ℕ) (at : ℕ) → SetsFit (parked_layout p) phase due dirty firsts at → IsSound (state_of m) → length m.memory.bytes ≡ 4096 * length p.versions → m.devices ≡ p.devices
     → length new_dirty ≡ length dirty → IsLive m phase due new_dirty firsts at
-is_live m p phase due dirty new_dirty firsts at was sound whole devices long =
-    let same : layout_of (state_of m) ≡ parked_layout p = layout_is m p whole (sym devices) in
-    record {
-      sound = sound;
-      few = was.few;
-      room = record {
-        due_size = was.due_size ∙ ap size_of (sym same);
-        dirty_size = long ∙ was.dirty_size ∙ ap size_of (sym same);
-        firsts_are = was.firsts_are ∙ ap firsts_of (sym same);
-      };
-      round = was.round;
-      reached = was.reached;
-      passed = was.passed;
-    }
+is_live m p phase due dirty new_dirty firsts at sets sound whole devices long = record {
+  sound = sound;
+  sets = subst (λ l. SetsFit l phase due new_dirty firsts at) (sym (layout_is m p whole (sym devices))) (fit_next (parked_layout p) phase phase due due dirty new_dirty firsts firsts at at sets refl long refl sets.round sets.reached sets.passed);
+}
 
 -- The log may be told of every page.
-pub may_pages : (p : ParkedSeen) (phase : Phase) (due : List Bool) (d : Dirty) (at len : ℕ) → WasLive p phase due d.set d.firsts.items at → len ≡ 4096 * length p.versions → MayPages may_take d len
+pub may_pages : (p : ParkedSeen) (phase : Phase) (due : List Bool) (d : Dirty) (at len : ℕ) → SetsFit (parked_layout p) phase due d.set d.firsts.items at → len ≡ 4096 * length p.versions → MayPages may_take d len
 may_pages p phase due d at len was whole n inside =
     let within : n < length p.versions = omega (arith, whole, inside) in
     let below : n < size_of (parked_layout p) = number_below (parked_layout p) (page n) within in

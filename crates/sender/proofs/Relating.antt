@@ -3,7 +3,6 @@ use Rattle.std.proofs.Common.{◌≡◌, ◌≢◌, ℕ, List, ◌++◌, Some, N
 use Rattle.std.specs.Prelude.{All, IsTrue}
 use Rattle.std.proofs.lemmas.Bool.{or_parts}
 use Rattle.std.proofs.lemmas.List.Elements.{All-set}
-use Rattle.sha2.specs.Hashers.{Holds256}
 use Rattle.machine.specs.Applied.{marks_after}
 use Rattle.machine.specs.Effect.{Effect}
 use Rattle.machine.specs.Layout.{layout_of}
@@ -14,7 +13,7 @@ use Rattle.machine.specs.declared.event.Event.{Event}
 use Rattle.machine.specs.declared.event.Event.TheVariants as events
 use Rattle.machine.specs.declared.reply.Reply.{Reply}
 use Rattle.machine.proofs.Numbering.{either_way}
-use Rattle.wire.specs.Sinks.{SinkState}
+use Rattle.wire.specs.Sinks.{Covers, SinkState}
 use Rattle.sender.specs.LiveState.{HasPlaces, LiveSeen, refusal_for}
 use Rattle.sender.specs.Calls.{AfterBegin, AfterCopy, AfterRound, AfterStop, Does, Fails, Guests, IsUnread, Serves, Took}
 use Rattle.sender.specs.History.{History, nothing, then_came, machine_after, is_stale, phase_of, next_phase, text, written, is_fault, has_fault}
@@ -188,8 +187,8 @@ module _ (m : MachineState) (h : History) (out : SinkState) (e : LiveEvent) (rep
     | inr b ↦ rw b.2.0 (refused_wrote m h old new g.follows (text m h) e b.0 (no_disk old.phase e b.0 b.1) b.2.1).took
   ]
 
-  taken_now : has_fault h ≡ false → is_fault reply ≡ false → next_phase (phase_of h) reply ≢ phases.Stopped → Holds256 new.digest (text m h ++ here)
-  taken_now before none next = elim asked as (λ _. Holds256 new.digest (text m h ++ here)) [
+  taken_now : has_fault h ≡ false → is_fault reply ≡ false → next_phase (phase_of h) reply ≢ phases.Stopped → Covers new.digest (text m h ++ here)
+  taken_now before none next = elim asked as (λ _. Covers new.digest (text m h ++ here)) [
     | inl a ↦
         let P : Phase → Type 0 = λ p. p ≢ phases.Stopped in
         let was : phase_of h ≢ phases.Stopped = subst P g.follows.phase (going old.phase e a.0) in

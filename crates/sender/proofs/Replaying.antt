@@ -3,13 +3,12 @@ use Rattle.std.proofs.Common.{◌≡◌, ℕ, ◌+◌, ◌<◌, ◌≤◌, List,
 use Rattle.std.specs.Prelude.{IsTrue}
 use Rattle.std.proofs.lemmas.List.{length-take-le, length-append, take_more}
 use Rattle.std.proofs.Math.Seq.{take-length}
-use Rattle.sha2.specs.Hashers.{Holds256}
 use Rattle.machine.specs.Effect.{Effect}
 use Rattle.machine.specs.Seen.{AreHonest, Seen, state_of}
 use Rattle.machine.specs.State.{MachineState}
 use Rattle.machine.proofs.Numbering.{either_way}
 use Rattle.machine.specs.Sound.{IsSound}
-use Rattle.wire.specs.Sinks.{SinkState}
+use Rattle.wire.specs.Sinks.{Covers, SinkState}
 use Rattle.wire.specs.Stream.{IsStream}
 use Rattle.sender.specs.LiveState.{HasPlaces, LiveSeen, now}
 use Rattle.sender.specs.Calls.{Serves}
@@ -60,7 +59,7 @@ ran_none m n es replies old new none same out = record {
 }
 
 -- At the beginning.
-pub so_far_first : (s : LiveSeen) (machine : Seen) (out : SinkState) (es : List LiveEvent) (replies : List LiveReply) → replies ≡ [] → s.machine ≡ machine → s.phase ≡ phases.Fresh → Holds256 s.digest [] → s.out ≡ out → AreHonest machine → SoFar (state_of machine) out es replies s
+pub so_far_first : (s : LiveSeen) (machine : Seen) (out : SinkState) (es : List LiveEvent) (replies : List LiveReply) → replies ≡ [] → s.machine ≡ machine → s.phase ≡ phases.Fresh → Covers s.digest [] → s.out ≡ out → AreHonest machine → SoFar (state_of machine) out es replies s
 so_far_first s machine out es replies none same phase digest sink honest = rw none (record {
   effects = [];
   as_many = refl;

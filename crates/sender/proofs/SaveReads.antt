@@ -82,9 +82,6 @@ module _ (called : ℕ → ℕ) (old mid new : Seen) (dev : ℕ) (same : state_o
         reads = here part.count part.reads;
       }
 
--- The whole is read, or nothing yet.
-pub all_items : (called : ℕ → ℕ) (old new : Seen) (first n : ℕ) → ReadsItems called old first n new → ReadsPart called old first n new
-all_items called old new first n reads = record { count = n; within = omega arith; reads = reads }
-
+-- Nothing is read yet.
 pub none_read : (called : ℕ → ℕ) (old : Seen) (first n : ℕ) → ReadsPart called old first n old
 none_read called old first n = record { count = 0; within = omega arith; reads = sym (no_items called (state_of old) first (all_calls old)) }

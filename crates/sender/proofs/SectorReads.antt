@@ -8,7 +8,7 @@ use Rattle.guestmem.specs.Item as items
 use Rattle.sender.specs.Saving.{AddsItem, Sends}
 use Rattle.sender.specs.declared.mig_error.MigError.TheVariants.{DiskFailed}
 use Rattle.wire.specs.Records.{sector, spelled_record}
-use Rattle.wire.specs.Sinks.{Appends, SinkState, Takes}
+use Rattle.wire.specs.Sinks.{Appends, Digested, SinkState, Takes}
 use Rattle.wire.specs.Stream.{content_of, record_of}
 
 pub honest_at : (marks : List Marks) (dev : ℕ) → All (λ m. IsTrue m.honest) marks → IsTrue (marks_at marks dev).honest
@@ -35,7 +35,7 @@ sent_good old new dev n bytes out new_out done other read appends = record {
 }
 
 -- The record of what was read is added, with any disks.
-pub added_good : {A E F : Type 0} (old new : Seen) (dev n : ℕ) (bytes : List ℕ) (out new_out : SinkState) (a b : List ℕ → Type 0) (done : A) → IsSector bytes → ReadsSector {E = E} old dev n bytes (Ok true) new
+pub added_good : {A E F : Type 0} (old new : Seen) (dev n : ℕ) (bytes : List ℕ) (out new_out : SinkState) (a b : Digested) (done : A) → IsSector bytes → ReadsSector {E = E} old dev n bytes (Ok true) new
     → Appends {E = F} out (spelled_record (sector dev n (Some bytes))) (Ok done) new_out → Takes a (spelled_record (sector dev n (Some bytes))) b → AddsItem old (items.sector dev n) out a new_out b
 added_good old new dev n bytes out new_out a b done whole read appends takes = record {
   entry = sector dev n (Some bytes);
@@ -44,7 +44,7 @@ added_good old new dev n bytes out new_out a b done whole read appends takes = r
   takes = takes;
 }
 
-pub added_bad : {A E F : Type 0} (old new : Seen) (dev n : ℕ) (bytes : List ℕ) (out new_out : SinkState) (a b : List ℕ → Type 0) (done : A) → ReadsSector {E = E} old dev n bytes (Ok false) new
+pub added_bad : {A E F : Type 0} (old new : Seen) (dev n : ℕ) (bytes : List ℕ) (out new_out : SinkState) (a b : Digested) (done : A) → ReadsSector {E = E} old dev n bytes (Ok false) new
     → Appends {E = F} out (spelled_record (sector dev n None)) (Ok done) new_out → Takes a (spelled_record (sector dev n None)) b → AddsItem old (items.sector dev n) out a new_out b
 added_bad old new dev n bytes out new_out a b done read appends takes = record {
   entry = sector dev n None;
@@ -53,7 +53,7 @@ added_bad old new dev n bytes out new_out a b done read appends takes = record {
   takes = takes;
 }
 
-pub added_page : {A E : Type 0} (s : Seen) (n : ℕ) (out new_out : SinkState) (a b : List ℕ → Type 0) (done : A) → Appends {E = E} out (spelled_record (record_of (state_of s) (items.page n))) (Ok done) new_out
+pub added_page : {A E : Type 0} (s : Seen) (n : ℕ) (out new_out : SinkState) (a b : Digested) (done : A) → Appends {E = E} out (spelled_record (record_of (state_of s) (items.page n))) (Ok done) new_out
     → Takes a (spelled_record (record_of (state_of s) (items.page n))) b → AddsItem s (items.page n) out a new_out b
 added_page s n out new_out a b done appends takes = record { entry = record_of (state_of s) (items.page n); told = refl; holds = appends.holds; takes = takes }
 

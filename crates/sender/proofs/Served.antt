@@ -1,9 +1,7 @@
 -- What the calls of a machine that is sent leave.
 use Rattle.std.proofs.Common.{◌≡◌, ℕ, Bool, false, List, ◌++◌, map, set, None, refl, ap, subst, ◌∙◌, append_assoc}
 use Rattle.std.specs.Prelude.{Ok, Err}
-use Rattle.sha2.specs.Hashers.{Holds256}
 use Rattle.sha2.specs.Sha256.{sha256}
-use Rattle.sha2.specs.declared.Sha256.{Sha256}
 use Rattle.guestmem.specs.Item as items
 use Rattle.machine.specs.Shapes.{made_as}
 use Rattle.machine.specs.Layout.{item_at, layout_of, pages_of}
@@ -12,7 +10,7 @@ use Rattle.machine.specs.State.{DeviceState, MachineState}
 use Rattle.machine.specs.declared.shape.Shape.{Shape}
 use Rattle.wire.specs.Header.{header, opening_of}
 use Rattle.wire.specs.Records.{commit, spelled_record}
-use Rattle.wire.specs.Sinks.{Appends, SinkState, Takes}
+use Rattle.wire.specs.Sinks.{Appends, Covers, Digested, SinkState, Takes}
 use Rattle.wire.specs.Stream.{device_texts, record_of}
 use Rattle.sender.specs.Calls.{Begins, Serves, Took, Wrote}
 use Rattle.sender.specs.LiveState.{LiveSeen, closing, header_of, item_of, now, refusal_for}
@@ -27,7 +25,7 @@ use Rattle.sender.specs.declared.event.LiveEvent.TheVariants as events
 use Rattle.sender.specs.declared.event.LiveReply.TheVariants as r
 
 -- What was written.
-pub wrote_by : {A E : Type 0} (old new : LiveSeen) (x y : List ℕ) (done : A) → x ≡ y → Appends {E = E} old.out x (Ok done) new.out → Takes (λ b. Holds256 old.digest b) x (λ b. Holds256 new.digest b) → Wrote old new y
+pub wrote_by : {A E : Type 0} (old new : LiveSeen) (x y : List ℕ) (done : A) → x ≡ y → Appends {E = E} old.out x (Ok done) new.out → Takes old.digest x new.digest → Wrote old new y
 wrote_by old new x y done e appends takes = rw (← e) (record { took = record { count = appends.count; holds = appends.holds }; taken = takes })
 
 pub header_told : (m : MachineState) (pages : ℕ) (shapes : List Shape) → pages ≡ pages_of m → shapes ≡ map (λ (d : DeviceState). made_as d.kind) m.devices → header (opening_of pages shapes) ≡ header_of m
@@ -38,7 +36,7 @@ served_begin old new free begins = rw free (refl, begins)
 
 -- One item.
 pub item_sent : {A : Type 0} (old new : LiveSeen) (i : ℕ) (item : Item) (done : A) → item_of item ≡ item_at (layout_of (now old)) i → Sends old.machine old.out (spelled_record (record_of (now old) (item_of item))) (Ok done) new.machine new.out
-    → AddsItem old.machine (item_of item) old.out (λ b. Holds256 old.digest b) new.out (λ b. Holds256 new.digest b)
+    → AddsItem old.machine (item_of item) old.out old.digest new.out new.digest
     → new.phase ≡ old.phase → new.due ≡ set old.due i false → new.dirty ≡ set old.dirty i false → SendsOk old i item new
 item_sent old new i item done is sends adds phase due dirty = record {
   item_is = is;
@@ -53,7 +51,7 @@ item_sent old new i item done is sends adds phase due dirty = record {
   };
 }
 
-rest_parts : (m : Seen) (p q : Phase) (due new_due dirty new_dirty : List Bool) (digest new_digest : Sha256) (out new_out : SinkState) → q ≡ p → new_due ≡ due → new_dirty ≡ dirty → new_digest ≡ digest → new_out ≡ out
+rest_parts : (m : Seen) (p q : Phase) (due new_due dirty new_dirty : List Bool) (digest new_digest : Digested) (out new_out : SinkState) → q ≡ p → new_due ≡ due → new_dirty ≡ dirty → new_digest ≡ digest → new_out ≡ out
     → ◌≡◌ {A = LiveSeen} (record { machine = m; phase = q; due = new_due; dirty = new_dirty; digest = new_digest; out = new_out }) (record { machine = m; phase = p; due = due; dirty = dirty; digest = digest; out = out })
 rest_parts m p q due new_due dirty new_dirty digest new_digest out new_out a b c d e = rw (a, b, c, d, e) refl
 
@@ -69,7 +67,7 @@ item_not_sent old new i item (errors.DiskFailed dev n) x is sends names phase du
     marks = sends.marks;
     unsteady = sends.named.0;
     good = sends.named.1;
-    rest = rest_parts new.machine old.phase new.phase old.due new.due old.dirty new.dirty old.digest new.digest old.out new.out phase due dirty names.tally_stays names.out_stays;
+    rest = rest_parts new.machine old.phase new.phase old.due new.due old.dirty new.dirty old.digest new.digest old.out new.out phase due dirty names.sum_stays names.out_stays;
   };
 }
 item_not_sent old new i item errors.NotBegun x is sends names phase due dirty = absurd sends.named
@@ -86,17 +84,18 @@ fits_after p errors.AlreadyStopped fits = fits
 fits_after p errors.RoundsEnded fits = fits
 
 -- The stream was closed.
-pub closing_took : {A B E F : Type 0} (old new : LiveSeen) (mid : SinkState) (digest : Sha256) (sum : List ℕ) (done : A) (ended : B)
-    → Appends {E = E} old.out (device_texts 0 (now old).devices) (Ok done) mid → Takes (λ b. Holds256 old.digest b) (device_texts 0 (now old).devices) (λ b. Holds256 digest b)
-    → ((b : List ℕ) → Holds256 digest b → sum ≡ sha256 b) → Appends {E = F} mid (spelled_record (commit sum)) (Ok ended) new.out
-    → (b : List ℕ) → Holds256 old.digest b → Took old new (closing (now old) b)
-closing_took old new mid digest sum done ended devices takes is_sum ends b held =
+pub closing_took : {A B E F : Type 0} (old new : LiveSeen) (mid last : SinkState) (sum : Digested) (digest : List ℕ) (done : A) (ended : B) → Appends {E = E} old.out (device_texts 0 (now old).devices) (Ok done) mid → Takes old.digest (device_texts 0 (now old).devices) sum
+    → last ≡ mid → ((b : List ℕ) → Covers sum b → digest ≡ sha256 b) → Appends {E = F} last (spelled_record (commit digest)) (Ok ended) new.out
+    → (b : List ℕ) → Covers old.digest b → Took old new (closing (now old) b)
+closing_took {B = B} {F = F} old new mid last sum digest done ended devices takes same is_digest closes b held =
     let d = device_texts 0 (now old).devices in
-    let is : sum ≡ sha256 (b ++ d) = is_sum (b ++ d) (takes b held) in
+    let is : digest ≡ sha256 (b ++ d) = is_digest (b ++ d) (takes b held) in
+    let P : SinkState → Type 0 = λ s. Appends {T = B} {E = F} s (spelled_record (commit digest)) (Ok ended) new.out in
+    let ends : Appends {T = B} {E = F} mid (spelled_record (commit digest)) (Ok ended) new.out = subst P same closes in
     record {
       count = ends.count ∙ devices.count;
       holds = λ honest.
           let one = devices.holds honest in
           let two = ends.holds one.0 in
-          (two.0, two.1 ∙ ap (λ held. held ++ spelled_record (commit sum)) one.1 ∙ append_assoc old.out.held d (spelled_record (commit sum)) ∙ ap (λ s. old.out.held ++ (d ++ spelled_record (commit s))) is);
+          (two.0, two.1 ∙ ap (λ held. held ++ spelled_record (commit digest)) one.1 ∙ append_assoc old.out.held d (spelled_record (commit digest)) ∙ ap (λ s. old.out.held ++ (d ++ spelled_record (commit s))) is);
     }

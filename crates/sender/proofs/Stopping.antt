@@ -1,15 +1,15 @@
 -- Items sent one after another.
-use Rattle.std.proofs.Common.{◌≡◌, ◌≢◌, ◌^◌, ◌-◌, ℕ, zero, suc, add-one, ◌+◌, ◌<◌, ◌≤◌, List, [], ◌∷◌, ◌++◌, length, None, Ok, Err, Bool, true, false, cond, ◌&&◌, not, nat_lt, refl, ap, sym, subst, ◌∙◌, append_assoc, append-nil, ◌⊎◌, inl, inr, arith}
+use Rattle.std.proofs.Common.{◌≡◌, ◌≢◌, ◌^◌, ◌-◌, ℕ, zero, suc, add-one, ◌+◌, ◌<◌, ◌≤◌, List, [], ◌∷◌, ◌++◌, length, None, Err, Bool, true, false, cond, ◌&&◌, not, nat_lt, refl, ap, sym, subst, ◌∙◌, append_assoc, append-nil, ◌⊎◌, inl, inr, arith}
 use Rattle.sender.proofs.Living.{member_below}
 use Rattle.std.proofs.lemmas.List.{get_or-set_same, get_or-set_other, length-set}
 use Rattle.dirtylog.specs.Members.{HasNone, IsLeast}
-use Rattle.sha2.specs.Hashers.{Holds256}
 use Rattle.guestmem.specs.Item as items
 use Rattle.machine.specs.Layout.{item_at, layout_of, pages_of, size_of}
 use Rattle.machine.specs.Seen.{Seen}
 use Rattle.machine.specs.State.{MachineState}
 use Rattle.wire.specs.Stream.{texts}
 use Rattle.wire.specs.Records.{Record, spelled_record}
+use Rattle.wire.specs.Sinks.{Covers}
 use Rattle.sender.specs.Calls.{AreCleared, AreSent, Fails, IsSameButCalls, IsSent, Serves, Took, Wrote, in_either}
 use Rattle.sender.specs.LiveState.{HasPlaces, LiveSeen, chosen, closing, how_many, now, pages_among, refusal_for, sectors_among}
 use Rattle.sender.specs.Stopping.{AllSent, Closes, IsClosed, SendsAll, SendsItem, SendsOk, one_more}
@@ -67,7 +67,7 @@ took_more old mid new xs ys h k = record {
 pub wrote_more : (old mid new : LiveSeen) (xs ys : List ℕ) → Wrote old mid xs → Wrote mid new ys → Wrote old new (xs ++ ys)
 wrote_more old mid new xs ys h k = record {
   took = took_more old mid new xs ys h.took k.took;
-  taken = λ b held. let P : List ℕ → Type 0 = λ x. Holds256 new.digest x in subst P (append_assoc b xs ys) (k.taken (b ++ xs) (h.taken b held));
+  taken = λ b held. let P : List ℕ → Type 0 = λ x. Covers new.digest x in subst P (append_assoc b xs ys) (k.taken (b ++ xs) (h.taken b held));
 }
 
 -- A machine that stays unchanged but for the calls of its disks.
@@ -163,7 +163,7 @@ nothing_sent old = record {
   told = tt;
   wrote = record {
     took = record { count = refl; holds = λ honest. (honest, sym (append-nil old.out.held)) };
-    taken = λ b held. (let P : List ℕ → Type 0 = λ x. Holds256 old.digest x in subst P (sym (append-nil b)) held);
+    taken = λ b held. (let P : List ℕ → Type 0 = λ x. Covers old.digest x in subst P (sym (append-nil b)) held);
   };
 }
 
@@ -231,16 +231,6 @@ short_of old mid new at pages sent errors.AlreadyStopped h below member s = absu
 short_of old mid new at pages sent errors.NotBegun h below member s = absurd s
 short_of old mid new at pages sent errors.AlreadyBegun h below member s = absurd s
 short_of old mid new at pages sent errors.RoundsEnded h below member s = absurd s
-
-pub all_along : (old mid : LiveSeen) (at pages : ℕ) (sent : Stopped) → Along old at pages sent mid → at ≡ length old.due → SendsAll old (Ok sent) mid
-all_along old mid at pages sent h all =
-    let n = size_of (layout_of (now old)) in
-    let e : at ≡ n = all ∙ h.places.due_size in
-    record {
-      are_sent = (let P : ℕ → Type 0 = λ x. AreSent old x mid in subst P e h.are_sent);
-      pages_are = h.pages_are ∙ ap (pages_among (layout_of (now old)) (in_either old)) e;
-      sectors_are = h.sectors_are ∙ ap (sectors_among (layout_of (now old)) (in_either old)) e;
-    }
 
 -- The least due item.
 pub due_below : (s : LiveSeen) (i : ℕ) → HasPlaces s → IsLeast s.due 0 i → i < size_of (layout_of (now s))

@@ -1,33 +1,33 @@
 -- A flush that fails in place of its step, and the history.
 use Rattle.std.proofs.Common.{◌≡◌, ◌≢◌, ℕ, List, Bool, true, false, ◌||◌, refl, ap, sym, subst, ◌∙◌}
-use Rattle.std.specs.Prelude.{All, IsTrue, Ok}
+use Rattle.std.specs.Prelude.{All, Err, IsTrue, Ok, Result, Some}
 use Rattle.std.proofs.lemmas.List.{append-nil}
-use Rattle.sha2.specs.declared.Sha256.{Sha256}
 use Rattle.machine.specs.Effect.{Effect, applied}
-use Rattle.machine.specs.Layout.{firsts_of, size_of}
 use Rattle.machine.specs.Seen.{Marks, Seen, state_of}
 use Rattle.machine.specs.Sound.{IsSound}
 use Rattle.machine.specs.State.{MachineState}
 use Rattle.machine.specs.Step.{HasEffect}
 use Rattle.machine.specs.Outcome.{disk_failed}
-use Rattle.machine.specs.Unsynced.{FailsFlush, FailsFlushIf, makes_flush}
+use Rattle.machine.specs.Unsynced.{FailsFlushIf, makes_flush}
 use Rattle.machine.specs.declared.event.Event.TheVariants.{Step}
 use Rattle.machine.specs.declared.reply.Reply.TheVariants.{DiskFailed}
 use Rattle.machine.proofs.Numbering.{same_layout}
-use Rattle.wire.specs.Sinks.{SinkState}
+use Rattle.wire.specs.Sinks.{Digested, SinkState}
 use Rattle.wire.specs.Stream.{texts}
 use Rattle.sender.specs.Follows.{Relates}
 use Rattle.sender.specs.History.{History, has_fault, text, then_came}
-use Rattle.sender.specs.LiveState.{HasPlaces, LiveSeen, now}
+use Rattle.sender.specs.LiveState.{HasPlaces, LiveSeen, now, refusal_for}
 use Rattle.sender.specs.Stopping.{IsLive}
 use Rattle.sender.specs.Taking.{untaken}
 use Rattle.sender.specs.Unsynced.{FailsLiveFlush, FailsLiveFlushIf, FailureFollows, FailureGoesOn, TakenFailureFollows, TriesFlush}
 use Rattle.sender.specs.declared.event.LiveEvent.TheVariants.{Guest}
 use Rattle.sender.specs.declared.event.LiveReply.TheVariants as r
+use Rattle.sender.specs.declared.mig_error.MigError.{MigError}
+use Rattle.sender.specs.declared.mig_error.MigError.TheVariants.{AlreadyStopped}
 use Rattle.sender.specs.declared.phase.Phase.{Phase}
 use Rattle.sender.specs.declared.phase.Phase.TheVariants as phases
 use Rattle.sender.proofs.Following.{IsLogged, guest_follows}
-use Rattle.sender.proofs.Living.{guest_free}
+use Rattle.sender.proofs.Living.{guest_free, live_on}
 
 or_none : (b : Bool) → (b || false) ≡ b
 or_none true = refl
@@ -36,6 +36,13 @@ or_none false = refl
 no_text : (m : MachineState) (h : History) (dev pick : ℕ) (f : Effect) → text m (then_came h (Guest (Step dev pick)) (r.Guest DiskFailed) f) ≡ text m h
 unfolding texts
 no_text m h dev pick f = append-nil (text m h)
+
+-- After a stop that closed the stream it is refused.
+pub flush_refused : (s : LiveSeen) (dev pick : ℕ) (x : MigError) → (x ≡ AlreadyStopped) × (s.phase ≡ phases.Stopped) → TriesFlush s dev pick (Err x) s
+flush_refused s dev pick x closed =
+    let refused : refusal_for s.phase (Guest (Step dev pick)) ≡ Some AlreadyStopped = ap (λ (p : Phase). refusal_for p (Guest (Step dev pick))) closed.1 in
+    let P : MigError → Result Bool MigError = λ y. Err y in
+    rw refused (ap P closed.0, refl)
 
 module _ (m : MachineState) (h : History) (out : SinkState) (dev pick : ℕ) (old new : LiveSeen) (rel : Relates m h out old) (places : HasPlaces old) (goes : old.phase ≢ phases.Stopped) (f : FailsLiveFlush old dev pick new) where
   logged : IsLogged old (Step dev pick) DiskFailed new
@@ -84,29 +91,16 @@ taken_failure_follows m h out taken dev pick old new rel places goes f =
     failure_follows m h out dev pick (untaken taken old) (untaken taken new) rel there goes (record { failed = f.failed; rest = ap (untaken taken) f.rest })
 
 -- What a machine that is being migrated keeps.
-module _ (old new : Seen) (phase : Phase) (due dirty : List Bool) (firsts : List ℕ) (at dev pick : ℕ) (live : IsLive old phase due dirty firsts at) where
-  live_failed : FailsFlush old dev pick new → IsLive new phase due dirty firsts at
-  live_failed f =
-      let same = same_layout (state_of old) (state_of new) f.shape in
-      record {
-        sound = f.sound;
-        few = live.few;
-        room = record { due_size = live.room.due_size ∙ ap size_of (sym same); dirty_size = live.room.dirty_size ∙ ap size_of (sym same); firsts_are = live.room.firsts_are ∙ ap firsts_of (sym same) };
-        round = live.round;
-        reached = live.reached;
-        passed = live.passed;
-      }
-
 pub live_tried : (old new : Seen) (phase : Phase) (due dirty : List Bool) (firsts : List ℕ) (at dev pick : ℕ) (was : Bool) → IsLive old phase due dirty firsts at → FailsFlushIf was old dev pick new → IsLive new phase due dirty firsts at
-live_tried old new phase due dirty firsts at dev pick true live f = live_failed old new phase due dirty firsts at dev pick live f
+live_tried old new phase due dirty firsts at dev pick true live f = live_on old new phase due dirty firsts at live f.sound (same_layout (state_of old) (state_of new) f.shape)
 live_tried old new phase due dirty firsts at dev pick false live f = subst (λ (x : Seen). IsLive x phase due dirty firsts at) (sym f) live
 
 -- The call.
-answered_by : (old new : Seen) (phase : Phase) (due dirty : List Bool) (digest : Sha256) (out : SinkState) (dev pick : ℕ) (was : Bool) → FailsFlushIf was old dev pick new
+answered_by : (old new : Seen) (phase : Phase) (due dirty : List Bool) (digest : Digested) (out : SinkState) (dev pick : ℕ) (was : Bool) → FailsFlushIf was old dev pick new
     → FailsLiveFlushIf was (record { machine = old; phase = phase; due = due; dirty = dirty; digest = digest; out = out }) dev pick (record { machine = new; phase = phase; due = due; dirty = dirty; digest = digest; out = out })
 answered_by old new phase due dirty digest out dev pick true f = record { failed = f; rest = refl }
 answered_by old new phase due dirty digest out dev pick false f = rw f refl
 
-pub answered : (old new : Seen) (phase : Phase) (due dirty : List Bool) (digest : Sha256) (out : SinkState) (dev pick : ℕ) (was : Bool) → phase ≢ phases.Stopped → was ≡ makes_flush (state_of old) dev pick → FailsFlushIf was old dev pick new
+pub answered : (old new : Seen) (phase : Phase) (due dirty : List Bool) (digest : Digested) (out : SinkState) (dev pick : ℕ) (was : Bool) → phase ≢ phases.Stopped → was ≡ makes_flush (state_of old) dev pick → FailsFlushIf was old dev pick new
     → TriesFlush (record { machine = old; phase = phase; due = due; dirty = dirty; digest = digest; out = out }) dev pick (Ok was) (record { machine = new; phase = phase; due = due; dirty = dirty; digest = digest; out = out })
 answered old new phase due dirty digest out dev pick was goes is f = rw (guest_free phase (Step dev pick) goes) (is, answered_by old new phase due dirty digest out dev pick was f)

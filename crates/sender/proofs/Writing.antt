@@ -1,8 +1,6 @@
 -- What is written is the text of the history.
 use Rattle.std.proofs.Common.{◌≡◌, ℕ, ◌-◌, List, [], ◌∷◌, ◌++◌, Some, None, Bool, true, false, refl, ap, sym, subst, ◌∙◌, append-nil, inl, inr, arith, eqb}
 use Rattle.std.specs.Prelude.{IsTrue}
-use Rattle.sha2.specs.declared.Sha256.{Sha256}
-use Rattle.sha2.specs.Hashers.{Holds256}
 use Rattle.guestmem.specs.Item as items
 use Rattle.guestmem.specs.Item.{Item}
 use Rattle.machine.specs.Layout.{Layout, item_at, layout_of, number_of, size_of}
@@ -11,7 +9,7 @@ use Rattle.machine.specs.State.{MachineState}
 use Rattle.machine.specs.declared.event.Event.{Event}
 use Rattle.machine.proofs.Numbering.{either_way, same_layout}
 use Rattle.wire.specs.Records.{Record, round_end}
-use Rattle.wire.specs.Sinks.{SinkState}
+use Rattle.wire.specs.Sinks.{Covers, Digested, SinkState}
 use Rattle.wire.specs.Stream.{record_of, texts}
 use Rattle.sender.specs.LiveState.{LiveSeen, now, refusal_for, last_round, chosen, records_of, header_of, closing, item_of}
 use Rattle.sender.specs.Calls.{Serves, Does, AfterBegin, AfterCopy, AfterRound, AfterStop, Guests, Stops, StopsShort, Fails, Took, Wrote, in_either}
@@ -44,14 +42,14 @@ took_none old new out = record {
 wrote_none : (old new : LiveSeen) → new.out ≡ old.out → new.digest ≡ old.digest → Wrote old new []
 wrote_none old new out digest = record {
   took = took_none old new out;
-  taken = λ b held. (let P : Sha256 → Type 0 = λ d. Holds256 d (b ++ []) in subst P (sym digest) (let Q : List ℕ → Type 0 = λ x. Holds256 old.digest x in subst Q (sym (append-nil b)) held));
+  taken = λ b held. (let P : Digested → Type 0 = λ d. Covers d (b ++ []) in subst P (sym digest) (let Q : List ℕ → Type 0 = λ x. Covers old.digest x in subst Q (sym (append-nil b)) held));
 }
 
 -- What a call did is told by what it wrote after what was written before, unless its writer failed.
 pub record Told (old new : LiveSeen) (before bytes : List ℕ) (reply : LiveReply) : Type 0 where
   pub count : is_fault reply ≡ false → new.out.failures ≡ old.out.failures
-  pub took : is_fault reply ≡ false → AreHonest old.machine → Holds256 old.digest before → Took old new bytes
-  pub taken : is_fault reply ≡ false → is_stopped reply ≡ false → AreHonest old.machine → Holds256 old.digest before → Holds256 new.digest (before ++ bytes)
+  pub took : is_fault reply ≡ false → AreHonest old.machine → Covers old.digest before → Took old new bytes
+  pub taken : is_fault reply ≡ false → is_stopped reply ≡ false → AreHonest old.machine → Covers old.digest before → Covers new.digest (before ++ bytes)
   pub fails : is_fault reply ≡ true → Fails old new
 
 told_wrote : (old new : LiveSeen) (before bytes : List ℕ) (reply : LiveReply) → is_fault reply ≡ false → new.out.failures ≡ old.out.failures → (AreHonest old.machine → Wrote old new bytes) → Told old new before bytes reply
@@ -80,7 +78,7 @@ wrote_stays old mid new x out digest w = record {
     count = ap (λ (o : SinkState). o.failures) out ∙ w.took.count;
     holds = λ honest. (let P : SinkState → Type 0 = λ o. IsTrue o.honest × (o.held ≡ old.out.held ++ x) in subst P (sym out) (w.took.holds honest));
   };
-  taken = λ b held. (let P : Sha256 → Type 0 = λ d. Holds256 d (b ++ x) in subst P (sym digest) (w.taken b held));
+  taken = λ b held. (let P : Digested → Type 0 = λ d. Covers d (b ++ x) in subst P (sym digest) (w.taken b held));
 }
 
 module _ (m : MachineState) (h : History) (old new : LiveSeen) (f : Follows m h old) (before : List ℕ) where
@@ -118,7 +116,7 @@ module _ (m : MachineState) (h : History) (old new : LiveSeen) (f : Follows m h 
   writes_round (r.Mig errors.StreamFailed) d = told_fails old new before _ (r.Mig errors.StreamFailed) refl d
   writes_round _ d = absurd d
 
-  stop_took : (k pages sectors : ℕ) → old.phase ≡ phases.Open k → Stops old pages sectors new → AreHonest old.machine → Holds256 old.digest before → Took old new (written before (machine_after m h) (is_stale (layout_of m) h) Stop (r.Stopped pages sectors))
+  stop_took : (k pages sectors : ℕ) → old.phase ≡ phases.Open k → Stops old pages sectors new → AreHonest old.machine → Covers old.digest before → Took old new (written before (machine_after m h) (is_stale (layout_of m) h) Stop (r.Stopped pages sectors))
   stop_took k pages sectors is s disks held =
       let same : layout_of (now old) ≡ layout_of m = same_layout m (now old) f.shape in
       let n = size_of (layout_of (now old)) in

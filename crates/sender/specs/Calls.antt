@@ -3,7 +3,6 @@
 -- All single calls share one clause, `Serves`, by event and reply, so that `serve` and `replay` need no second one.
 use Rattle.std.specs.Prelude.{◌≡◌, ℕ, ◌+◌, ◌<◌, ◌≤◌, ◌++◌, ◌%◌, ◌^◌, ◌||◌, List, [], ◌∷◌, replicate, Bool, true, false, IsTrue, Result, Ok, Err, slice_set, MatchOption}
 use Rattle.dirtylog.specs.Members.{HasNone, IsLeast, has}
-use Rattle.sha2.specs.Hashers.{Holds256}
 use Rattle.guestmem.specs.Item as items
 use Rattle.machine.specs.Applied.{IsApplied, IsGood}
 use Rattle.machine.specs.Effect.{items_of}
@@ -15,6 +14,7 @@ use Rattle.machine.specs.declared.event.Event.{Event}
 use Rattle.machine.specs.declared.reply.Reply.{Reply}
 use Rattle.machine.specs.declared.stepped.Stepped.{Stepped}
 use Rattle.wire.specs.Records.{Record, round_end, spelled_record}
+use Rattle.wire.specs.Sinks.{Covers}
 use Rattle.wire.specs.Stream.{texts}
 use Rattle.sender.specs.LiveState.{LiveSeen, chosen, closing, header_of, item_of, now, pages_among, refusal_for, sectors_among}
 use Rattle.sender.specs.Told.{AreTold, IsTold}
@@ -37,10 +37,10 @@ pub record Took (old new : LiveSeen) (bytes : List ℕ) : Type 0 where
   pub count : new.out.failures ≡ old.out.failures
   pub holds : IsTrue old.out.honest → IsTrue new.out.honest × (new.out.held ≡ old.out.held ++ bytes)
 
--- As `Took`, and the digest took these bytes too.
+-- As `Took`, and it is digested too: the digest, of whatever bytes it was, is of those and these.
 pub record Wrote (old new : LiveSeen) (bytes : List ℕ) : Type 0 where
   pub took : Took old new bytes
-  pub taken : (b : List ℕ) → Holds256 old.digest b → Holds256 new.digest (b ++ bytes)
+  pub taken : (b : List ℕ) → Covers old.digest b → Covers new.digest (b ++ bytes)
 
 -- The machine is unchanged, but for how often its disks were called: that is in `Reads`.
 pub record IsSameButCalls (old new : Seen) : Type 0 where
@@ -139,7 +139,7 @@ pub record Stops (old : LiveSeen) (pages sectors : ℕ) (new : LiveSeen) : Type 
   pub flushed : new.out.is_flushed ≡ true
   pub entries : List Record
   pub told : AreTold old.machine (chosen (in_either old) (size_of (layout_of (now old)))) entries
-  pub took : (b : List ℕ) → Holds256 old.digest b → Took old new (texts entries ++ closing (now old) (b ++ texts entries))
+  pub took : (b : List ℕ) → Covers old.digest b → Took old new (texts entries ++ closing (now old) (b ++ texts entries))
   pub pages_are : pages ≡ pages_among (layout_of (now old)) (in_either old) (size_of (layout_of (now old)))
   pub sectors_are : sectors ≡ sectors_among (layout_of (now old)) (in_either old) (size_of (layout_of (now old)))
 

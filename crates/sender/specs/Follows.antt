@@ -1,13 +1,12 @@
 -- The state of a machine that is being migrated, by its history.
 use Rattle.std.specs.Prelude.{◌≡◌, ◌≢◌, ℕ, ◌<◌, ◌+◌, ◌%◌, ◌^◌, ◌++◌, Bool, true, false, IsTrue}
 use Rattle.dirtylog.specs.Members.{has}
-use Rattle.sha2.specs.Hashers.{Holds256}
 use Rattle.machine.specs.Effect.{Effect}
 use Rattle.machine.specs.EffectLaws.{IsSameShape}
 use Rattle.machine.specs.Layout.{layout_of, size_of}
 use Rattle.machine.specs.Seen.{AreHonest}
 use Rattle.machine.specs.State.{MachineState}
-use Rattle.wire.specs.Sinks.{SinkState}
+use Rattle.wire.specs.Sinks.{Covers, SinkState}
 use Rattle.sender.specs.Calls.{Serves, in_either}
 use Rattle.sender.specs.History.{AllAllowed, Allowed, History, IsItsChange, has_fault, is_due, is_stale, machine_after, phase_of, text, then_came}
 use Rattle.sender.specs.LiveState.{HasPlaces, LiveSeen, now}
@@ -55,7 +54,7 @@ pub record Relates (m : MachineState) (h : History) (out : SinkState) (s : LiveS
   pub fault : has_fault h ≡ true → s.phase ≡ phases.Failed
   pub count : s.out.failures ≡ count_after out.failures (has_fault h)
   pub held : has_fault h ≡ false → IsTrue out.honest → IsTrue s.out.honest × (s.out.held ≡ out.held ++ text m h)
-  pub taken : has_fault h ≡ false → phase_of h ≢ phases.Stopped → Holds256 s.digest (text m h)
+  pub taken : has_fault h ≡ false → phase_of h ≢ phases.Stopped → Covers s.digest (text m h)
 
 -- If the state of a machine that is being migrated is the one that its history gives, and the disks are honest, this is so
 -- after each call too.

@@ -1,6 +1,5 @@
 -- The state of a machine that is being migrated, as contracts see it.
 use Rattle.std.specs.Prelude.{◌≡◌, ℕ, zero, suc, ◌+◌, ◌<◌, ◌^◌, ◌++◌, ◌==◌, ◌&&◌, not, if◌then◌else◌, nat_lt, List, [], ◌∷◌, length, map, Bool, Option, Some, None}
-use Rattle.sha2.specs.declared.Sha256.{Sha256}
 use Rattle.sha2.specs.Sha256.{sha256}
 use Rattle.guestmem.specs.Item as items
 use Rattle.machine.specs.Layout.{Layout, item_at, layout_of, pages_of, size_of}
@@ -9,7 +8,7 @@ use Rattle.machine.specs.Sound.{IsSound}
 use Rattle.machine.specs.State.{MachineState}
 use Rattle.wire.specs.Header.{header, opening_of}
 use Rattle.wire.specs.Records.{Record, commit, spelled_record}
-use Rattle.wire.specs.Sinks.{SinkState}
+use Rattle.wire.specs.Sinks.{Digested, SinkState}
 use Rattle.wire.specs.Stream.{device_texts, record_of, shapes_in}
 use Rattle.sender.specs.declared.event.Item.{Item}
 use Rattle.sender.specs.declared.event.Item.TheVariants.{Page, Sector}
@@ -27,7 +26,7 @@ pub record LiveSeen : Type 0 where
   pub phase : Phase
   pub due : List Bool
   pub dirty : List Bool
-  pub digest : Sha256
+  pub digest : Digested
   pub out : SinkState
 
 abbrev pub now : LiveSeen → MachineState

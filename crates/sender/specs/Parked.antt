@@ -1,26 +1,23 @@
 -- What contracts see of a machine that is being migrated, and whose RAM is lent.
-use Rattle.std.specs.Prelude.{◌≡◌, ◌≢◌, ℕ, ◌+◌, ◌*◌, ◌/◌, ◌<◌, ◌≤◌, ◌^◌, ◌++◌, List, [], ◌∷◌, Bool, true, false, length, map, slice_index, slice_set}
-use Rattle.dirtylog.specs.Members.{has}
+use Rattle.std.specs.Prelude.{◌≡◌, ◌≢◌, ℕ, ◌+◌, ◌*◌, ◌/◌, ◌++◌, List, [], ◌∷◌, Bool, true, false, length, map, slice_index, slice_set}
 use Rattle.region.specs.Address.{address}
 use Rattle.region.specs.declared.region.Region.{Region}
-use Rattle.sha2.specs.declared.Sha256.{Sha256}
 use Rattle.guestmem.specs.Lent.{AreBelow, given_back, is_named}
 use Rattle.guestmem.specs.Memory.{IsMemory, Memory}
 use Rattle.guestmem.specs.Number.{IsBytes}
 use Rattle.guestmem.specs.Page.{page_of}
 use Rattle.guestmem.specs.declared.limits.TheConstants.{PAGE_SIZE}
-use Rattle.machine.specs.Layout.{Layout, firsts_of, size_of}
+use Rattle.machine.specs.Layout.{Layout}
 use Rattle.machine.specs.Parked.{IsParked, ParkedSeen, back_with}
 use Rattle.machine.specs.State.{MachineState, base_of}
 use Rattle.machine.specs.declared.event.Event.{Event}
 use Rattle.machine.specs.declared.event.Event.TheVariants.{MemWrite}
 use Rattle.machine.specs.declared.reply.Reply.TheVariants.{Done}
-use Rattle.wire.specs.Sinks.{SinkState}
+use Rattle.wire.specs.Sinks.{Digested, SinkState}
 use Rattle.sender.specs.Calls.{Serves}
 use Rattle.sender.specs.Follows.{Relates}
 use Rattle.sender.specs.History.{History, guest_events, text}
 use Rattle.sender.specs.LiveState.{HasPlaces, LiveSeen, now}
-use Rattle.sender.specs.Stopping.{RoundFits}
 use Rattle.sender.specs.declared.event.LiveEvent.TheVariants.{Guest}
 use Rattle.sender.specs.declared.event.LiveReply.TheVariants as r
 use Rattle.sender.specs.declared.phase.Phase.{Phase}
@@ -32,22 +29,12 @@ pub record LiveParkedSeen : Type 0 where
   pub phase : Phase
   pub due : List Bool
   pub dirty : List Bool
-  pub digest : Sha256
+  pub digest : Digested
   pub out : SinkState
 
 -- The layout of a machine whose RAM is lent.
 abbrev pub parked_layout : ParkedSeen → Layout
 parked_layout p = record { pages = length p.versions; disks = map length (map (λ d. d.sectors) p.devices) }
-
--- What is kept of one that is being migrated (as `IsLive`).
-pub record WasLive (p : ParkedSeen) (phase : Phase) (due dirty : List Bool) (firsts : List ℕ) (at : ℕ) : Type 0 where
-  pub few : length due < 2 ^ 64
-  pub due_size : length due ≡ size_of (parked_layout p)
-  pub dirty_size : length dirty ≡ size_of (parked_layout p)
-  pub firsts_are : firsts ≡ firsts_of (parked_layout p)
-  pub round : RoundFits phase
-  pub reached : at ≤ length due
-  pub passed : (k : ℕ) → k < at → has due k ≡ false
 
 -- Its RAM was lent, and all else of it is kept.
 pub record IsLiveParked (l : LiveSeen) (region : Region) (p : LiveParkedSeen) : Type 0 where

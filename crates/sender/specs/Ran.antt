@@ -3,13 +3,12 @@
 -- That a disk that is reported as failed is not steady has no premise, for the guest's replies and for the copies alike.
 use Rattle.std.specs.Prelude.{◌≡◌, ◌++◌, ◌⊎◌, ℕ, List, [], ◌∷◌, length, true, false, IsTrue}
 use Rattle.dirtylog.specs.Members.{HasNone}
-use Rattle.sha2.specs.Hashers.{Holds256}
 use Rattle.machine.specs.Applied.{FailsOnlyUnsteady}
 use Rattle.machine.specs.Effect.{Effect}
 use Rattle.machine.specs.Seen.{Marks, Seen, marks_at}
 use Rattle.machine.specs.State.{MachineState}
 use Rattle.machine.specs.declared.reply.Reply.{Reply}
-use Rattle.wire.specs.Sinks.{SinkState}
+use Rattle.wire.specs.Sinks.{Covers, SinkState}
 use Rattle.wire.specs.Stream.{IsStream}
 use Rattle.sender.specs.declared.phase.Phase.TheVariants as phases
 use Rattle.sender.specs.Calls.{Serves}
@@ -53,7 +52,7 @@ pub record IsUnserved (machine : Seen) (out : SinkState) (s : LiveSeen) : Type 0
   pub fresh : s.phase ≡ phases.Fresh
   pub none_due : HasNone s.due
   pub none_dirty : HasNone s.dirty
-  pub digest : Holds256 s.digest []
+  pub digest : Covers s.digest []
   pub out_is : s.out ≡ out
   pub places : HasPlaces s
 

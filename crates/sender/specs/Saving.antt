@@ -8,7 +8,7 @@ use Rattle.sender.specs.Told.{IsTold}
 use Rattle.sender.specs.declared.mig_error.MigError.{MigError}
 use Rattle.sender.specs.declared.mig_error.MigError.TheVariants.{AlreadyBegun, AlreadyStopped, DiskFailed, NotBegun, RoundsEnded, StreamFailed}
 use Rattle.wire.specs.Records.{Record, spelled_record}
-use Rattle.wire.specs.Sinks.{SinkState, Takes}
+use Rattle.wire.specs.Sinks.{Digested, SinkState, Takes}
 
 -- The number of the reason why a machine is not sent.
 abbrev pub mig_code_of : MigError → ℕ
@@ -39,14 +39,14 @@ IsNamed s StreamFailed = Unit {0}
 IsNamed s e = ⊥
 
 -- If a disk failed as an item was read, the error names this item, and nothing was written.
-pub record IsUnwritten {T : Type 0} (i : items.Item) (dev n : ℕ) (out new_out : SinkState) (tally new_tally : T) : Type 0 where
+pub record IsUnwritten (i : items.Item) (dev n : ℕ) (out new_out : SinkState) (sum new_sum : Digested) : Type 0 where
   pub names : items.sector dev n ≡ i
   pub out_stays : new_out ≡ out
-  pub tally_stays : new_tally ≡ tally
+  pub sum_stays : new_sum ≡ sum
 
-abbrev pub NamesItem : {T : Type 0} → items.Item → MigError → SinkState → SinkState → T → T → Type 0
-NamesItem i (DiskFailed dev n) out new_out tally new_tally = IsUnwritten i dev n out new_out tally new_tally
-NamesItem i e out new_out tally new_tally = Unit {0}
+abbrev pub NamesItem : items.Item → MigError → SinkState → SinkState → Digested → Digested → Type 0
+NamesItem i (DiskFailed dev n) out new_out sum new_sum = IsUnwritten i dev n out new_out sum new_sum
+NamesItem i e out new_out sum new_sum = Unit {0}
 
 -- A call that adds these bytes to a sink, and may read sectors for them. The machine is unchanged. The writer's count of
 -- failures rises exactly where the result says that the writer failed, and a disk's exactly where it says that this disk
@@ -60,13 +60,13 @@ pub record Sends {A : Type 0} (old : Seen) (out : SinkState) (bytes : List ℕ) 
   pub count : new_out.failures ≡ (if has_writer_failed result then (out.failures + 1) % 2 ^ 64 else out.failures)
   pub holds : OnOk result (AreHonest old → IsTrue out.honest → IsTrue new_out.honest × (new_out.held ≡ out.held ++ bytes))
 
--- As above, for what is kept of the bytes, such as their digest: on success, if the disks are honest, it took these bytes too.
-abbrev pub TakesOn : {A : Type 0} → Seen → (List ℕ → Type 0) → List ℕ → Result A MigError → (List ℕ → Type 0) → Type 0
-TakesOn old has_taken bytes result has_taken_now = OnOk result (AreHonest old → Takes has_taken bytes has_taken_now)
+-- As above, for the digest of the bytes: on success, if the disks are honest, it takes these bytes too.
+abbrev pub TakesOn : {A : Type 0} → Seen → Digested → List ℕ → Result A MigError → Digested → Type 0
+TakesOn old sum bytes result new_sum = OnOk result (AreHonest old → Takes sum bytes new_sum)
 
--- The record of an item was added, if the sink is honest, and what is kept of the bytes took it too, with any disks.
-pub record AddsItem (s : Seen) (i : items.Item) (out : SinkState) (has_taken : List ℕ → Type 0) (new_out : SinkState) (has_taken_now : List ℕ → Type 0) : Type 0 where
+-- The record of an item was added, if the sink is honest, and its digest takes it too, with any disks.
+pub record AddsItem (s : Seen) (i : items.Item) (out : SinkState) (sum : Digested) (new_out : SinkState) (new_sum : Digested) : Type 0 where
   pub entry : Record
   pub told : IsTold s i entry
   pub holds : IsTrue out.honest → IsTrue new_out.honest × (new_out.held ≡ out.held ++ spelled_record entry)
-  pub takes : Takes has_taken (spelled_record entry) has_taken_now
+  pub takes : Takes sum (spelled_record entry) new_sum

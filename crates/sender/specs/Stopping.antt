@@ -1,11 +1,11 @@
 -- The parts of a copy and of a stop.
 use Rattle.std.specs.Prelude.{◌≡◌, ℕ, ◌+◌, ◌<◌, ◌≤◌, ◌^◌, if◌then◌else◌, List, Bool, true, false, Option, Some, None, Result, Ok, Err, length, min}
 use Rattle.dirtylog.specs.Members.{has}
-use Rattle.sha2.specs.Hashers.{Holds256}
 use Rattle.guestmem.specs.Item as items
-use Rattle.machine.specs.Layout.{firsts_of, item_at, layout_of, size_of}
+use Rattle.machine.specs.Layout.{Layout, firsts_of, item_at, layout_of, size_of}
 use Rattle.machine.specs.Seen.{Seen, state_of}
 use Rattle.machine.specs.Sound.{IsSound}
+use Rattle.wire.specs.Sinks.{Covers}
 use Rattle.sender.specs.Calls.{AreSent, Fails, IsSent, IsUnread, StopsShort, Took, in_either}
 use Rattle.sender.specs.LiveState.{LiveSeen, closing, item_of, last_round, now, pages_among, sectors_among}
 use Rattle.sender.specs.declared.event.Item.{Item}
@@ -20,21 +20,21 @@ abbrev pub RoundFits : Phase → Type 0
 RoundFits (phases.Open round) = round ≤ last_round
 RoundFits _ = Unit {0}
 
--- The sets have an entry for each item, and the log finds it.
-pub record HasRoom (machine : Seen) (due dirty : List Bool) (firsts : List ℕ) : Type 0 where
-  pub due_size : length due ≡ size_of (layout_of (state_of machine))
-  pub dirty_size : length dirty ≡ size_of (layout_of (state_of machine))
-  pub firsts_are : firsts ≡ firsts_of (layout_of (state_of machine))
-
--- The machine is sound, the sets have an entry for each item, and there are fewer than 2^64 items. No item below `at` is due:
--- the search for the next one starts there.
-pub record IsLive (machine : Seen) (phase : Phase) (due dirty : List Bool) (firsts : List ℕ) (at : ℕ) : Type 0 where
-  pub sound : IsSound (state_of machine)
+-- The sets of a migration, whether the RAM of its machine is lent or not: they have an entry for each item, of which there are fewer than
+-- 2^64, and the log finds it. No item below `at` is due: the search for the next one starts there.
+pub record SetsFit (l : Layout) (phase : Phase) (due dirty : List Bool) (firsts : List ℕ) (at : ℕ) : Type 0 where
   pub few : length due < 2 ^ 64
-  pub room : HasRoom machine due dirty firsts
+  pub due_size : length due ≡ size_of l
+  pub dirty_size : length dirty ≡ size_of l
+  pub firsts_are : firsts ≡ firsts_of l
   pub round : RoundFits phase
   pub reached : at ≤ length due
   pub passed : (k : ℕ) → k < at → has due k ≡ false
+
+-- What holds of every machine that is being migrated.
+pub record IsLive (machine : Seen) (phase : Phase) (due dirty : List Bool) (firsts : List ℕ) (at : ℕ) : Type 0 where
+  pub sound : IsSound (state_of machine)
+  pub sets : SetsFit (layout_of (state_of machine)) phase due dirty firsts at
 
 -- The phase after sending an item failed with this error.
 abbrev pub phase_after : Phase → MigError → Phase
@@ -86,7 +86,7 @@ pub record IsClosed (old new : LiveSeen) : Type 0 where
   pub dirty : new.dirty ≡ old.dirty
   pub count : new.out.failures ≡ old.out.failures
   pub flushed : new.out.is_flushed ≡ true
-  pub took : (b : List ℕ) → Holds256 old.digest b → Took old new (closing (now old) b)
+  pub took : (b : List ℕ) → Covers old.digest b → Took old new (closing (now old) b)
 
 abbrev pub Closes : {A : Type 0} → LiveSeen → Result A MigError → LiveSeen → Type 0
 Closes old (Ok x) new = IsClosed old new

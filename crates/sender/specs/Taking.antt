@@ -1,4 +1,4 @@
--- Bytes that are taken out of the writer between two calls: another writer is put in its place.
+-- Bytes that are taken out of the writer between two calls.
 use Rattle.std.specs.Prelude.{◌≡◌, ◌++◌, List, ℕ, IsTrue}
 use Rattle.machine.specs.Sound.{IsSound}
 use Rattle.machine.specs.State.{MachineState}

@@ -44,7 +44,8 @@ pub fn replies_settle()
     ensures { OneHistory }
 {}
 
-/// No call depends on what the writer holds: each does the same if some of it was taken out by `Live::replace_writer`.
+/// No call depends on what the writer holds: each does the same if some of it was taken out (`LiveWaiting::take`,
+/// `Live::replace_writer`).
 pub fn calls_ignore_what_was_taken()
     ensures { CallsIgnoreTaken }
 {}

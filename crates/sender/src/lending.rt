@@ -1,45 +1,44 @@
 //! Machines that are being migrated, and whose RAM is lent.
 
-ghost use Rattle.std.specs.Prelude.{◌≡◌, ◌*◌, length, None, IfOk, IfErr};
+ghost use Rattle.std.specs.Prelude.{◌≡◌, ◌*◌, ◌++◌, [], Some, drop, false, length, min, take};
+ghost use Rattle.wire.specs.Sinks.{Takes, over_writer};
 ghost use Rattle.region.specs.Address.{address};
 ghost use Rattle.guestmem.specs.Lent.{AreBelow, given_back};
 ghost use Rattle.guestmem.specs.declared.limits.TheConstants.{PAGE_SIZE};
 ghost use Rattle.sender.specs.Parked.{IsLiveParked, live_back};
 
 use crate::dirty::Dirty;
-use crate::live::Live;
+use crate::live::LiveOver;
 use crate::phase::Phase;
 use dirtylog::BitSet;
 use machine::{Disk, Parked};
 use region::Region;
-use sha2::Sha256;
 use std::marker::Model;
-use std::mem;
-use wire::Sink;
+use wire::{Digesting, Eager, Sink, Waiting};
 
 /// A machine that is being migrated, and whose RAM is lent. No call is made of it, and nothing of it is sent.
 #[derive(Drop)]
-pub struct LiveParked<D: Disk, W: Sink> {
+pub struct LiveParked<D: Disk, W: Digesting> {
     pub(crate) parked: Parked<D>,
     pub(crate) writer: W,
-    pub(crate) taken: Sha256,
-    pub(crate) stage: Phase,
-    pub(crate) left: BitSet,
+    pub(crate) phase: Phase,
+    pub(crate) due: BitSet,
     pub(crate) at: u64,
-    pub(crate) changed: Dirty,
+    pub(crate) dirty: Dirty,
 }
 
-impl<D: Disk, W: Sink> Model for LiveParked<D, W> {
-    ghost use Rattle.sender.specs.Parked.{LiveParkedSeen, WasLive};
+impl<D: Disk, W: Digesting> Model for LiveParked<D, W> {
+    ghost use Rattle.sender.specs.Parked.{LiveParkedSeen, parked_layout};
+    ghost use Rattle.sender.specs.Stopping.{SetsFit};
 
     ghost Value = { LiveParkedSeen };
 
-    ghost view = { λ l. record { parked = l.parked; phase = l.stage; due = l.left; dirty = l.changed.set; digest = l.taken; out = W.state l.writer } };
+    ghost view = { λ l. record { parked = l.parked; phase = l.phase; due = l.due; dirty = l.dirty.set; digest = W.sum l.writer; out = W.state l.writer } };
 
-    ghost invariant = { λ l. WasLive l.parked l.stage l.left l.changed.set l.changed.firsts.items l.at };
+    ghost invariant = { λ l. SetsFit (parked_layout l.parked) l.phase l.due l.dirty.set l.dirty.firsts.items l.at };
 }
 
-impl<D: Disk, W: Sink> LiveParked<D, W> {
+impl<D: Disk, W: Digesting> LiveParked<D, W> {
     /// How many pages its RAM has, from 1 to 16,384.
     pub fn pages(&self) -> usize
         ensures { result ≡ length self.now.parked.versions }
@@ -54,16 +53,8 @@ impl<D: Disk, W: Sink> LiveParked<D, W> {
         &self.parked
     }
 
-    /// Replaces the writer, and returns the old one, as `Live::replace_writer` does.
-    pub fn replace_writer(&mut self, writer: W) -> W
-        ensures out { W.state result ≡ self.old.out }
-        ensures rest { self.new ≡ record self.old { out = W.state writer } }
-    {
-        mem::replace(&mut self.writer, writer)
-    }
-
     /// The machine whose RAM is given back, as `Parked::give_back` does. The pages that were written meanwhile are dirty.
-    pub fn give_back(self, region: Region, pages: &[u32]) -> Live<D, W>
+    pub fn give_back(self, region: Region, pages: &[u32]) -> LiveOver<D, W>
         requires size { length region.content ≡ PAGE_SIZE * length self.parked.versions }
         requires below { AreBelow (length self.parked.versions) pages.now }
         ensures { result ≡ live_back self (given_back region.content (address region) self.parked.versions pages.now) pages.now }
@@ -71,23 +62,43 @@ impl<D: Disk, W: Sink> LiveParked<D, W> {
         let LiveParked {
             parked,
             writer,
-            taken,
-            stage,
-            left,
+            phase,
+            due,
             at,
-            mut changed,
+            mut dirty,
         } = self;
-        let source = parked.give_back(region, pages, &mut changed);
-        source.ram().recall();
-        let _shapes = source.shapes();
-        Live {
-            source,
+        let machine = parked.give_back(region, pages, &mut dirty);
+        machine.ram().recall();
+        let _shapes = machine.shapes();
+        LiveOver {
+            machine,
             writer,
-            taken,
-            stage,
-            left,
+            phase,
+            due,
             at,
-            changed,
+            dirty,
         }
+    }
+}
+
+impl<D: Disk, W: Sink> LiveParked<D, Eager<W>> {
+    /// Replaces the writer, and returns the old one, as `Live::replace_writer` does.
+    pub fn replace_writer(&mut self, writer: W) -> W
+        ensures out { W.state result ≡ self.old.out }
+        ensures rest { self.new ≡ record self.old { out = W.state writer } }
+    {
+        self.writer.replace(writer)
+    }
+}
+
+impl<D: Disk> LiveParked<D, Waiting> {
+    /// Takes the first of the bytes that wait, as `LiveOver::take` does.
+    pub fn take(&mut self, buf: &mut [u8]) -> usize
+        ensures count { result ≡ min (length buf.old) (length self.old.out.held) }
+        ensures taken { buf.new ≡ take result self.old.out.held ++ drop result buf.old }
+        ensures left { self.new ≡ record self.old { out = over_writer (Some (drop result self.old.out.held)) 0 false; digest = self.new.digest } }
+        ensures digest { Takes self.old.digest [] self.new.digest }
+    {
+        self.writer.take(buf)
     }
 }

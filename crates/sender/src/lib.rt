@@ -8,7 +8,7 @@
 //!   one for each of the first ones (`SaveCalls` of `specs/Reads`). It takes no memory of its own.
 //! - `saved_len(machine)` is the length of that stream, made without it.
 //! - `Live` is a machine that is migrated while it runs. Contracts see of it the machine, the phase (fresh, a round
-//!   open, stopped, failed), two sets of items, *due* and *dirty*, what its digest may have taken, and what its writer
+//!   open, stopped, failed), two sets of items, *due* and *dirty*, what its digest covers, and what its writer
 //!   holds. One clause, `Serves` (`specs/Calls`), says what each call does, by its reply:
 //!   - a refusal by the phase changes nothing: not begun, already begun, already stopped, the round counter exhausted,
 //!     and an earlier failure of the writer;
@@ -34,6 +34,9 @@
 //!   continues with that step, and nothing becomes dirty: the stop sends the devices whole.
 //! - `flush_disk` is one flush of the disk of a device, in each phase: the machine stays equal, and the history as it was
 //!   (`laws::flush_keeps_the_history`).
+//! - `LiveOver` is `Live` over any writer that digests. `Live` itself is over any sink, and digests what it writes at once. Over
+//!   `Waiting` it is `LiveWaiting`: `take`, also that of `LiveParked`, gives written bytes between two calls and digests them then, so
+//!   a copy digests nothing, and a stop what was not taken.
 //! - `remaining` counts both sets in constant time; `machine` lends the machine to be read; `into_parts` and `abort`
 //!   return it.
 //! - `lend` gives the RAM of a machine over memory of the caller to the caller, whose guest may write there, and keeps all else as a
@@ -49,7 +52,7 @@
 //!   what is due, and the two sets together are what is stale; a history that ends in a stop is a stream; its machine
 //!   is that of a run of the guest's events alone; events and replies determine all of it; no call depends on what the
 //!   writer holds.
-//! - Only `Live::new` and `replay` take memory. What single calls promise of bytes holds for an honest writer and any disks: of a
+//! - Only the `new` of a `Live` and `replay` take memory. What single calls promise of bytes holds for an honest writer and any disks: of a
 //!   sector goes out what its disk returned, which is its content if the disk is honest (`specs/Told`,
 //!   `laws::honest_disks_tell_contents`). The history of `replay`, and the bytes of `save`, are promised for honest disks. For any it
 //!   is promised that each event has a reply or none has, that nothing is changed where none has, that each reply is that of its
@@ -76,7 +79,7 @@ mod saving;
 
 pub use event::{CopyAnswer, End, Item, LiveEvent, LiveReply, Remaining, Stopped};
 pub use lending::LiveParked;
-pub use live::Live;
+pub use live::{Live, LiveOver, LiveWaiting};
 pub use measuring::saved_len;
 pub use mig_error::MigError;
 pub use phase::Phase;

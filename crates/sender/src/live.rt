@@ -6,18 +6,18 @@
 //! A stop goes over its two sets side by side, and searches each on only from the member that it has just sent: a search of
 //! both from each item on would go over the rest of a set that has one late member for each item of the other.
 
-ghost use Rattle.std.specs.Prelude.{◌≡◌, ◌≢◌, ◌<◌, ◌^◌, ◌-◌, IfOk, IfErr, None, Some, [], true, length};
+ghost use Rattle.std.specs.Prelude.{◌≡◌, ◌≢◌, ◌<◌, ◌^◌, ◌-◌, ◌++◌, IfOk, IfErr, None, OnOk, Some, [], drop, false, length, min, take, true};
 ghost use Rattle.dirtylog.specs.Members.{HasNone, IsLeastFrom, member_count};
-ghost use Rattle.sha2.specs.Hashers.{Holds256};
 ghost use Rattle.machine.specs.declared.event.Event.TheVariants as events;
 ghost use Rattle.machine.specs.Calls.{CallsDisk};
 ghost use Rattle.machine.specs.Layout.{item_at, layout_of, size_of};
+ghost use Rattle.wire.specs.Sinks.{Covers, Takes, over_writer};
 ghost use Rattle.sender.specs.LiveState.{HasPlaces, now, refusal_for};
 ghost use Rattle.sender.specs.Calls.{Serves, begun_reply, copied_reply, ended_reply, guest_reply, stepped_result, stopped_reply};
 ghost use Rattle.sender.specs.Parked.{IsLiveParked};
 ghost use Rattle.sender.specs.Reads.{CallsNone, HasLiveCalled, ReadsItem, SendCalls};
 ghost use Rattle.sender.specs.Unsynced.{FlushesLiveDisk, TriesFlush};
-ghost use Rattle.sender.specs.Stopping.{Closes, HasNoneUpTo, SendsAll, SendsItem, lesser, one_more, phase_after};
+ghost use Rattle.sender.specs.Stopping.{Closes, HasNoneUpTo, IsLive, SendsAll, SendsItem, lesser, one_more, phase_after};
 
 use crate::dirty::Dirty;
 use crate::event::{CopyAnswer, End, Item, LiveEvent, LiveReply, Remaining, Stopped};
@@ -29,38 +29,44 @@ use crate::saving::{send_item, write_devices, write_end};
 use dirtylog::BitSet;
 use machine::{Disk, DiskFault, Event, Machine, Reply, Stepped};
 use region::Region;
-use sha2::{Digest, Sha256};
 use std::alloc::{AllocError, Global};
 use std::marker::Model;
-use std::mem;
-use wire::{Sink, write_header, write_round};
+use wire::{Digesting, Eager, Sink, Waiting, encode_header, encode_round};
 
-/// A machine, the stream that is written of it, and what is still to be sent.
+/// The last round that the record of a round's end can number. It can't be ended.
+const LAST_ROUND: u32 = u32::MAX;
+
+/// A machine, the stream that is written of it, and what is still to be sent. The writer digests what it takes, when it will.
 #[derive(Drop)]
-pub struct Live<D: Disk, W: Sink> {
-    pub(crate) source: Machine<D>,
+pub struct LiveOver<D: Disk, W: Digesting> {
+    pub(crate) machine: Machine<D>,
     pub(crate) writer: W,
-    pub(crate) taken: Sha256,
-    pub(crate) stage: Phase,
-    pub(crate) left: BitSet,
+    pub(crate) phase: Phase,
+    pub(crate) due: BitSet,
     // No item below this number is due. The search for the next one starts here.
     pub(crate) at: u64,
-    pub(crate) changed: Dirty,
+    pub(crate) dirty: Dirty,
 }
 
-impl<D: Disk, W: Sink> Model for Live<D, W> {
+/// One whose writer is any sink. What is written is digested at once.
+pub type Live<D, W> = LiveOver<D, Eager<W>>;
+
+/// One whose bytes wait in memory until they are taken, and are digested no sooner than they must.
+pub type LiveWaiting<D> = LiveOver<D, Waiting>;
+
+impl<D: Disk, W: Digesting> Model for LiveOver<D, W> {
     ghost use Rattle.sender.specs.LiveState.{LiveSeen};
 
     ghost Value = { LiveSeen };
 
     ghost use Rattle.sender.specs.Stopping.{IsLive};
 
-    ghost view = { λ l. record { machine = l.source; phase = l.stage; due = l.left; dirty = l.changed.set; digest = l.taken; out = W.state l.writer } };
+    ghost view = { λ l. record { machine = l.machine; phase = l.phase; due = l.due; dirty = l.dirty.set; digest = W.sum l.writer; out = W.state l.writer } };
 
-    ghost invariant = { λ l. IsLive l.source l.stage l.left l.changed.set l.changed.firsts.items l.at };
+    ghost invariant = { λ l. IsLive l.machine l.phase l.due l.dirty.set l.dirty.firsts.items l.at };
 }
 
-impl<D: Disk, W: Sink> Live<D, W> {
+impl<D: Disk, W: Sink> LiveOver<D, Eager<W>> {
     /// A machine of which nothing is sent yet. Fails only if memory is refused.
     pub fn new(
         alloc: Global,
@@ -70,44 +76,110 @@ impl<D: Disk, W: Sink> Live<D, W> {
         ensures machine { IfOk result (λ l. l.machine ≡ machine) }
         ensures fresh { IfOk result (λ l. l.phase ≡ Phase.Fresh) }
         ensures empty { IfOk result (λ l. HasNone l.due × HasNone l.dirty) }
-        ensures digest { IfOk result (λ l. Holds256 l.digest []) }
+        ensures digest { IfOk result (λ l. Covers l.digest []) }
         ensures places { IfOk result (λ l. HasPlaces l) }
         ensures out { IfOk result (λ l. l.out ≡ W.state writer) }
         ensures err { IfErr result (λ e. (e.1 ≡ machine) × (e.2 ≡ writer)) }
     {
-        let _shapes = machine.shapes();
-        let Ok((firsts, size)) = number_items(alloc, &machine) else {
+        let Ok((due, dirty)) = make_room(alloc, &machine) else {
             return Err((AllocError, machine, writer));
         };
-        let Ok(left) = BitSet::new(alloc, size) else {
-            return Err((AllocError, machine, writer));
-        };
-        let Ok(set) = BitSet::new(alloc, size) else {
-            return Err((AllocError, machine, writer));
-        };
-        Ok(Live {
-            source: machine,
-            writer,
-            taken: Sha256::new(),
-            stage: Phase::Fresh,
-            left,
+        let live = LiveOver {
+            machine,
+            writer: Eager::new(writer),
+            phase: Phase::Fresh,
+            due,
             at: 0,
-            changed: Dirty { set, firsts },
-        })
+            dirty,
+        };
+        live.recall();
+        Ok(live)
     }
 
+    /// The machine and the writer, as they are.
+    pub fn into_parts(self) -> (Machine<D>, W)
+        ensures machine { result.0 ≡ self.machine }
+        ensures out { W.state result.1 ≡ self.out }
+    {
+        let (machine, writer) = self.parts();
+        (machine, writer.into_inner())
+    }
+
+    /// Replaces the writer, and returns the old one. All else stays the same. No call depends on what a writer holds
+    /// (`laws::calls_ignore_what_was_taken`), so a caller may take that out between two calls.
+    pub fn replace_writer(&mut self, writer: W) -> W
+        ensures out { W.state result ≡ self.old.out }
+        ensures rest { self.new ≡ record self.old { out = W.state writer } }
+    {
+        self.writer.replace(writer)
+    }
+}
+
+impl<D: Disk> LiveOver<D, Waiting> {
+    /// A machine of which nothing is sent yet. Fails only if memory is refused.
+    pub fn new(
+        alloc: Global,
+        machine: Machine<D>,
+        writer: Waiting,
+    ) -> Result<LiveWaiting<D>, (AllocError, Machine<D>, Waiting)>
+        ensures machine { IfOk result (λ l. l.machine ≡ machine) }
+        ensures fresh { IfOk result (λ l. l.phase ≡ Phase.Fresh) }
+        ensures empty { IfOk result (λ l. HasNone l.due × HasNone l.dirty) }
+        ensures digest { IfOk result (λ l. Covers l.digest []) }
+        ensures places { IfOk result (λ l. HasPlaces l) }
+        ensures out { IfOk result (λ l. l.out ≡ writer.out) }
+        ensures err { IfErr result (λ e. (e.1 ≡ machine) × (e.2 ≡ writer)) }
+    {
+        let Ok((due, dirty)) = make_room(alloc, &machine) else {
+            return Err((AllocError, machine, writer));
+        };
+        let mut writer = writer;
+        writer.begin();
+        let live = LiveOver {
+            machine,
+            writer,
+            phase: Phase::Fresh,
+            due,
+            at: 0,
+            dirty,
+        };
+        live.recall();
+        Ok(live)
+    }
+
+    /// The machine and the writer, as they are.
+    pub fn into_parts(self) -> (Machine<D>, Waiting)
+        ensures machine { result.0 ≡ self.machine }
+        ensures out { result.1.out ≡ self.out }
+    {
+        self.parts()
+    }
+
+    /// Takes the first of the bytes that wait, as `Waiting::take` does. No call depends on what the writer holds
+    /// (`laws::calls_ignore_what_was_taken`), so bytes may be taken between two calls.
+    pub fn take(&mut self, buf: &mut [u8]) -> usize
+        ensures count { result ≡ min (length buf.old) (length self.old.out.held) }
+        ensures taken { buf.new ≡ take result self.old.out.held ++ drop result buf.old }
+        ensures left { self.new ≡ record self.old { out = over_writer (Some (drop result self.old.out.held)) 0 false; digest = self.new.digest } }
+        ensures digest { Takes self.old.digest [] self.new.digest }
+    {
+        self.writer.take(buf)
+    }
+}
+
+impl<D: Disk, W: Digesting> LiveOver<D, W> {
     /// The machine, to be read: its registers, its RAM, its interrupt lines.
     pub fn machine(&self) -> &Machine<D>
         ensures { result.now ≡ self.now.machine }
     {
-        &self.source
+        &self.machine
     }
 
     /// How far its migration has come.
     pub fn phase(&self) -> Phase
         ensures { result ≡ self.now.phase }
     {
-        self.stage
+        self.phase
     }
 
     /// How many items are due, and how many are dirty. It takes constant time.
@@ -116,8 +188,8 @@ impl<D: Disk, W: Sink> Live<D, W> {
         ensures dirty { result.dirty ≡ member_count self.now.dirty }
     {
         Remaining {
-            due: self.left.count(),
-            dirty: self.changed.set.count(),
+            due: self.due.count(),
+            dirty: self.dirty.set.count(),
         }
     }
 
@@ -127,80 +199,67 @@ impl<D: Disk, W: Sink> Live<D, W> {
         W: Drop,
         ensures { result ≡ self.machine }
     {
-        let (machine, _writer) = self.into_parts();
+        let (machine, _writer) = self.parts();
         machine
     }
 
     /// The machine and the writer, as they are.
-    pub fn into_parts(self) -> (Machine<D>, W)
+    fn parts(self) -> (Machine<D>, W)
         ensures machine { result.0 ≡ self.machine }
         ensures out { W.state result.1 ≡ self.out }
     {
-        let Live {
-            source,
+        let LiveOver {
+            machine,
             writer,
-            taken: _,
-            stage: _,
-            left: _,
+            phase: _,
+            due: _,
             at: _,
-            changed: _,
+            dirty: _,
         } = self;
-        (source, writer)
-    }
-
-    /// Replaces the writer, and returns the old one. All else stays the same. No call depends on what a writer holds
-    /// (`laws::calls_ignore_what_was_taken`), so a caller may take that out between two calls.
-    pub fn replace_writer(&mut self, writer: W) -> W
-        ensures out { W.state result ≡ self.old.out }
-        ensures rest { self.new ≡ record self.old { out = W.state writer } }
-    {
-        mem::replace(&mut self.writer, writer)
+        (machine, writer)
     }
 
     /// For proofs: the sets have an index for each item (see the page of `guestmem`).
     pub fn recall(&self)
         ensures { HasPlaces self.now }
     {
-        let _left = &self.left;
+        let _due = &self.due;
     }
 
     /// Lends the RAM of the machine, if it lies in memory of the caller. Takes no memory; its time does not depend on the size of RAM.
-    pub fn lend(self) -> Result<(Region, LiveParked<D, W>), Live<D, W>>
+    pub fn lend(self) -> Result<(Region, LiveParked<D, W>), LiveOver<D, W>>
         ensures lent { IfOk result (λ r. IsLiveParked self r.0 r.1) }
         ensures own { IfErr result (λ _. self.machine.memory.place ≡ None) }
         ensures same { IfErr result (λ l. l ≡ self) }
     {
-        self.source.ram().recall();
-        let Live {
-            source,
+        self.machine.ram().recall();
+        let LiveOver {
+            machine,
             writer,
-            taken,
-            stage,
-            left,
+            phase,
+            due,
             at,
-            changed,
+            dirty,
         } = self;
-        match source.lend() {
+        match machine.lend() {
             Ok((region, parked)) => Ok((
                 region,
                 LiveParked {
                     parked,
                     writer,
-                    taken,
-                    stage,
-                    left,
+                    phase,
+                    due,
                     at,
-                    changed,
+                    dirty,
                 },
             )),
-            Err(source) => Err(Live {
-                source,
+            Err(machine) => Err(LiveOver {
+                machine,
                 writer,
-                taken,
-                stage,
-                left,
+                phase,
+                due,
                 at,
-                changed,
+                dirty,
             }),
         }
     }
@@ -208,7 +267,7 @@ impl<D: Disk, W: Sink> Live<D, W> {
     fn refusal(&self, event: &LiveEvent) -> Option<MigError>
         ensures { result ≡ refusal_for self.now.phase event.now }
     {
-        match (self.stage, event) {
+        match (self.phase, event) {
             (Phase::Failed, LiveEvent::Guest(_)) => None,
             (Phase::Failed, _) => Some(MigError::StreamFailed),
             (Phase::Stopped, _) => Some(MigError::AlreadyStopped),
@@ -217,7 +276,7 @@ impl<D: Disk, W: Sink> Live<D, W> {
             (Phase::Fresh, _) => Some(MigError::NotBegun),
             (Phase::Open(_), LiveEvent::Begin) => Some(MigError::AlreadyBegun),
             (Phase::Open(round), LiveEvent::EndRound) => {
-                if round == 4294967295 {
+                if round == LAST_ROUND {
                     Some(MigError::RoundsEnded)
                 } else {
                     None
@@ -227,30 +286,40 @@ impl<D: Disk, W: Sink> Live<D, W> {
         }
     }
 
+    /// Whether the guest still runs: a stop that closed the stream has paused it.
+    fn running(&self) -> Result<(), MigError>
+        ensures open { OnOk result (self.now.phase ≢ Phase.Stopped) }
+        ensures closed { IfErr result (λ e. (e ≡ MigError.AlreadyStopped) × (self.now.phase ≡ Phase.Stopped)) }
+    {
+        if let Phase::Stopped = self.phase {
+            return Err(MigError::AlreadyStopped);
+        }
+        Ok(())
+    }
+
     /// Applies the guest's event, and marks as dirty what it writes.
+    #[tactic(auto, using(crate::proofs::Living::guest_refused))]
     pub fn apply(&mut self, event: &Event) -> Result<Reply, MigError>
         ensures served { Serves self.old (LiveEvent.Guest event.now) (guest_reply result) self.new }
         ensures calls { HasLiveCalled D.called self.old (LiveEvent.Guest event.now) (guest_reply result) self.new }
     {
-        if let Phase::Stopped = self.stage {
-            return Err(MigError::AlreadyStopped);
-        }
-        Ok(self.source.apply_logged(event, &mut self.changed))
+        self.running()?;
+        Ok(self.machine.apply_logged(event, &mut self.dirty))
     }
 
     /// The driver reads a register. As `apply` of that event.
+    #[tactic(auto, using(crate::proofs::Living::guest_refused))]
     pub fn read_register(&mut self, dev: u8, offset: u32, width: u8) -> Result<Reply, MigError>
         ensures served { Serves self.old (LiveEvent.Guest (events.RegRead dev offset width)) (guest_reply result) self.new }
         ensures calls { HasLiveCalled D.called self.old (LiveEvent.Guest (events.RegRead dev offset width)) (guest_reply result) self.new }
     {
-        if let Phase::Stopped = self.stage {
-            return Err(MigError::AlreadyStopped);
-        }
-        let answer = self.source.read_register(dev, offset, width);
+        self.running()?;
+        let answer = self.machine.read_register(dev, offset, width);
         Ok(Reply::from_value(answer))
     }
 
     /// The driver writes a register. As `apply` of that event.
+    #[tactic(auto, using(crate::proofs::Living::guest_refused))]
     pub fn write_register(
         &mut self,
         dev: u8,
@@ -261,37 +330,33 @@ impl<D: Disk, W: Sink> Live<D, W> {
         ensures served { Serves self.old (LiveEvent.Guest (events.RegWrite dev offset width value)) (guest_reply result) self.new }
         ensures calls { HasLiveCalled D.called self.old (LiveEvent.Guest (events.RegWrite dev offset width value)) (guest_reply result) self.new }
     {
-        if let Phase::Stopped = self.stage {
-            return Err(MigError::AlreadyStopped);
-        }
-        let answer = self.source.write_register(dev, offset, width, value);
+        self.running()?;
+        let answer = self.machine.write_register(dev, offset, width, value);
         Ok(Reply::from_written(answer))
     }
 
     /// The host sets the size of a console, in characters. As `apply` of that event.
+    #[tactic(auto, using(crate::proofs::Living::guest_refused))]
     pub fn resize(&mut self, dev: u8, cols: u16, rows: u16) -> Result<Reply, MigError>
         ensures served { Serves self.old (LiveEvent.Guest (events.Resize dev cols rows)) (guest_reply result) self.new }
         ensures calls { HasLiveCalled D.called self.old (LiveEvent.Guest (events.Resize dev cols rows)) (guest_reply result) self.new }
     {
-        if let Phase::Stopped = self.stage {
-            return Err(MigError::AlreadyStopped);
-        }
-        let answer = self.source.resize(dev, cols, rows);
+        self.running()?;
+        let answer = self.machine.resize(dev, cols, rows);
         Ok(Reply::from_done(answer))
     }
 
     /// A device does one piece of its work, which the pick names. As `apply` of that event; the bytes of a message go into the buffer,
     /// which is cut or grows to them, and where none is sent it may hold anything.
+    #[tactic(auto, using(crate::proofs::Living::guest_refused))]
     pub fn step_into(&mut self, dev: u8, pick: u8, sent: &mut Vec<u8>) -> Result<Stepped, MigError>
         ensures served { Serves self.old (LiveEvent.Guest (events.Step dev pick)) (guest_reply (stepped_result result sent.new.items)) self.new }
         ensures calls { HasLiveCalled D.called self.old (LiveEvent.Guest (events.Step dev pick)) (guest_reply (stepped_result result sent.new.items)) self.new }
     {
-        if let Phase::Stopped = self.stage {
-            return Err(MigError::AlreadyStopped);
-        }
+        self.running()?;
         Ok(
-            self.source
-                .step_into_logged(dev, pick, sent, &mut self.changed),
+            self.machine
+                .step_into_logged(dev, pick, sent, &mut self.dirty),
         )
     }
 
@@ -301,43 +366,40 @@ impl<D: Disk, W: Sink> Live<D, W> {
         ensures flushed { FlushesLiveDisk self.old dev result self.new }
         ensures calls { CallsDisk D.called true dev self.old.machine self.new.machine }
     {
-        self.source.flush_disk(dev)
+        self.machine.flush_disk(dev)
     }
 
     /// In place of a step that flushes a disk: makes it as a step whose disk failed, and calls no disk (`Machine::fail_flush`). The
     /// result says whether the step with this pick flushes; if not, nothing has changed.
+    #[tactic(auto, using(crate::proofs::Unsynced::flush_refused))]
     pub fn fail_flush(&mut self, dev: u8, pick: u8) -> Result<bool, MigError>
         ensures tried { TriesFlush self.old dev pick result self.new }
         ensures calls { CallsNone self.old.machine self.new.machine }
     {
-        if let Phase::Stopped = self.stage {
-            return Err(MigError::AlreadyStopped);
-        }
-        Ok(self.source.fail_flush(dev, pick))
+        self.running()?;
+        Ok(self.machine.fail_flush(dev, pick))
     }
 
     /// The guest writes bytes into RAM from address `addr` on. As `apply` of that event, whose bytes need not be
     /// copied.
+    #[tactic(auto, using(crate::proofs::Living::guest_refused))]
     pub fn write_ram(&mut self, addr: u64, bytes: &[u8]) -> Result<Reply, MigError>
         ensures served { Serves self.old (LiveEvent.Guest (events.MemWrite addr bytes.now)) (guest_reply result) self.new }
         ensures calls { HasLiveCalled D.called self.old (LiveEvent.Guest (events.MemWrite addr bytes.now)) (guest_reply result) self.new }
     {
-        if let Phase::Stopped = self.stage {
-            return Err(MigError::AlreadyStopped);
-        }
-        let answer = self.source.write_ram_logged(addr, bytes, &mut self.changed);
+        self.running()?;
+        let answer = self.machine.write_ram_logged(addr, bytes, &mut self.dirty);
         Ok(Reply::from_done(answer))
     }
 
     /// The host puts bytes in. As `apply` of that event, whose bytes need not be copied.
+    #[tactic(auto, using(crate::proofs::Living::guest_refused))]
     pub fn input(&mut self, dev: u8, bytes: &[u8]) -> Result<Reply, MigError>
         ensures served { Serves self.old (LiveEvent.Guest (events.Input dev bytes.now)) (guest_reply result) self.new }
         ensures calls { HasLiveCalled D.called self.old (LiveEvent.Guest (events.Input dev bytes.now)) (guest_reply result) self.new }
     {
-        if let Phase::Stopped = self.stage {
-            return Err(MigError::AlreadyStopped);
-        }
-        Ok(Reply::from_accepted(self.source.input(dev, bytes)))
+        self.running()?;
+        Ok(Reply::from_accepted(self.machine.input(dev, bytes)))
     }
 
     /// Begins: the header is written, and every item is due.
@@ -348,20 +410,15 @@ impl<D: Disk, W: Sink> Live<D, W> {
         if let Some(error) = self.refusal(&LiveEvent::Begin) {
             return Err(error);
         }
-        let pages = page_count(&self.source);
-        if let Err(_) = write_header(
-            pages as u32,
-            self.source.shapes(),
-            &mut self.writer,
-            &mut self.taken,
-        ) {
-            self.stage = Phase::Failed;
+        let pages = page_count(&self.machine);
+        if let Err(_) = encode_header(pages as u32, self.machine.shapes(), &mut self.writer) {
+            self.phase = Phase::Failed;
             return Err(MigError::StreamFailed);
         }
-        self.left.fill();
+        self.due.fill();
         self.at = 0;
-        self.changed.set.clear();
-        self.stage = Phase::Open(1);
+        self.dirty.set.clear();
+        self.phase = Phase::Open(1);
         Ok(1)
     }
 
@@ -371,13 +428,13 @@ impl<D: Disk, W: Sink> Live<D, W> {
         ensures sent { SendsItem self.old number result self.new }
         ensures calls { ReadsItem D.called self.old.machine (item_at (layout_of (now self.old)) number) self.new.machine }
     {
-        let item = item_at(&self.source, number);
-        if let Err(error) = send_item(&mut self.source, item, &mut self.writer, &mut self.taken) {
-            self.stage = phase_after(self.stage, error);
+        let item = item_at(&self.machine, number);
+        if let Err(error) = send_item(&mut self.machine, item, &mut self.writer) {
+            self.phase = phase_after(self.phase, error);
             return Err(error);
         }
-        self.left.remove(number);
-        self.changed.set.remove(number);
+        self.due.remove(number);
+        self.dirty.set.remove(number);
         Ok(item)
     }
 
@@ -390,7 +447,7 @@ impl<D: Disk, W: Sink> Live<D, W> {
         if let Some(error) = self.refusal(&LiveEvent::Copy) {
             return Err(error);
         }
-        let Some(number) = self.left.first_from(self.at) else {
+        let Some(number) = self.due.first_from(self.at) else {
             return Ok(CopyAnswer::RoundDone);
         };
         let item = self.send(number)?;
@@ -406,19 +463,19 @@ impl<D: Disk, W: Sink> Live<D, W> {
         if let Some(error) = self.refusal(&LiveEvent::EndRound) {
             return Err(error);
         }
-        let Phase::Open(round) = self.stage else {
+        let Phase::Open(round) = self.phase else {
             return Err(MigError::NotBegun);
         };
-        if !self.left.is_empty() {
+        if !self.due.is_empty() {
             return Ok(End::RoundOpen);
         }
-        if let Err(_) = write_round(round, &mut self.writer, &mut self.taken) {
-            self.stage = Phase::Failed;
+        if let Err(_) = encode_round(round, &mut self.writer) {
+            self.phase = Phase::Failed;
             return Err(MigError::StreamFailed);
         }
-        self.changed.set.swap_out(&mut self.left);
+        self.dirty.set.swap_out(&mut self.due);
         self.at = 0;
-        self.stage = Phase::Open(round + 1);
+        self.phase = Phase::Open(round + 1);
         Ok(End::Begun(round + 1))
     }
 
@@ -429,20 +486,20 @@ impl<D: Disk, W: Sink> Live<D, W> {
         ensures calls { SendCalls D.called self.old result self.new }
     {
         self.recall();
-        let pages = page_count(&self.source);
+        let pages = page_count(&self.machine);
         let mut sent = Stopped {
             pages: 0,
             sectors: 0,
         };
-        let mut due = self.left.first_from(0);
-        let mut dirty = self.changed.set.first_from(0);
+        let mut due = self.due.first_from(0);
+        let mut dirty = self.dirty.set.first_from(0);
         'items: while let Some(number) = lesser(due, dirty) {
             if let Err(error) = self.send(number) {
                 return Err(error);
             }
             sent = counted(sent, number < pages);
-            due = next_past(&self.left, number, due);
-            dirty = next_past(&self.changed.set, number, dirty);
+            due = next_past(&self.due, number, due);
+            dirty = next_past(&self.dirty.set, number, dirty);
         }
         Ok(sent)
     }
@@ -452,16 +509,16 @@ impl<D: Disk, W: Sink> Live<D, W> {
         ensures closed { Closes self.old result self.new }
         ensures calls { CallsNone self.old.machine self.new.machine }
     {
-        if let Err(_) = write_devices(&self.source, &mut self.writer, &mut self.taken) {
-            self.stage = Phase::Failed;
+        if let Err(_) = write_devices(&self.machine, &mut self.writer) {
+            self.phase = Phase::Failed;
             return Err(MigError::StreamFailed);
         }
-        let digest = mem::replace(&mut self.taken, Sha256::new());
-        if let Err(_) = write_end(&digest.finalize(), &mut self.writer) {
-            self.stage = Phase::Failed;
+        let digest = self.writer.digest();
+        if let Err(_) = write_end(&digest, &mut self.writer) {
+            self.phase = Phase::Failed;
             return Err(MigError::StreamFailed);
         }
-        self.stage = Phase::Stopped;
+        self.phase = Phase::Stopped;
         Ok(())
     }
 
@@ -509,6 +566,18 @@ impl<D: Disk, W: Sink> Live<D, W> {
             },
         }
     }
+}
+
+/// Room for the sets of a machine of which nothing is sent yet. Fails only if memory is refused.
+fn make_room<D: Disk>(alloc: Global, machine: &Machine<D>) -> Result<(BitSet, Dirty), AllocError>
+    ensures empty { IfOk result (λ r. HasNone r.0 × HasNone r.1.set) }
+    ensures live { IfOk result (λ r. IsLive machine.now Phase.Fresh r.0 r.1.set r.1.firsts.items 0) }
+{
+    let _shapes = machine.shapes();
+    let (firsts, size) = number_items(alloc, machine)?;
+    let due = BitSet::new(alloc, size)?;
+    let set = BitSet::new(alloc, size)?;
+    Ok((due, Dirty { set, firsts }))
 }
 
 /// The phase after sending an item failed with `error`.

@@ -10,7 +10,9 @@ ghost use Rattle.sender.specs.Items.{disk_text, sectors_text};
 
 use crate::numbering::{page_count, sector_count};
 use machine::{Disk, Machine};
-use wire::{BAD_SECTOR_LEN, COMMIT_LEN, GOOD_SECTOR_LEN, device_len, header_len, page_len};
+use wire::{
+    BAD_SECTOR_RECORD, COMMIT_RECORD, GOOD_SECTOR_RECORD, device_len, header_len, page_len,
+};
 
 /// The length in bytes of the stream that `save` writes of a machine. It makes none of it: it takes no memory and calls no disk. It
 /// looks at each page once, since a page of zeros has a short record.
@@ -18,7 +20,7 @@ pub fn saved_len<D: Disk>(machine: &Machine<D>) -> u64
     ensures { result ≡ length (whole (state_of machine.now)) }
 {
     let parts = pages_len(machine) + sectors_len(machine) + devices_len(machine);
-    header_len(machine.shapes()) + parts + COMMIT_LEN
+    header_len(machine.shapes()) + parts + COMMIT_RECORD as u64
 }
 
 /// The length of the records of all pages.
@@ -55,7 +57,7 @@ fn disk_len<D: Disk>(machine: &Machine<D>, dev: u8) -> u64
 {
     let bad = machine.bad_sectors(dev);
     let good = sector_count(machine, dev) - bad;
-    GOOD_SECTOR_LEN * good + BAD_SECTOR_LEN * bad
+    GOOD_SECTOR_RECORD as u64 * good + BAD_SECTOR_RECORD as u64 * bad
 }
 
 /// The length of the records of all devices.

@@ -20,13 +20,16 @@ ghost use Rattle.sender.specs.Saving.{AddsItem, NamesItem, Sends, TakesOn};
 
 use crate::event::Item;
 use crate::mig_error::MigError;
-use guestmem::{PAGE_SIZE, recall_bytes};
+use crate::numbering::page_count;
+use guestmem::recall_bytes;
 use machine::{Disk, Machine, SECTOR_SIZE};
-use sha2::{Digest, Sha256};
 use wire::{
-    Sink, SinkFault, Tally, encode_commit, write_bad_sector, write_device, write_header,
-    write_page, write_sector,
+    Digesting, Eager, Nowhere, Sink, SinkFault, encode_commit, encode_device, encode_header,
+    write_bad_sector, write_page, write_sector,
 };
+
+/// The digest of what `save` writes. It takes the same records as the writer.
+type Sum = Eager<Nowhere>;
 
 /// Writes the whole stream of a machine, and flushes the writer: each page once and each sector once, in order, the
 /// devices, and the digest. A bad sector is written without a call of its disk. It returns `StreamFailed` exactly if
@@ -38,9 +41,9 @@ pub fn save<D: Disk, S: Sink>(machine: &mut Machine<D>, out: &mut S) -> Result<(
     ensures flushed { OnOk result ((S.state out.new).is_flushed ≡ true) }
     ensures calls { SaveCalls D.called machine.old result machine.new }
 {
-    let mut digest = Sha256::new();
-    write_saved(machine, out, &mut digest)?;
-    write_end(&digest.finalize(), out)?;
+    let mut sum = Eager::new(Nowhere::new());
+    write_saved(machine, out, &mut sum)?;
+    write_end(&sum.digest(), out)?;
     Ok(())
 }
 
@@ -54,127 +57,128 @@ pub(crate) fn write_end<S: Sink>(digest: &[u8; 32], out: &mut S) -> Result<(), S
 }
 
 /// Writes all that precedes the digest.
-fn write_saved<D: Disk, S: Sink, T: Tally>(
+#[tactic(auto, using(wire::proofs::Sinks::never_fails))]
+fn write_saved<D: Disk, S: Sink>(
     machine: &mut Machine<D>,
     out: &mut S,
-    tally: &mut T,
+    sum: &mut Sum,
 ) -> Result<(), MigError>
     ensures sent { Sends machine.old (S.state out.old) (saved (state_of machine.old)) result machine.new (S.state out.new) }
-    ensures taken { TakesOn machine.old (T.has_taken tally.old) (saved (state_of machine.old)) result (T.has_taken tally.new) }
+    ensures taken { TakesOn machine.old (⟦<Eager<Nowhere> as Sink>⟧.sum sum.old) (saved (state_of machine.old)) result (⟦<Eager<Nowhere> as Sink>⟧.sum sum.new) }
     ensures calls { SaveCalls D.called machine.old result machine.new }
 {
-    write_front(machine, out, tally)?;
-    write_disks(machine, out, tally)?;
-    write_devices(machine, out, tally)?;
+    write_front(machine, out)?;
+    let Ok(()) = write_front(machine, sum) else {
+        unreachable!()
+    };
+    write_disks(machine, out, sum)?;
+    write_devices(machine, out)?;
+    let Ok(()) = write_devices(machine, sum) else {
+        unreachable!()
+    };
     Ok(())
 }
 
 /// Writes the header, and the record of each page, in order.
-fn write_front<D: Disk, S: Sink, T: Tally>(
-    machine: &Machine<D>,
-    out: &mut S,
-    tally: &mut T,
-) -> Result<(), SinkFault>
+fn write_front<D: Disk, S: Sink>(machine: &Machine<D>, out: &mut S) -> Result<(), SinkFault>
     ensures out { Appends (S.state out.old) (front_text (state_of machine.now)) result (S.state out.new) }
-    ensures taken { OnOk result (Takes (T.has_taken tally.old) (front_text (state_of machine.now)) (T.has_taken tally.new)) }
+    ensures taken { OnOk result (Takes (S.sum out.old) (front_text (state_of machine.now)) (S.sum out.new)) }
 {
-    machine.ram().recall();
-    let pages = machine.ram().len() / PAGE_SIZE as u64;
-    write_header(pages as u32, machine.shapes(), out, tally)?;
-    write_pages(machine, out, tally)
+    encode_header(page_count(machine) as u32, machine.shapes(), out)?;
+    write_pages(machine, out)
 }
 
 /// Writes the record of each page, in order.
 #[tactic(auto, using(crate::proofs::Parts::no_records, crate::proofs::Parts::page_more))]
-fn write_pages<D: Disk, S: Sink, T: Tally>(
-    machine: &Machine<D>,
-    out: &mut S,
-    tally: &mut T,
-) -> Result<(), SinkFault>
+fn write_pages<D: Disk, S: Sink>(machine: &Machine<D>, out: &mut S) -> Result<(), SinkFault>
     ensures out { Appends (S.state out.old) (texts (records_below (state_of machine.now) (pages_of (state_of machine.now)))) result (S.state out.new) }
-    ensures taken { OnOk result (Takes (T.has_taken tally.old) (texts (records_below (state_of machine.now) (pages_of (state_of machine.now)))) (T.has_taken tally.new)) }
+    ensures taken { OnOk result (Takes (S.sum out.old) (texts (records_below (state_of machine.now) (pages_of (state_of machine.now)))) (S.sum out.new)) }
 {
     let ram = machine.ram();
     ram.recall();
-    for number in 0..ram.len() / PAGE_SIZE as u64 {
-        write_page(number as u32, ram.page(number), out, tally)?;
+    for number in 0..page_count(machine) {
+        write_page(number as u32, ram.page(number), out)?;
     }
     Ok(())
 }
 
 /// Writes the record of each sector of each disk, in order.
-fn write_disks<D: Disk, S: Sink, T: Tally>(
+fn write_disks<D: Disk, S: Sink>(
     machine: &mut Machine<D>,
     out: &mut S,
-    tally: &mut T,
+    sum: &mut Sum,
 ) -> Result<(), MigError>
     ensures sent { Sends machine.old (S.state out.old) (sectors_text (state_of machine.old)) result machine.new (S.state out.new) }
-    ensures taken { TakesOn machine.old (T.has_taken tally.old) (sectors_text (state_of machine.old)) result (T.has_taken tally.new) }
+    ensures taken { TakesOn machine.old (⟦<Eager<Nowhere> as Sink>⟧.sum sum.old) (sectors_text (state_of machine.old)) result (⟦<Eager<Nowhere> as Sink>⟧.sum sum.new) }
     ensures calls { SaveCalls D.called machine.old result machine.new }
 {
     for dev in 0..machine.shapes().len() as u8 {
-        write_disk(machine, dev, out, tally)?;
+        write_disk(machine, dev, out, sum)?;
     }
     Ok(())
 }
 
 /// Writes the record of each sector of a device's disk, in order. The marks are asked for the next bad sector alone, so each
 /// other one is read without a look at them.
-fn write_disk<D: Disk, S: Sink, T: Tally>(
+fn write_disk<D: Disk, S: Sink>(
     machine: &mut Machine<D>,
     dev: u8,
     out: &mut S,
-    tally: &mut T,
+    sum: &mut Sum,
 ) -> Result<(), MigError>
     requires { dev < length (state_of machine.old).devices }
     ensures sent { Sends machine.old (S.state out.old) (disk_text (state_of machine.old) dev) result machine.new (S.state out.new) }
-    ensures taken { TakesOn machine.old (T.has_taken tally.old) (disk_text (state_of machine.old) dev) result (T.has_taken tally.new) }
+    ensures taken { TakesOn machine.old (⟦<Eager<Nowhere> as Sink>⟧.sum sum.old) (disk_text (state_of machine.old) dev) result (⟦<Eager<Nowhere> as Sink>⟧.sum sum.new) }
     ensures calls { ReadsFrom D.called machine.old (first_sector (state_of machine.old) dev) (size_on (state_of machine.old) dev) result machine.new }
 {
     let mut next_bad = machine.next_bad(dev, 0);
     for number in 0..machine.shapes()[dev as usize].sectors() {
-        next_bad = send_in_turn(machine, dev, number as u32, next_bad, out, tally)?;
+        next_bad = send_in_turn(machine, dev, number as u32, next_bad, out, sum)?;
     }
     Ok(())
 }
 
 /// Writes the record of a sector, given the next bad one from it on, and returns the next bad one after it. A bad sector is
 /// written without a call of its disk.
-fn send_in_turn<D: Disk, S: Sink, T: Tally>(
+#[tactic(auto, using(wire::proofs::Sinks::never_fails))]
+fn send_in_turn<D: Disk, S: Sink>(
     machine: &mut Machine<D>,
     dev: u8,
     number: u32,
     next_bad: Option<u64>,
     out: &mut S,
-    tally: &mut T,
+    sum: &mut Sum,
 ) -> Result<Option<u64>, MigError>
     requires there { HasItem (state_of machine.old) (sector dev number) }
     requires next { IsNextBad (state_of machine.old) dev number next_bad }
     ensures sent { Sends machine.old (S.state out.old) (spelled_record (record_of (state_of machine.old) (sector dev number))) result machine.new (S.state out.new) }
-    ensures taken { TakesOn machine.old (T.has_taken tally.old) (spelled_record (record_of (state_of machine.old) (sector dev number))) result (T.has_taken tally.new) }
+    ensures taken { TakesOn machine.old (⟦<Eager<Nowhere> as Sink>⟧.sum sum.old) (spelled_record (record_of (state_of machine.old) (sector dev number))) result (⟦<Eager<Nowhere> as Sink>⟧.sum sum.new) }
     ensures next { IfOk result (λ next. IsNextBad (state_of machine.old) dev (number + 1) next) }
     ensures calls { ReadsItem D.called machine.old (sector dev number) machine.new }
 {
     if next_bad == Some(number as u64) {
-        write_bad_sector(dev, number, out, tally)?;
+        write_bad_sector(dev, number, out)?;
+        let Ok(()) = write_bad_sector(dev, number, sum) else {
+            unreachable!()
+        };
         return Ok(machine.next_bad(dev, number as u64 + 1));
     }
-    send_good(machine, dev, number, out, tally)?;
+    send_good(machine, dev, number, out, sum)?;
     Ok(next_bad)
 }
 
 /// Writes the record of a sector that is not bad.
-#[tactic(auto, using(crate::proofs::ItemReads::good_read_once))]
-fn send_good<D: Disk, S: Sink, T: Tally>(
+#[tactic(auto, using(wire::proofs::Sinks::never_fails, crate::proofs::ItemReads::good_read_once))]
+fn send_good<D: Disk, S: Sink>(
     machine: &mut Machine<D>,
     dev: u8,
     number: u32,
     out: &mut S,
-    tally: &mut T,
+    sum: &mut Sum,
 ) -> Result<(), MigError>
     requires { IsGood (sector_on (sectors_on (state_of machine.old) dev) number) }
     ensures sent { Sends machine.old (S.state out.old) (spelled_record (record_of (state_of machine.old) (sector dev number))) result machine.new (S.state out.new) }
-    ensures taken { TakesOn machine.old (T.has_taken tally.old) (spelled_record (record_of (state_of machine.old) (sector dev number))) result (T.has_taken tally.new) }
+    ensures taken { TakesOn machine.old (⟦<Eager<Nowhere> as Sink>⟧.sum sum.old) (spelled_record (record_of (state_of machine.old) (sector dev number))) result (⟦<Eager<Nowhere> as Sink>⟧.sum sum.new) }
     ensures calls { ReadsItem D.called machine.old (sector dev number) machine.new }
 {
     let mut bytes = [0; SECTOR_SIZE];
@@ -184,71 +188,71 @@ fn send_good<D: Disk, S: Sink, T: Tally>(
             sector: number,
         });
     }
-    write_sector(dev, number, &bytes, out, tally)?;
+    write_sector(dev, number, &bytes, out)?;
+    let Ok(()) = write_sector(dev, number, &bytes, sum) else {
+        unreachable!()
+    };
     Ok(())
 }
 
 /// Writes the record of an item, as it is now.
 #[tactic(auto, using(crate::proofs::SectorReads::added_page))]
-pub(crate) fn send_item<D: Disk, S: Sink, T: Tally>(
+pub(crate) fn send_item<D: Disk, S: Sink>(
     machine: &mut Machine<D>,
     item: Item,
     out: &mut S,
-    tally: &mut T,
 ) -> Result<(), MigError>
     requires { HasItem (state_of machine.old) (item_of item) }
-    ensures item { IfErr result (λ e. NamesItem (item_of item) e (S.state out.old) (S.state out.new) tally.old tally.new) }
+    ensures item { IfErr result (λ e. NamesItem (item_of item) e (S.state out.old) (S.state out.new) (S.sum out.old) (S.sum out.new)) }
     ensures sent { Sends machine.old (S.state out.old) (spelled_record (record_of (state_of machine.old) (item_of item))) result machine.new (S.state out.new) }
-    ensures added { OnOk result (AddsItem machine.old (item_of item) (S.state out.old) (T.has_taken tally.old) (S.state out.new) (T.has_taken tally.new)) }
+    ensures added { OnOk result (AddsItem machine.old (item_of item) (S.state out.old) (S.sum out.old) (S.state out.new) (S.sum out.new)) }
     ensures calls { ReadsItem D.called machine.old (item_of item) machine.new }
 {
     match item {
         Item::Page(number) => {
-            send_page(machine, number, out, tally)?;
+            send_page(machine, number, out)?;
             Ok(())
         }
-        Item::Sector { dev, sector } => send_sector(machine, dev, sector, out, tally),
+        Item::Sector { dev, sector } => send_sector(machine, dev, sector, out),
     }
 }
 
 /// Writes the record of a page, as it is now.
-fn send_page<D: Disk, S: Sink, T: Tally>(
+fn send_page<D: Disk, S: Sink>(
     machine: &Machine<D>,
     number: u32,
     out: &mut S,
-    tally: &mut T,
 ) -> Result<(), SinkFault>
     requires { HasItem (state_of machine.now) (page number) }
     ensures out { Appends (S.state out.old) (spelled_record (record_of (state_of machine.now) (page number))) result (S.state out.new) }
-    ensures taken { OnOk result (Takes (T.has_taken tally.old) (spelled_record (record_of (state_of machine.now) (page number))) (T.has_taken tally.new)) }
+    ensures taken { OnOk result (Takes (S.sum out.old) (spelled_record (record_of (state_of machine.now) (page number))) (S.sum out.new)) }
 {
     let ram = machine.ram();
     ram.recall();
-    write_page(number, ram.page(number as u64), out, tally)
+    write_page(number, ram.page(number as u64), out)
 }
 
 /// Writes the record of a sector, as it is now. A bad one is written without a call of the disk.
 #[tactic(auto, using(crate::proofs::SectorReads::sent_good, crate::proofs::SectorReads::added_good, crate::proofs::SectorReads::added_bad, crate::proofs::SectorReads::not_sent, crate::proofs::ItemReads::read_once))]
-fn send_sector<D: Disk, S: Sink, T: Tally>(
+fn send_sector<D: Disk, S: Sink>(
     machine: &mut Machine<D>,
     dev: u8,
     number: u32,
     out: &mut S,
-    tally: &mut T,
 ) -> Result<(), MigError>
     requires { HasItem (state_of machine.old) (sector dev number) }
-    ensures item { IfErr result (λ e. NamesItem (sector dev number) e (S.state out.old) (S.state out.new) tally.old tally.new) }
+    ensures item { IfErr result (λ e. NamesItem (sector dev number) e (S.state out.old) (S.state out.new) (S.sum out.old) (S.sum out.new)) }
     ensures sent { Sends machine.old (S.state out.old) (spelled_record (record_of (state_of machine.old) (sector dev number))) result machine.new (S.state out.new) }
-    ensures added { OnOk result (AddsItem machine.old (sector dev number) (S.state out.old) (T.has_taken tally.old) (S.state out.new) (T.has_taken tally.new)) }
+    ensures added { OnOk result (AddsItem machine.old (sector dev number) (S.state out.old) (S.sum out.old) (S.state out.new) (S.sum out.new)) }
     ensures calls { ReadsItem D.called machine.old (sector dev number) machine.new }
 {
     let mut bytes = [0; SECTOR_SIZE];
     match machine.read_sector(dev, number as u64, &mut bytes) {
         Ok(true) => {
             recall_bytes(bytes.as_slice());
-            write_sector(dev, number, &bytes, out, tally)?
+            write_sector(dev, number, &bytes, out)?
         }
-        Ok(false) => write_bad_sector(dev, number, out, tally)?,
+        Ok(false) => write_bad_sector(dev, number, out)?,
         Err(_) => {
             return Err(MigError::DiskFailed {
                 dev,
@@ -261,16 +265,15 @@ fn send_sector<D: Disk, S: Sink, T: Tally>(
 
 /// Writes the record of each device, in order.
 #[tactic(auto, using(wire::proofs::Saving::no_devices, wire::proofs::Saving::device_more))]
-pub(crate) fn write_devices<D: Disk, S: Sink, T: Tally>(
+pub(crate) fn write_devices<D: Disk, S: Sink>(
     machine: &Machine<D>,
     out: &mut S,
-    tally: &mut T,
 ) -> Result<(), SinkFault>
     ensures out { Appends (S.state out.old) (device_texts 0 (state_of machine.now).devices) result (S.state out.new) }
-    ensures taken { OnOk result (Takes (T.has_taken tally.old) (device_texts 0 (state_of machine.now).devices) (T.has_taken tally.new)) }
+    ensures taken { OnOk result (Takes (S.sum out.old) (device_texts 0 (state_of machine.now).devices) (S.sum out.new)) }
 {
     for number in 0..machine.shapes().len() as u8 {
-        write_device(number, machine.state(number), out, tally)?;
+        encode_device(number, machine.state(number), out)?;
     }
     Ok(())
 }

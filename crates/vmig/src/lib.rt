@@ -54,15 +54,15 @@ pub use receiver::{Receiver, RecvError, read_heading, receive, receive_at};
 pub use region::Region;
 pub use rehearsal::{Rehearsal, rehearse};
 pub use sender::{
-    CopyAnswer, End, Item, Live, LiveEvent, LiveParked, LiveReply, MigError, Phase, Remaining,
-    Replay, Stopped, replay, save, saved_len,
+    CopyAnswer, End, Item, Live, LiveEvent, LiveParked, LiveReply, LiveWaiting, MigError, Phase,
+    Remaining, Replay, Stopped, replay, save, saved_len,
 };
 pub use traces::{
     Trace, TraceError, WriteFault, parse, parse_events, write_checked, write_guest_reply,
     write_reply,
 };
 pub use wire::{
-    DecodeError, FaultWriter, Header, Record, Sink, SinkFault, WriteSink, decode_device,
+    DecodeError, FaultWriter, Header, Record, Sink, SinkFault, Waiting, WriteSink, decode_device,
     decode_device_at, decode_header, decode_record, encode_commit, encode_device, encode_header,
     encode_page, encode_round, encode_sector, encode_zero_page,
 };

@@ -13,7 +13,7 @@ use Rattle.sender.specs.Parked.{IsLiveParked, LiveParkedSeen, live_back, live_ba
 use Rattle.sender.specs.declared.phase.Phase.{Phase}
 use Rattle.sender.specs.declared.phase.Phase.TheVariants as phases
 use Rattle.sender.proofs.LiveBack.{live_back_follows}
-use Rattle.wire.specs.Sinks.{SinkState, over_writer}
+use Rattle.wire.specs.Sinks.{Digested, SinkState, Takes, over_writer}
 use Rattle.vmig_c.specs.Lent.{IsLiveLoan}
 use Rattle.vmig_c.specs.Migrated.{HasTaken}
 use Rattle.vmig_c.specs.Mirror.{is_closed}
@@ -33,8 +33,19 @@ places_with l o h = record { sound = h.sound; few = h.few; due_size = h.due_size
 parked_still : (l : LiveSeen) (before : Region) (p : LiveParkedSeen) (o : SinkState) → IsLiveParked l before p → IsLiveParked (live_with l o) before (parked_with p o)
 parked_still l before p o h = record { parked = h.parked; rest = ap (λ (x : LiveParkedSeen). parked_with x o) h.rest }
 
-loan_still : (l : LiveSeen) (before : Region) (p : LiveParkedSeen) (o : SinkState) → IsLiveLoan l before p → IsLiveLoan (live_with l o) before (parked_with p o)
-loan_still l before p o h = record { parked = parked_still l before p o h.parked; places = places_with l o h.places; sound = h.sound }
+-- The same with another writer and another digest.
+abbrev parked_on : LiveParkedSeen → SinkState → Digested → LiveParkedSeen
+parked_on p o d = record p { out = o; digest = d }
+
+abbrev live_on : LiveSeen → SinkState → Digested → LiveSeen
+live_on l o d = record l { out = o; digest = d }
+
+loan_on : (l : LiveSeen) (before : Region) (p : LiveParkedSeen) (o : SinkState) (d : Digested) → IsLiveLoan l before p → IsLiveLoan (live_on l o d) before (parked_on p o d)
+loan_on l before p o d h = record {
+  parked = record { parked = h.parked.parked; rest = ap (λ (x : LiveParkedSeen). parked_on x o d) h.parked.rest };
+  places = record { sound = h.places.sound; few = h.places.few; due_size = h.places.due_size; dirty_size = h.places.dirty_size };
+  sound = h.sound;
+}
 
 -- The address at which RAM begins is the lender's.
 base_is : (l : LiveSeen) (before : Region) (p : LiveParkedSeen) → IsLiveParked l before p → live_base l ≡ lent_base p
@@ -49,16 +60,18 @@ lent_takings_stay_sent m h taken buf new_buf status got before p next is quiet t
     let l = is.lender in
     let same : p.out ≡ l.out = writer_is l before p is.loan.parked in
     let o : SinkState = over_writer (Some (drop got p.out.held)) 0 false in
-    let taking : HasTaken l status got buf new_buf (live_with l o) = record {
+    let d : Digested = next.digest in
+    let taking : HasTaken l status got buf new_buf (live_on l o d) = record {
       status_is = took.status_is;
       count = took.count ∙ ap (λ (w : SinkState). min (length buf) (length w.held)) same;
       bytes = took.bytes ∙ ap (λ (w : SinkState). take got w.held ++ drop got buf) same;
-      rest = ap (λ (w : SinkState). live_with l (over_writer (Some (drop got w.held)) 0 false)) same;
+      rest = ap (λ (w : SinkState). live_on l (over_writer (Some (drop got w.held)) 0 false) d) same;
+      digest = subst (λ (x : Digested). Takes x [] d) (ap (λ (x : LiveParkedSeen). x.digest) is.loan.parked.rest) took.digest;
     } in
     record {
-      lender = live_with l o;
-      is_sent = takings_stay_sent m h taken buf new_buf status got l (live_with l o) is.is_sent quiet taking;
-      loan = subst (λ (x : LiveParkedSeen). IsLiveLoan (live_with l o) before x) (sym took.rest) (loan_still l before p o is.loan);
+      lender = live_on l o d;
+      is_sent = takings_stay_sent m h taken buf new_buf status got l (live_on l o d) is.is_sent quiet taking;
+      loan = subst (λ (x : LiveParkedSeen). IsLiveLoan (live_on l o d) before x) (sym took.rest) (loan_on l before p o d is.loan);
       goes = is.goes;
     }
 

@@ -1,5 +1,5 @@
 -- The migration of a machine out of a handle.
-use Rattle.std.proofs.Common.{◌≡◌, ◌≤◌, ℕ, true, false, List, [], ◌++◌, refl, sym, ap, ◌∙◌, subst, take, drop, length, append_assoc}
+use Rattle.std.proofs.Common.{◌≡◌, ◌≤◌, ℕ, true, false, List, [], ◌++◌, refl, sym, ap, ◌∙◌, subst, take, drop, length, append_assoc, append-nil}
 use Rattle.std.specs.Prelude.{Some}
 use Rattle.std.proofs.Math.Nat.{min-le_right}
 use Rattle.std.proofs.Math.Seq.{take-append_seam}
@@ -7,13 +7,13 @@ use Rattle.std.proofs.lemmas.List.{take-append-drop, length-take-le}
 use Rattle.machine.specs.Seen.{state_of}
 use Rattle.machine.specs.State.{MachineState}
 use Rattle.sender.specs.Follows.{AgreesIn, Relates}
-use Rattle.sender.specs.History.{History, has_fault, phase_of}
+use Rattle.sender.specs.History.{History, has_fault, phase_of, text}
 use Rattle.sender.specs.LiveState.{LiveSeen, now}
 use Rattle.sender.specs.Taking.{untaken}
 use Rattle.sender.specs.declared.phase.Phase.{Phase}
 use Rattle.sender.specs.declared.phase.Phase.TheVariants as phases
 use Rattle.sender.proofs.Taking.{taken_are_whole, taken_follow}
-use Rattle.wire.specs.Sinks.{SinkState, over_writer}
+use Rattle.wire.specs.Sinks.{Covers, Digested, SinkState, Takes, over_writer}
 use Rattle.wire.specs.Stream.{IsStream}
 use Rattle.wire.proofs.Unique.{one_machine}
 use Rattle.vmig_c.specs.Migrated.{HasTaken}
@@ -37,28 +37,28 @@ front_of got held buf fits =
 abbrev whole_writer : List ℕ → SinkState → SinkState
 whole_writer taken o = record o { held = taken ++ o.held; is_flushed = false }
 
-abbrev unflushed : LiveSeen → LiveSeen
-unflushed s = record s { out = record s.out { is_flushed = false } }
+abbrev unflushed : Digested → LiveSeen → LiveSeen
+unflushed d s = record s { out = record s.out { is_flushed = false }; digest = d }
 
 -- What a history says of a machine that is sent says nothing of whether its writer is flushed.
-agrees_still : (p : Phase) (m : MachineState) (h : History) (s : LiveSeen) → AgreesIn p m h s → AgreesIn p m h (unflushed s)
-agrees_still phases.Fresh m h s a = a
-agrees_still (phases.Open k) m h s a = record { due = a.due; stale = a.stale }
-agrees_still phases.Stopped m h s a = tt
-agrees_still phases.Failed m h s a = tt
+agrees_still : (p : Phase) (m : MachineState) (h : History) (d : Digested) (s : LiveSeen) → AgreesIn p m h s → AgreesIn p m h (unflushed d s)
+agrees_still phases.Fresh m h d s a = a
+agrees_still (phases.Open k) m h d s a = record { due = a.due; stale = a.stale }
+agrees_still phases.Stopped m h d s a = tt
+agrees_still phases.Failed m h d s a = tt
 
-relates_still : (m : MachineState) (h : History) (out : SinkState) (s : LiveSeen) → Relates m h out s → Relates m h out (unflushed s)
-relates_still m h out s g = record {
-  follows = record { machine = g.follows.machine; shape = g.follows.shape; phase = g.follows.phase; sets = agrees_still (phase_of h) m h s g.follows.sets };
+relates_still : (m : MachineState) (h : History) (out : SinkState) (d : Digested) (s : LiveSeen) → Takes s.digest [] d → Relates m h out s → Relates m h out (unflushed d s)
+relates_still m h out d s takes g = record {
+  follows = record { machine = g.follows.machine; shape = g.follows.shape; phase = g.follows.phase; sets = agrees_still (phase_of h) m h d s g.follows.sets };
   allowed = g.allowed;
   honest = g.honest;
   fault = g.fault;
   count = g.count;
   held = g.held;
-  taken = g.taken;
+  taken = λ none going. subst (Covers d) (append-nil (text m h)) (takes (text m h) (g.taken none going));
 }
 
-takings : (m : MachineState) (h : History) (taken buf new_buf : List ℕ) (status got : ℕ) (l next : LiveSeen) → IsSent m h taken l → has_fault h ≡ false → HasTaken l status got buf new_buf next → untaken (taken ++ take got new_buf) next ≡ unflushed (untaken taken l)
+takings : (m : MachineState) (h : History) (taken buf new_buf : List ℕ) (status got : ℕ) (l next : LiveSeen) → IsSent m h taken l → has_fault h ≡ false → HasTaken l status got buf new_buf next → untaken (taken ++ take got new_buf) next ≡ unflushed next.digest (untaken taken l)
 takings m h taken buf new_buf status got l next is quiet took =
     let held = l.out.held in
     let few : got ≤ length held = rw (took.count) (min-le_right (length buf) (length held)) in
@@ -68,12 +68,12 @@ takings m h taken buf new_buf status got l next is quiet took =
     let honest : true ≡ l.out.honest = sym (is.held quiet refl).0 in
     let out : SinkState = record { held = (taken ++ take got new_buf) ++ drop got held; failures = 0; honest = true; is_flushed = false } in
     let sinks : out ≡ whole_writer taken l.out = (λ i. record { held = all i; failures = count i; honest = honest i; is_flushed = false }) in
-    ap (λ (s : LiveSeen). untaken (taken ++ take got new_buf) s) took.rest ∙ ap (λ (o : SinkState). record l { out = o }) sinks
+    ap (λ (s : LiveSeen). untaken (taken ++ take got new_buf) s) took.rest ∙ ap (λ (o : SinkState). record l { out = o; digest = next.digest }) sinks
 
 pub takings_stay_sent : TakingsStaySent
 takings_stay_sent m h taken buf new_buf status got l next is quiet took =
     let P : LiveSeen → Type 0 = λ s. Relates m h (over_writer (Some []) 0 false) s in
-    subst P (sym (takings m h taken buf new_buf status got l next is quiet took)) (relates_still m h (over_writer (Some []) 0 false) (untaken taken l) is)
+    subst P (sym (takings m h taken buf new_buf status got l next is quiet took)) (relates_still m h (over_writer (Some []) 0 false) next.digest (untaken taken l) took.digest is)
 
 pub stopped_is_whole : StoppedIsWhole
 stopped_is_whole m h taken l is sound stopped =

@@ -12,7 +12,7 @@ use Rattle.sender.specs.declared.event.LiveReply.{LiveReply}
 use Rattle.sender.specs.declared.event.LiveReply.TheVariants as live
 use Rattle.sender.specs.declared.mig_error.MigError.TheVariants.{NotBegun}
 use Rattle.sender.specs.declared.phase.Phase.TheVariants as phases
-use Rattle.wire.specs.Sinks.{over_writer}
+use Rattle.wire.specs.Sinks.{Takes, over_writer}
 use Rattle.vmig_c.specs.Status.{done, lent, live_status, mig_status, no_machine, no_memory}
 use Rattle.vmig_c.specs.Told.{IsNotThere, IsOut, IsServed}
 use Rattle.vmig_c.specs.Kept.{KeptSeen, LoanSeen, StillLent, MovingLent, State, Still, Moving, Arriving, Lent}
@@ -127,19 +127,22 @@ RemainsKept (Arriving r) status due old_due dirty old_dirty = (status ≡ no_mac
 RemainsKept (Lent x) status due old_due dirty old_dirty = (status ≡ lent) × (due ≡ old_due) × (dirty ≡ old_dirty)
 RemainsKept (Moving l) status due old_due dirty old_dirty = (status ≡ done) × (due ≡ count_by (λ b. b) l.due) × (dirty ≡ count_by (λ b. b) l.dirty)
 
--- The first of the bytes that wait went to the front of the buffer, as many as fit, and no longer wait. All else is unchanged.
+-- The first of the bytes that wait went to the front of the buffer, as many as fit, and no longer wait. The digest is still
+-- of the same bytes, and all else is unchanged.
 pub record HasTaken (l : LiveSeen) (status got : ℕ) (buf new_buf : List ℕ) (next : LiveSeen) : Type 0 where
   pub status_is : status ≡ done
   pub count : got ≡ min (length buf) (length l.out.held)
   pub bytes : new_buf ≡ take got l.out.held ++ drop got buf
-  pub rest : next ≡ record l { out = over_writer (Some (drop got l.out.held)) 0 false }
+  pub rest : next ≡ record l { out = over_writer (Some (drop got l.out.held)) 0 false; digest = next.digest }
+  pub digest : Takes l.digest [] next.digest
 
 -- As above, while its RAM is lent: what waits is no part of RAM.
 pub record HasTakenLent (l : LiveParkedSeen) (status got : ℕ) (buf new_buf : List ℕ) (next : LiveParkedSeen) : Type 0 where
   pub status_is : status ≡ done
   pub count : got ≡ min (length buf) (length l.out.held)
   pub bytes : new_buf ≡ take got l.out.held ++ drop got buf
-  pub rest : next ≡ record l { out = over_writer (Some (drop got l.out.held)) 0 false }
+  pub rest : next ≡ record l { out = over_writer (Some (drop got l.out.held)) 0 false; digest = next.digest }
+  pub digest : Takes l.digest [] next.digest
 
 abbrev pub TakesLent : LoanSeen → ℕ → ℕ → ℕ → List ℕ → List ℕ → LoanSeen → Type 0
 TakesLent (StillLent p) status got old_got buf new_buf (StillLent next) = (status ≡ mig_status NotBegun) × (next ≡ p) × (got ≡ old_got) × (new_buf ≡ buf)

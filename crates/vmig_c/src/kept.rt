@@ -17,15 +17,14 @@ use crate::admission::{Admission, Limits};
 use crate::arrival::Arrival;
 use crate::landing::Landing;
 use crate::loan::Loan;
-use crate::waiting::Waiting;
 use machine::{DEVICES_MAX, Machine, MemDisk};
 use mapped_disk::MappedDisk;
-use sender::Live;
+use sender::LiveWaiting;
 use std::alloc::Global;
 use std::marker::Model;
 
 /// A machine that is being migrated, and the bytes written for it and not taken yet.
-pub(crate) type Moving<D> = Live<D, Waiting>;
+pub(crate) type Moving<D> = LiveWaiting<D>;
 
 /// A machine that is not being migrated, or one that is migrated while it runs, over disks in memory of the library or of the
 /// caller; one that arrives; or one whose RAM is lent. The bytes written for a migration wait until C takes them.

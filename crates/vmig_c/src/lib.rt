@@ -100,7 +100,6 @@ mod status;
 mod stepping;
 mod syncing;
 mod unmapping;
-mod waiting;
 mod working;
 
 use announcing::{announced_device, announced_size};
@@ -665,18 +664,13 @@ pub extern "C" fn vmig_remaining(machine: &mut Handle, due: &mut u64, dirty: &mu
 /// Takes the first of the bytes that wait.
 #[unsafe(no_mangle)]
 #[tactic(auto, using(crate::proofs::MigrationCalls::taken_none, crate::proofs::MigrationCalls::taken_some))]
-pub extern "C" fn vmig_take(
-    alloc: Global,
-    machine: &mut Handle,
-    buf: &mut [u8],
-    got: &mut usize,
-) -> u32
+pub extern "C" fn vmig_take(machine: &mut Handle, buf: &mut [u8], got: &mut usize) -> u32
     ensures { Taken machine.old.machine result got.new got.old buf.old buf.new machine.new.machine }
 {
     if !machine.is_made() {
         return NO_MACHINE;
     }
-    take(alloc, machine.get_mut(), buf, got)
+    take(machine.get_mut(), buf, got)
 }
 
 /// A machine will arrive, in the memory and within the limits that the struct says. RAM and images that it names are taken; where it is

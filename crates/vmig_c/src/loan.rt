@@ -7,11 +7,10 @@
 ghost use Rattle.vmig_c.specs.Migrated.{HasTakenLent};
 
 use crate::status::{DONE, NOT_BEGUN};
-use crate::waiting::Waiting;
 use machine::{Disk, MemDisk, Parked, Shape};
 use mapped_disk::MappedDisk;
 use sender::LiveParked;
-use std::alloc::Global;
+use wire::Waiting;
 
 /// A machine that is being migrated, whose RAM is lent.
 pub(crate) type MovingLent<D> = LiveParked<D, Waiting>;
@@ -102,28 +101,21 @@ impl Loan {
     }
 
     /// Takes the first of the bytes that wait into the front of the buffer, if the machine is being migrated.
-    pub(crate) fn take(&mut self, alloc: Global, buf: &mut [u8], got: &mut usize) -> u32
+    pub(crate) fn take(&mut self, buf: &mut [u8], got: &mut usize) -> u32
         ensures takes { TakesLent (loan_of self.old) result got.new got.old buf.old buf.new (loan_of self.new) }
         ensures kind { is_loan_mapped self.new ≡ is_loan_mapped self.old }
     {
         match self {
             Loan::Still(_) | Loan::StillMapped(_) => NOT_BEGUN,
-            Loan::Moving(live) => take_lent(alloc, live, buf, got),
-            Loan::MovingMapped(live) => take_lent(alloc, live, buf, got),
+            Loan::Moving(live) => take_lent(live, buf, got),
+            Loan::MovingMapped(live) => take_lent(live, buf, got),
         }
     }
 }
 
-fn take_lent<D: Disk>(
-    alloc: Global,
-    live: &mut MovingLent<D>,
-    buf: &mut [u8],
-    got: &mut usize,
-) -> u32
+fn take_lent<D: Disk>(live: &mut MovingLent<D>, buf: &mut [u8], got: &mut usize) -> u32
     ensures { HasTakenLent live.old result got.new buf.old buf.new live.new }
 {
-    let mut waiting = live.replace_writer(Waiting::new(alloc));
-    *got = waiting.take(buf);
-    let _empty = live.replace_writer(waiting);
+    *got = live.take(buf);
     DONE
 }

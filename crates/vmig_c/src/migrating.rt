@@ -10,11 +10,11 @@ ghost use Rattle.sender.specs.declared.event.LiveEvent.TheVariants as live_event
 use crate::arrival::Arrival;
 use crate::kept::{Contents, Kept, Moving, by_state};
 use crate::status::{DONE, LENT, NO_MACHINE, NO_MEMORY, NOT_BEGUN, mig_told};
-use crate::waiting::Waiting;
 use machine::{Disk, Machine};
-use sender::{CopyAnswer, End, Item, Live, Stopped};
+use sender::{CopyAnswer, End, Item, LiveWaiting, Stopped};
 use std::alloc::Global;
 use std::mem;
+use wire::Waiting;
 
 const PAGE: u32 = 74;
 
@@ -74,7 +74,7 @@ fn begun_of<D: Disk>(alloc: Global, machine: Machine<D>) -> Result<Moving<D>, Ma
     ensures begun { IfOk result (λ live. HasBegun machine 0 live) }
     ensures same { IfErr result (λ left. left ≡ machine) }
 {
-    match Live::new(alloc, machine, Waiting::new(alloc)) {
+    match LiveWaiting::new(alloc, machine, Waiting::new(alloc)) {
         Ok(live) => {
             let mut live = live;
             live.recall();
@@ -237,22 +237,20 @@ fn remaining_told<D: Disk>(live: &Moving<D>, due: &mut u64, dirty: &mut u64) -> 
 
 /// Takes the first of the bytes that wait into the front of the buffer.
 #[tactic(auto, using(crate::proofs::Migration::still_takes, crate::proofs::Migration::moving_takes))]
-pub(crate) fn take(alloc: Global, kept: &mut Kept, buf: &mut [u8], got: &mut usize) -> u32
+pub(crate) fn take(kept: &mut Kept, buf: &mut [u8], got: &mut usize) -> u32
     ensures takes { TakesKept kept.old.state result got.new got.old buf.old buf.new kept.new.state }
     ensures kind { kept.new ≡ record kept.old { state = kept.new.state } }
 {
     by_state!(&mut kept.contents;
         still(_) => NOT_BEGUN,
-        moving(live) => take_told(alloc, live, buf, got),
-        lent(loan) => loan.take(alloc, buf, got),
+        moving(live) => take_told(live, buf, got),
+        lent(loan) => loan.take(buf, got),
     )
 }
 
-fn take_told<D: Disk>(alloc: Global, live: &mut Moving<D>, buf: &mut [u8], got: &mut usize) -> u32
+fn take_told<D: Disk>(live: &mut Moving<D>, buf: &mut [u8], got: &mut usize) -> u32
     ensures { HasTaken live.old result got.new buf.old buf.new live.new }
 {
-    let mut waiting = live.replace_writer(Waiting::new(alloc));
-    *got = waiting.take(buf);
-    let _empty = live.replace_writer(waiting);
+    *got = live.take(buf);
     DONE
 }

@@ -1,25 +1,22 @@
--- Headers and shapes: what is spelled is read, and what is read was spelled.
+-- Shapes: what is spelled is read, and what is read was spelled. The first bytes of a header.
 use Rattle.std.proofs.lemmas.Bool.{eqb-true, eqb-false, ne_eqb, ltb-false, le-ltb}
 use Rattle.std.proofs.lemmas.List.{drop_at, take_at, length-take, length-drop}
-use Rattle.std.proofs.lemmas.List.Elements.{recursion_from_All, All-from_recursion}
-use Rattle.std.specs.List.{All, AllByRecursion}
 use Rattle.guestmem.proofs.ByteLaws.{IsBytes-drop, IsBytes-take}
 use Rattle.guestmem.specs.Number.{number_at, IsBytes}
-use Rattle.wire.specs.HeaderReading.{header_of, with_shapes}
 use Rattle.wire.specs.Numbers.{digits, spelled, Fit, flag}
 use Rattle.wire.proofs.Digits.{spelled-numbers, numbers-spelled, length-digits, length-spelled, flag-number, number-flag}
-use Rattle.wire.proofs.Choices.{some, same_found, not_chosen, neither, so}
-use Rattle.std.proofs.Common.{◌≡◌, ℕ, zero, suc, ◌+◌, ◌-◌, ◌<◌, ◌≤◌, List, [], ◌∷◌, ◌++◌, length, drop, take, get_or, subst, ◌≢◌, nat_eq, nat_lt, Option, Some, None, Bool, true, false, cond, refl, sym, ap, ◌∙◌, append_assoc, length-append, take-append-drop, arith, eqb}
+use Rattle.wire.proofs.Choices.{some, same_found, not_chosen, neither}
+use Rattle.std.proofs.Common.{◌≡◌, ℕ, suc, ◌+◌, ◌-◌, ◌<◌, ◌≤◌, List, [], ◌∷◌, ◌++◌, length, drop, take, get_or, subst, ◌≢◌, nat_eq, nat_lt, Some, None, Bool, true, false, cond, refl, sym, ap, ◌∙◌, length-append, take-append-drop, arith, eqb}
 use Rattle.std.specs.Int.{byte_at}
-use Rattle.std.specs.Prelude.{codes, not, ◌||◌, ◌%◌}
+use Rattle.std.specs.Prelude.{codes, ◌||◌, ◌%◌}
 use Rattle.machine.specs.declared.shape.Shape.{Shape}
 use Rattle.machine.specs.declared.shape.Shape.TheVariants.{Net, Block, Console, Entropy}
 use Rattle.blk.specs.Shape.{IsBlockShape}
 use Rattle.net.specs.Shape.{IsMac}
 use Rattle.machine.specs.Sound.{IsSoundShape}
-use Rattle.wire.specs.ShapeReading.{block_shape_of, net_shape_of, shape_of, shapes_of}
-use Rattle.wire.proofs.Lists.{WasSpelled, WereSpelled, several-spelled, spelled-several}
-use Rattle.wire.specs.Header.{spelled_shape, spelled_shapes, front, header, IsHeader, IsVersion, Begins, Opening, shape_length}
+use Rattle.wire.specs.ShapeReading.{block_shape_of, net_shape_of, shape_of}
+use Rattle.wire.proofs.Lists.{WasSpelled}
+use Rattle.wire.specs.Header.{spelled_shape, front, shape_length}
 
 -- A shape that is spelled is read, and one that is read was spelled.
 abbrev block_widths : List ℕ
@@ -175,42 +172,15 @@ length_shape (Block sectors read_only id) good =
 length_shape Console good = record { number = 3; others = []; is = refl; long = refl }
 length_shape Entropy good = record { number = 4; others = []; is = refl; long = refl }
 
-shapes_of-spelled : (shapes : List Shape) (rest : List ℕ) → All IsSoundShape shapes → shapes_of (length shapes) (spelled_shapes shapes ++ rest) ≡ Some (shapes, rest)
-shapes_of-spelled shapes rest sound = several-spelled shape_of spelled_shape IsSoundShape shape_of-spelled shapes rest (recursion_from_All IsSoundShape shapes sound)
-
--- What so many shapes at the front were spelled as.
-abbrev WereShapes : ℕ → List ℕ → List Shape × List ℕ → Type 0
-WereShapes n bytes found = WereSpelled spelled_shape IsSoundShape n bytes found
-
-shapes_read : (n : ℕ) (bytes : List ℕ) (found : List Shape × List ℕ) → IsBytes bytes → shapes_of n bytes ≡ Some found → WereShapes n bytes found
-shapes_read n bytes found are e = spelled-several shape_of spelled_shape IsSoundShape spelled-shape_of n bytes found are e
-
-abbrev head_widths : List ℕ
+abbrev pub head_widths : List ℕ
 head_widths = 4 ∷ 4 ∷ 4 ∷ 4 ∷ []
 
-abbrev head_numbers : ℕ → ℕ → ℕ → List ℕ
+abbrev pub head_numbers : ℕ → ℕ → ℕ → List ℕ
 head_numbers version pages count = 0x47494d56 ∷ version ∷ pages ∷ count ∷ []
 
-head_spelled : (version pages count : ℕ) → front version pages count ≡ spelled head_widths (head_numbers version pages count)
+pub head_spelled : (version pages count : ℕ) → front version pages count ≡ spelled head_widths (head_numbers version pages count)
 unfolding front
 head_spelled version pages count = refl
-
--- The versions that there are.
-pub version_known : (version : ℕ) → IsVersion version → (eqb version 1 || eqb version 2) ≡ true
-version_known zero h = absurd (omega (arith, h.least))
-version_known (suc zero) h = refl
-version_known (suc (suc zero)) h = refl
-version_known (suc (suc (suc n))) h = absurd (omega (arith, h.most))
-
-pub known_version : (version : ℕ) → (eqb version 1 || eqb version 2) ≡ true → IsVersion version
-known_version zero e = absurd cc
-known_version (suc zero) e = record { least = omega arith; most = omega arith }
-known_version (suc (suc zero)) e = record { least = omega arith; most = omega arith }
-known_version (suc (suc (suc n))) e =
-    let one : eqb (suc (suc (suc n))) 1 ≡ false = ne_eqb (suc (suc (suc n))) 1 (λ (z : suc (suc (suc n)) ≡ 1). omega (arith, z)) in
-    let two : eqb (suc (suc (suc n))) 2 ≡ false = ne_eqb (suc (suc (suc n))) 2 (λ (z : suc (suc (suc n)) ≡ 2). omega (arith, z)) in
-    let no : false ≡ true = rw (one, two) at e in
-    absurd cc
 
 -- What the first 16 bytes of a header say.
 pub record HeadSays (bytes : List ℕ) (version pages count : ℕ) : Type 0 where
@@ -236,130 +206,11 @@ head_says version pages count rest old few_pages few_devices =
 four_same : {a b c d m n o p : ℕ} → a ≡ m → b ≡ n → c ≡ o → d ≡ p → spelled head_widths (a ∷ b ∷ c ∷ d ∷ []) ≡ spelled head_widths (m ∷ n ∷ o ∷ p ∷ [])
 four_same e f g h = rw (e, f, g, h) refl
 
-head_written : (bytes : List ℕ) (version pages count : ℕ) → IsBytes bytes → HeadSays bytes version pages count → bytes ≡ front version pages count ++ drop 16 bytes
+pub head_written : (bytes : List ℕ) (version pages count : ℕ) → IsBytes bytes → HeadSays bytes version pages count → bytes ≡ front version pages count ++ drop 16 bytes
 head_written bytes version pages count are says =
     let taken = spelled-numbers head_widths 0 bytes are says.long in
     let same = four_same says.magic says.version_is says.pages_are says.count_is in
     sym (take-append-drop 16 bytes) ∙ ap (λ (x : List ℕ). x ++ drop 16 bytes) (sym taken ∙ same ∙ sym (head_spelled version pages count))
-
--- A header that is spelled is read, and one that is read was spelled.
-header_reads : (bytes : List ℕ) (opening : Opening) (rest : List ℕ) → IsHeader opening → HeadSays bytes opening.version opening.pages (length opening.shapes) → drop 16 bytes ≡ spelled_shapes opening.shapes ++ rest
-    → header_of bytes ≡ Some (opening, rest)
-unfolding header_of
-header_reads bytes opening rest good says after =
-    let long : nat_lt (length bytes) 16 ≡ false = le-ltb _ _ says.long in
-    let known : (eqb opening.version 1 || eqb opening.version 2) ≡ true = version_known opening.version good.known in
-    let some_page : eqb opening.pages 0 ≡ false = ne_eqb _ _ (λ (z : opening.pages ≡ 0). omega (arith, good.some_page)) in
-    let few_pages : nat_lt 16384 opening.pages ≡ false = le-ltb _ _ good.few_pages in
-    let some_device : eqb (length opening.shapes) 0 ≡ false = ne_eqb _ _ (λ (z : length opening.shapes ≡ 0). omega (arith, good.some_device)) in
-    let few_devices : nat_lt 16 (length opening.shapes) ≡ false = le-ltb _ _ good.few_devices in
-    rw (long, says.magic, says.version_is, known, says.pages_are, says.count_is, some_page, few_pages, some_device, few_devices, after, shapes_of-spelled opening.shapes rest good.sound) refl
-
-header_at : (bytes : List ℕ) (opening : Opening) (rest : List ℕ) → IsHeader opening
-    → bytes ≡ spelled head_widths (head_numbers opening.version opening.pages (length opening.shapes)) ++ (spelled_shapes opening.shapes ++ rest) → header_of bytes ≡ Some (opening, rest)
-header_at bytes opening rest good same =
-    header_reads bytes opening rest good (rw (← same) at (head_says opening.version opening.pages (length opening.shapes) (spelled_shapes opening.shapes ++ rest) good.known.most good.few_pages good.few_devices)) (ap (drop 16) same)
-
-pub header_of-spelled : (bytes : List ℕ) (opening : Opening) (rest : List ℕ) → Begins bytes opening rest → header_of bytes ≡ Some (opening, rest)
-header_of-spelled bytes opening rest begins =
-    header_at bytes opening rest begins.good
-    (begins.whole ∙ append_assoc (front opening.version opening.pages (length opening.shapes)) (spelled_shapes opening.shapes) rest
-    ∙ ap (λ (x : List ℕ). x ++ (spelled_shapes opening.shapes ++ rest)) (head_spelled opening.version opening.pages (length opening.shapes)))
-
--- What was found, with these numbers before the shapes.
-abbrev found_with : ℕ → ℕ → List Shape × List ℕ → Opening × List ℕ
-found_with version pages x = (record { version = version; pages = pages; shapes = x.0 }, x.1)
-
-with_shapes_found : (version pages : ℕ) (shapes : Option (List Shape × List ℕ)) (found : Opening × List ℕ) → with_shapes version pages shapes ≡ Some found
-    → (x : List Shape × List ℕ) × (shapes ≡ Some x) × (found_with version pages x ≡ found)
-with_shapes_found version pages None found e = absurd cc
-with_shapes_found version pages (Some x) found e = (x, refl, same_found (found_with version pages x) found e)
-
--- What is known of the numbers in a header that is read.
-record Limits (version pages count : ℕ) : Type 0 where
-  pub known : IsVersion version
-  pub some_page : 1 ≤ pages
-  pub few_pages : pages ≤ 16384
-  pub some_device : 1 ≤ count
-  pub few_devices : count ≤ 16
-
-head_from : (bytes : List ℕ) → nat_lt (length bytes) 16 ≡ false → not (eqb (number_at bytes 0 4) 0x47494d56) ≡ false
-    → HeadSays bytes (number_at bytes 4 4) (number_at bytes 8 4) (number_at bytes 12 4)
-head_from bytes long magic = record {
-  long = ltb-false (length bytes) 16 long;
-  magic = eqb-true (number_at bytes 0 4) 0x47494d56 (so _ magic);
-  version_is = refl;
-  pages_are = refl;
-  count_is = refl;
-}
-
-head_of : (bytes : List ℕ) → (nat_lt (length bytes) 16 || not (eqb (number_at bytes 0 4) 0x47494d56) || not (eqb (number_at bytes 4 4) 1 || eqb (number_at bytes 4 4) 2)) ≡ false
-    → HeadSays bytes (number_at bytes 4 4) (number_at bytes 8 4) (number_at bytes 12 4) × IsVersion (number_at bytes 4 4)
-head_of bytes e =
-    let version = neither (nat_lt (length bytes) 16 || not (eqb (number_at bytes 0 4) 0x47494d56)) (not (eqb (number_at bytes 4 4) 1 || eqb (number_at bytes 4 4) 2)) e in
-    let magic = neither (nat_lt (length bytes) 16) (not (eqb (number_at bytes 0 4) 0x47494d56)) version.0 in
-    (head_from bytes magic.0 magic.1, known_version (number_at bytes 4 4) (so _ version.1))
-
-limits_from : (version pages count : ℕ) → IsVersion version → eqb pages 0 ≡ false → nat_lt 16384 pages ≡ false → eqb count 0 ≡ false → nat_lt 16 count ≡ false → Limits version pages count
-limits_from version pages count known some few some_device few_devices =
-    let is_page : pages ≢ 0 = eqb-false pages 0 some in
-    let is_device : count ≢ 0 = eqb-false count 0 some_device in
-    record { known = known; some_page = omega (arith, is_page); few_pages = ltb-false 16384 pages few; some_device = omega (arith, is_device); few_devices = ltb-false 16 count few_devices }
-
-limits_of : (version pages count : ℕ) → IsVersion version → (eqb pages 0 || nat_lt 16384 pages || eqb count 0 || nat_lt 16 count) ≡ false → Limits version pages count
-limits_of version pages count known e =
-    let few_devices = neither (eqb pages 0 || nat_lt 16384 pages || eqb count 0) (nat_lt 16 count) e in
-    let some_device = neither (eqb pages 0 || nat_lt 16384 pages) (eqb count 0) few_devices.0 in
-    let few = neither (eqb pages 0) (nat_lt 16384 pages) some_device.0 in
-    limits_from version pages count known few.0 few.1 some_device.1 few_devices.1
-
-header_within : (version pages count : ℕ) (shapes : List Shape) → Limits version pages count → length shapes ≡ count → AllByRecursion IsSoundShape shapes → IsHeader (record { version = version; pages = pages; shapes = shapes })
-header_within version pages count shapes limits is sound = record {
-  known = limits.known;
-  some_page = limits.some_page;
-  few_pages = limits.few_pages;
-  some_device = omega (arith, limits.some_device, is);
-  few_devices = omega (arith, limits.few_devices, is);
-  sound = All-from_recursion IsSoundShape shapes sound;
-}
-
-header_whole : (bytes : List ℕ) (version pages count : ℕ) (shapes : List Shape) (rest : List ℕ) → IsBytes bytes → HeadSays bytes version pages count → length shapes ≡ count → drop 16 bytes ≡ spelled_shapes shapes ++ rest
-    → bytes ≡ header (record { version = version; pages = pages; shapes = shapes }) ++ rest
-header_whole bytes version pages count shapes rest are says is after =
-    head_written bytes version pages count are says
-    ∙ ap (λ (n : ℕ). front version pages n ++ drop 16 bytes) (sym is)
-    ∙ ap (λ (x : List ℕ). front version pages (length shapes) ++ x) after
-    ∙ sym (append_assoc (front version pages (length shapes)) (spelled_shapes shapes) rest)
-
-begins_with : (bytes : List ℕ) (version pages count : ℕ) (x : List Shape × List ℕ) → IsBytes bytes → HeadSays bytes version pages count → Limits version pages count → WereShapes count (drop 16 bytes) x
-    → Begins bytes (record { version = version; pages = pages; shapes = x.0 }) x.1
-begins_with bytes version pages count x are says limits shapes = record {
-  good = header_within version pages count x.0 limits shapes.count shapes.good;
-  whole = header_whole bytes version pages count x.0 x.1 are says shapes.count shapes.whole;
-}
-
-begins_read : (bytes : List ℕ) (version pages count : ℕ) (found : Opening × List ℕ) → IsBytes bytes → HeadSays bytes version pages count → Limits version pages count
-    → (x : List Shape × List ℕ) → shapes_of count (drop 16 bytes) ≡ Some x → found_with version pages x ≡ found → Begins bytes found.0 found.1
-begins_read bytes version pages count found are says limits x read is =
-    subst (λ (y : Opening × List ℕ). Begins bytes y.0 y.1) is (begins_with bytes version pages count x are says limits (shapes_read count (drop 16 bytes) x (IsBytes-drop 16 bytes are) read))
-
-begins_found : (bytes : List ℕ) (version pages count : ℕ) (found : Opening × List ℕ) → IsBytes bytes → HeadSays bytes version pages count → Limits version pages count
-    → with_shapes version pages (shapes_of count (drop 16 bytes)) ≡ Some found → Begins bytes found.0 found.1
-begins_found bytes version pages count found are says limits e =
-    let read = with_shapes_found version pages (shapes_of count (drop 16 bytes)) found e in
-    begins_read bytes version pages count found are says limits read.0 read.1 read.2
-
-pub spelled-header_of : (bytes : List ℕ) (found : Opening × List ℕ) → IsBytes bytes → header_of bytes ≡ Some found → Begins bytes found.0 found.1
-unfolding header_of
-spelled-header_of bytes found are e =
-    let version = number_at bytes 4 4 in
-    let head = not_chosen (nat_lt (length bytes) 16 || not (eqb (number_at bytes 0 4) 0x47494d56) || not (eqb version 1 || eqb version 2)) _ found e in
-    let limits = not_chosen (eqb (number_at bytes 8 4) 0 || nat_lt 16384 (number_at bytes 8 4) || eqb (number_at bytes 12 4) 0 || nat_lt 16 (number_at bytes 12 4)) _ found head.1 in
-    let says = head_of bytes head.0 in
-    begins_found bytes version (number_at bytes 8 4) (number_at bytes 12 4) found are says.0 (limits_of version (number_at bytes 8 4) (number_at bytes 12 4) says.1 limits.0) limits.1
-
-pub no_header : (bytes : List ℕ) → header_of bytes ≡ None → (opening : Opening) (rest : List ℕ) → ¬ (Begins bytes opening rest)
-no_header bytes none opening rest begins = let read = header_of-spelled bytes opening rest begins in cc
 
 -- How long the front of the bytes is, by what is behind it.
 pub record Behind (bytes rest : List ℕ) : Type 0 where

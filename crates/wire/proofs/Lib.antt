@@ -5,16 +5,18 @@ pub mod Digits
 mod FaultWriters
 mod FrameLemmas
 pub mod HeaderLemmas
+pub mod HeaderParts
 pub mod Heads
 pub mod ItemRecords
 mod KindTexts
+mod Lagging
 mod Lists
 pub mod PageRecords
 pub mod PartLengths
 mod RequestFits
 mod RequestLemmas
 pub mod Saving
-mod Sinks
+pub mod Sinks
 pub mod Spelling
 pub mod Unique
 pub mod Whole

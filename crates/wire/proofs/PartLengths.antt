@@ -10,7 +10,7 @@ use Rattle.wire.specs.Records.{device, page, zero_page, spelled_record}
 use Rattle.wire.proofs.Bodies.{body_is_short}
 use Rattle.wire.proofs.Digits.{length-digits}
 
-length-front : (version pages count : ℕ) → length (front version pages count) ≡ 16
+pub length-front : (version pages count : ℕ) → length (front version pages count) ≡ 16
 unfolding front
 length-front version pages count = refl
 

@@ -20,8 +20,7 @@ use Rattle.machine.specs.State.{DeviceState, MachineState, base_of}
 use Rattle.wire.specs.Stream.{IsStream, IsStreamBy, IsEntry, shapes_in, content_of, record_in, last_named, opening_in, rounds, texts, device_texts, before_commit}
 use Rattle.machine.specs.declared.shape.Shape.{Shape}
 use Rattle.wire.proofs.Bodies.{body_is_short, body_bytes, one_body}
-use Rattle.wire.proofs.Choices.{same_found}
-use Rattle.wire.proofs.HeaderLemmas.{header_of-spelled}
+use Rattle.wire.proofs.HeaderParts.{begins_once}
 use Rattle.wire.proofs.PageRecords.{one_page}
 use Rattle.wire.proofs.Spelling.{one_record}
 
@@ -142,11 +141,6 @@ all_taken a n e = rw (← e) (take-length a)
 pub ram_same : (p : ℕ) (a b : List ℕ) → length a ≡ 4096 * p → length b ≡ 4096 * p → ((n : ℕ) → n < p → page_of a n ≡ page_of b n) → a ≡ b
 ram_same p a b la lb h = sym (all_taken a (4096 * p) la) ∙ pages_same p a b h ∙ all_taken b (4096 * p) lb
 
-pub alike : (o p : Opening) (r u : List ℕ) → (◌≡◌ {A = Option (Opening × List ℕ)} (Some (o, r)) (Some (p, u))) → (o ≡ p) × (r ≡ u)
-alike o p r u e =
-    let same = same_found (o, r) (p, u) e in
-    (ap (λ (x : Opening × List ℕ). x.0) same, ap (λ (x : Opening × List ℕ). x.1) same)
-
 pub none_from_length : {A : Type 0} (xs more : List A) (n : ℕ) → length (xs ++ more) ≡ length xs → more ≡ []
 none_from_length xs [] n e = refl
 none_from_length xs (y ∷ ys) n e = absurd (omega (arith, e, length-append xs (y ∷ ys)))
@@ -208,9 +202,7 @@ same_parts v w bytes m n es fs a b =
     let oa = opening_in v (pages_of m) m.devices in
     let ob = opening_in w (pages_of n) n.devices in
     parts_from_texts v w bytes m n es fs ca cb a b
-    (alike oa ob (texts es ++ (device_texts 0 m.devices ++ ca)) (texts fs ++ (device_texts 0 n.devices ++ cb))
-    (sym (header_of-spelled bytes oa (texts es ++ (device_texts 0 m.devices ++ ca)) (stream_begins a))
-    ∙ header_of-spelled bytes ob (texts fs ++ (device_texts 0 n.devices ++ cb)) (stream_begins b)))
+    (begins_once {o = oa} {p = ob} (stream_begins a) (stream_begins b))
 
 -- At one base the devices are the same too.
 same_devices : {v w : ℕ} {es fs : List Record} {ca cb : List ℕ} (m n : MachineState) → IsSound m → IsSound n → base_of m.devices ≡ base_of n.devices → SameParts m n v w es fs ca cb → m.devices ≡ n.devices

@@ -4,7 +4,9 @@ pub mod FaultWriter
 pub mod FrameReading
 pub mod FrameText
 pub mod Header
-pub mod HeaderReading
+pub mod HeaderFaults
+pub mod HeaderParts
+pub mod Lagging
 pub mod Numbers
 pub mod RecordHeads
 pub mod Records

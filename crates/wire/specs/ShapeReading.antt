@@ -4,7 +4,6 @@ use Rattle.guestmem.specs.Number.{number_at}
 use Rattle.machine.specs.declared.shape.Shape.{Shape}
 use Rattle.machine.specs.declared.shape.Shape.TheVariants.{Net, Block, Console, Entropy}
 use Rattle.blk.specs.declared.shape.TheConstants.{SECTORS_MAX}
-use Rattle.wire.specs.Several.{several}
 
 -- The shape of a network device, whose device ID comes before the bytes, and the bytes after the shape.
 unfoldable pub net_shape_of : List ℕ → Option (Shape × List ℕ)
@@ -26,7 +25,3 @@ shape_of (number ∷ bytes) =
     else if number == 3 then Some (Console, bytes)
     else if number == 4 then Some (Entropy, bytes)
     else None
-
--- As many shapes as the first argument says, and the bytes after them.
-abbrev pub shapes_of : ℕ → List ℕ → Option (List Shape × List ℕ)
-shapes_of = several shape_of

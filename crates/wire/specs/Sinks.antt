@@ -1,6 +1,27 @@
 -- The state of a sink, and what contracts say of bytes on their way to one.
 use Rattle.std.specs.Prelude.{◌≡◌, ℕ, ◌++◌, List, [], Bool, IsTrue, Option, Some, None, Result, OnOk, is_ok, is_some}
+use Rattle.sha2.specs.Hashers.{Holds256}
+use Rattle.sha2.specs.declared.Sha256.{Sha256}
 use Rattle.guestmem.specs.Failures.{counted}
+
+-- What a sink digests: nothing; or there is a digest, and these bytes wait until it takes them.
+pub data Digested : Type 0 where
+  undigested : Digested
+  lagging : Sha256 → List ℕ → Digested
+
+-- It took the first of these bytes, and the others wait.
+pub record Lags (taken : Sha256) (waiting bytes : List ℕ) : Type 0 where
+  pub first : List ℕ
+  pub holds : Holds256 taken first
+  pub whole : bytes ≡ first ++ waiting
+
+unfoldable pub Digests : Sha256 → List ℕ → List ℕ → Type 0
+Digests taken waiting bytes = Lags taken waiting bytes
+
+-- It is the digest of these bytes.
+abbrev pub Covers : Digested → List ℕ → Type 0
+Covers undigested bytes = ⊥
+Covers (lagging taken waiting) bytes = Digests taken waiting bytes
 
 -- The bytes that a sink holds, how often it failed (modulo 2^64), whether it is honest, and whether it is flushed: whether the
 -- last call was a flush that succeeded.
@@ -9,6 +30,10 @@ pub record SinkState : Type 0 where
   pub failures : ℕ
   pub honest : Bool
   pub is_flushed : Bool
+
+-- These bytes are digested too: whatever bytes it was the digest of, it is that of those followed by these.
+abbrev pub Takes : Digested → List ℕ → Digested → Type 0
+Takes old bytes new = (before : List ℕ) → Covers old before → Covers new (before ++ bytes)
 
 -- A call that appends these bytes to a sink: the failure count goes up exactly if the call fails. If it succeeds and the sink
 -- was honest, the sink is still honest, and holds what it held before, followed by these bytes.
@@ -22,9 +47,9 @@ pub record Flushes {T E : Type 0} (old : SinkState) (result : Result T E) (new :
   pub holds : OnOk result (IsTrue old.honest → IsTrue new.honest × (new.held ≡ old.held))
   pub flushed : new.is_flushed ≡ is_ok result
 
--- These bytes were taken in: whatever bytes had been taken in before, those followed by these have been taken in now.
-abbrev pub Takes : (List ℕ → Type 0) → List ℕ → (List ℕ → Type 0) → Type 0
-Takes has_taken bytes has_taken_now = (before : List ℕ) → has_taken before → has_taken_now (before ++ bytes)
+-- A digest that took these bytes, and for which none wait.
+abbrev pub prompt : Sha256 → Digested
+prompt taken = lagging taken []
 
 -- The state of a sink over a writer: it is honest if the contents of the writer are known.
 abbrev pub known : Option (List ℕ) → List ℕ

@@ -1,12 +1,16 @@
-//! The header of a stream.
+//! The header of a stream, as far as it has arrived.
+//!
+//! A header shows its version at the eighth byte and its counts at the sixteenth. An invalid shape is reported at the shape's
+//! end, since only there all of it is known.
 
-ghost use Rattle.std.specs.Prelude.{◌≡◌, ◌≤◌, ◌==◌, ◌||◌, ◌↔◌, IsTrue, IfOk, MatchOption, None, Some, drop, length, ℕ, List};
+ghost use Rattle.std.specs.Prelude.{◌≡◌, ◌≤◌, ◌<◌, ◌+◌, ◌*◌, ◌==◌, ◌||◌, ◌↔◌, IsTrue, IfErr, IfOk, MatchOption, drop, false, is_some, length, ℕ, List};
 ghost use Rattle.wire.specs.Header.{Begins, IsVersion, Opening, said};
-ghost use Rattle.wire.specs.HeaderReading.{header_of};
-ghost use Rattle.wire.specs.ShapeReading.{shapes_of};
+ghost use Rattle.wire.specs.HeaderFaults.{IsHeaderPart, MayCount, OnFault, ShowsFault};
+ghost use Rattle.wire.specs.HeaderParts.{FirstShape, ReadShapes};
 
+use crate::header_error::HeaderError;
 use crate::numbers::u32_at;
-use crate::shape_spelling::shape_at;
+use crate::shape_spelling::{shape_at, shape_len};
 use guestmem::PAGES_MAX;
 use machine::{DEVICES_MAX, Shape};
 use std::alloc::{AllocError, Global};
@@ -40,47 +44,117 @@ pub struct Header {
 }
 
 /// Decodes the header at the beginning of the bytes. `None` if they begin with no header.
+#[tactic(auto, using(crate::proofs::HeaderParts::none_at_fault))]
 pub fn decode_header(alloc: Global, bytes: &[u8]) -> Result<Option<Header>, AllocError>
     ensures { IfOk result (λ found. MatchOption found
         ((opening : Opening) (rest : List ℕ) → ¬ (Begins bytes.now opening rest))
         (λ h. (h.len ≤ length bytes.now) × Begins bytes.now (said h) (drop h.len bytes.now))) }
 {
-    let Some((version, pages, shapes, rest)) = header_at(alloc, bytes)? else {
-        return Ok(None);
-    };
-    let len = bytes.len() - rest.len();
-    Ok(Some(Header {
-        version,
-        pages,
-        shapes,
-        len,
-    }))
+    match read_header(alloc, bytes) {
+        Ok(Some(header)) => Ok(Some(header)),
+        Ok(None) => Ok(None),
+        Err(HeaderError::NoMemory) => Err(AllocError),
+        Err(_) => Ok(None),
+    }
 }
 
-#[tactic(auto, unfolding(crate::specs::HeaderReading::header_of))]
-fn header_at(
-    alloc: Global,
-    bytes: &[u8],
-) -> Result<Option<(u32, u32, Vec<Shape>, &[u8])>, AllocError>
-    ensures { IfOk result (λ found. MatchOption found (header_of bytes.now ≡ None) (λ x. header_of bytes.now ≡ Some (record { version = x.0; pages = x.1; shapes = x.2.items }, x.3.now))) }
+/// The header at the front of the bytes, or its fault as soon as a byte shows it. `None` if it is incomplete, with no fault so far:
+/// no more than 495 bytes are, so the first 496 of a stream tell what arrives, or its fault. What takes memory is the list of at most
+/// sixteen shapes.
+pub fn read_header(alloc: Global, bytes: &[u8]) -> Result<Option<Header>, HeaderError>
+    ensures read { IfOk result (λ found. MatchOption found (IsHeaderPart bytes.now)
+        (λ h. (h.len ≤ length bytes.now) × Begins bytes.now (said h) (drop h.len bytes.now))) }
+    ensures few { IfOk result (λ found. is_some found ≡ false → length bytes.now ≤ 495) }
+    ensures refused { IfErr result (λ e. OnFault e ((at : ℕ) × ShowsFault e bytes.now at)) }
 {
-    if bytes.len() < FRONT_LEN || u32_at(bytes, 0) != MAGIC {
+    if bytes.len() < 4 {
+        return Ok(None);
+    }
+    if u32_at(bytes, 0) != MAGIC {
+        return Err(HeaderError::BadMagic);
+    }
+    if bytes.len() < 8 {
         return Ok(None);
     }
     let version = u32_at(bytes, 4);
     if !is_version(version) {
+        return Err(HeaderError::BadVersion);
+    }
+    if bytes.len() < FRONT_LEN {
         return Ok(None);
     }
     let pages = u32_at(bytes, 8);
     let count = u32_at(bytes, 12);
-    if pages == 0 || pages > PAGES_MAX || count == 0 || count > DEVICES_MAX as u32 {
-        return Ok(None);
+    if !may_count(pages, count) {
+        return Err(HeaderError::BadShape);
     }
     let (_, rest) = bytes.split_at(FRONT_LEN);
-    let Some((shapes, rest)) = shapes_at(alloc, count, rest)? else {
+    match read_shapes(alloc, count, rest) {
+        Err(error) => Err(error),
+        Ok(None) => Ok(None),
+        Ok(Some((shapes, rest))) => {
+            let len = bytes.len() - rest.len();
+            Ok(Some(Header {
+                version,
+                pages,
+                shapes,
+                len,
+            }))
+        }
+    }
+}
+
+/// The shape at the front of the bytes, if it is complete, and the bytes after it.
+fn first_shape(bytes: &[u8]) -> Result<Option<(Shape, &[u8])>, HeaderError>
+    ensures first { FirstShape (λ x. x.now) bytes.now result }
+    ensures few { IfOk result (λ found. MatchOption found (length bytes.now < 30) (λ x. length bytes.now ≤ length x.1.now + 30)) }
+{
+    if let Some((shape, rest)) = shape_at(bytes) {
+        return Ok(Some((shape, rest)));
+    }
+    let Some((number, _)) = bytes.split_first() else {
         return Ok(None);
     };
-    Ok(Some((version, pages, shapes, rest)))
+    let Some(len) = shape_len(*number) else {
+        return Err(HeaderError::BadShape);
+    };
+    if bytes.len() < len {
+        return Ok(None);
+    }
+    Err(HeaderError::BadShape)
+}
+
+/// The first `count` shapes of the bytes, if they are complete, and the bytes after them.
+fn read_shapes(
+    alloc: Global,
+    count: u32,
+    bytes: &[u8],
+) -> Result<Option<(Vec<Shape>, &[u8])>, HeaderError>
+    ensures read { ReadShapes (λ x. x.items) (λ x. x.now) count bytes.now result }
+    ensures few { IfOk result (λ found. is_some found ≡ false → length bytes.now < 30 * count) }
+{
+    let mut shapes = Vec::new(alloc);
+    let mut rest = bytes;
+    for _ in 0..count {
+        match first_shape(rest) {
+            Err(error) => return Err(error),
+            Ok(None) => return Ok(None),
+            Ok(Some((shape, after))) => {
+                let Ok(()) = shapes.push(shape) else {
+                    return Err(HeaderError::NoMemory);
+                };
+                rest = after;
+            }
+        }
+    }
+    Ok(Some((shapes, rest)))
+}
+
+/// Whether a machine may have `pages` pages and `count` devices.
+fn may_count(pages: u32, count: u32) -> bool
+    ensures { IsTrue result ↔ MayCount pages count }
+{
+    1 <= pages && pages <= PAGES_MAX && 1 <= count && count <= DEVICES_MAX as u32
 }
 
 /// Whether there is this version of the stream.
@@ -89,24 +163,4 @@ pub fn is_version(version: u32) -> bool
     ensures is { result ≡ (version == 1 || version == 2) }
 {
     version == FIRST_VERSION || version == VERSION
-}
-
-#[tactic(auto, using(crate::proofs::Lists::several_go_on, crate::proofs::Lists::several_fail, crate::proofs::Lists::several_end))]
-fn shapes_at(
-    alloc: Global,
-    count: u32,
-    bytes: &[u8],
-) -> Result<Option<(Vec<Shape>, &[u8])>, AllocError>
-    ensures { IfOk result (λ found. MatchOption found (shapes_of count bytes.now ≡ None) (λ x. shapes_of count bytes.now ≡ Some (x.0.items, x.1.now))) }
-{
-    let mut shapes = Vec::new(alloc);
-    let mut rest = bytes;
-    for _ in 0..count {
-        let Some((shape, after)) = shape_at(rest) else {
-            return Ok(None);
-        };
-        shapes.push(shape)?;
-        rest = after;
-    }
-    Ok(Some((shapes, rest)))
 }

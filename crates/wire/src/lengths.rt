@@ -7,27 +7,11 @@ ghost use Rattle.wire.specs.Header.{Opening, header, spelled_shape};
 ghost use Rattle.wire.specs.Records.{device, page_record, spelled_record};
 
 use crate::header::FRONT_LEN;
-use crate::record_head::{
-    COMMIT_RECORD, DEVICE_HEAD, GOOD_SECTOR_RECORD, PAGE_RECORD, SECTOR_HEAD, ZERO_PAGE_HEAD,
-};
+use crate::record_head::{DEVICE_HEAD, PAGE_RECORD, ZERO_PAGE_RECORD};
+use crate::shape_spelling::{BLOCK_SHAPE, CONSOLE_SHAPE, ENTROPY_SHAPE, NET_SHAPE};
 use crate::writing::body_len;
 use guestmem::is_zero;
 use machine::{DeviceState, Shape};
-
-/// The length of the record of a page with its bytes.
-pub const PAGE_RECORD_LEN: u64 = PAGE_RECORD as u64;
-
-/// The length of the record of a page of zeros.
-pub const ZERO_PAGE_LEN: u64 = ZERO_PAGE_HEAD as u64;
-
-/// The length of the record of a good sector.
-pub const GOOD_SECTOR_LEN: u64 = GOOD_SECTOR_RECORD as u64;
-
-/// The length of the record of a bad sector.
-pub const BAD_SECTOR_LEN: u64 = SECTOR_HEAD as u64;
-
-/// The length of the record with which a stream ends.
-pub const COMMIT_LEN: u64 = COMMIT_RECORD as u64;
 
 /// The length of the header of a machine with these devices.
 pub fn header_len(shapes: &[Shape]) -> u64
@@ -50,9 +34,10 @@ fn spelled_len(shape: Shape) -> u64
     ensures short { result ≤ 30 }
 {
     match shape {
-        Shape::Net { .. } => 7,
-        Shape::Block { .. } => 30,
-        Shape::Console | Shape::Entropy => 1,
+        Shape::Net { .. } => NET_SHAPE as u64,
+        Shape::Block { .. } => BLOCK_SHAPE as u64,
+        Shape::Console => CONSOLE_SHAPE as u64,
+        Shape::Entropy => ENTROPY_SHAPE as u64,
     }
 }
 
@@ -62,9 +47,9 @@ pub fn page_len(bytes: &[u8; 4096]) -> u64
     ensures short { result ≤ 4101 }
 {
     if is_zero(bytes) {
-        return ZERO_PAGE_LEN;
+        return ZERO_PAGE_RECORD as u64;
     }
-    PAGE_RECORD_LEN
+    PAGE_RECORD as u64
 }
 
 /// The length of the record of a device.

@@ -5,17 +5,21 @@
 //! `specs/Records` and `specs/DeviceBody` (how each part is encoded; requests and frames in `specs/RequestText` and
 //! `specs/FrameText`), and the machine's own `Sound` (which machines there are). Addresses stand in a stream as the guest wrote them,
 //! and the address at which RAM begins does not: who reads a device names it. How parts are decoded is defined
-//! separately (`specs/HeaderReading`, `specs/ShapeReading`, `specs/BodyReading`, `specs/RequestReading`,
-//! `specs/FrameReading`), and is proved to be the inverse of the encoding.
+//! separately (`specs/ShapeReading`, `specs/BodyReading`, `specs/RequestReading`, `specs/FrameReading`), and is proved to be the inverse
+//! of the encoding.
 //!
 //! # What the layers above may rely on
-//! - Each `encode_` function adds the encoding of its part to an honest sink; each `write_` function does the same, and
-//!   a `Tally`, such as a digest, takes the same bytes; each `decode_` function succeeds exactly on an encoding at the
-//!   front, and `decode_device` on a body that is all of the bytes, of a device that is sound in a RAM from 0 on and that the
-//!   version has, out of memory aside; `decode_device_at` names another address at which RAM begins.
+//! - Each `encode_` function adds the encoding of its part to an honest sink, and where the sink digests, its digest covers the
+//!   same bytes; each `decode_` function succeeds exactly on an encoding at the front, and `decode_device` on a body that is all of
+//!   the bytes, of a device that is sound in a RAM from 0 on and that the version has, out of memory aside; `decode_device_at`
+//!   names another address at which RAM begins.
+//! - `read_header` tells a header as far as it has come: a header, its fault at the byte that shows it (`specs/HeaderFaults`), or that it is
+//!   not whole. To `decode_header` a fault is no header.
 //! - The trait `Sink`: the bytes held, a count of failures modulo 2^64, whether it is honest, and whether it is
 //!   flushed: it is if the last call was a flush that succeeded (`specs/Sinks`). A page and a good sector go to it in
 //!   one call each.
+//! - A `Digesting` sink gives the digest of what was put into it. `Eager` makes one of any sink, and digests each byte as it is put.
+//!   `Waiting` keeps its bytes until they are taken, and digests them then, at the latest when the digest is asked for.
 //! - Two versions of the stream are read, 2 is written. They differ in how a page of zeros is encoded, and in that version 1 has no
 //!   block device whose driver accepted WRITE_ZEROES, so no request to clear sectors; and in nothing else. A page has one
 //!   encoding in each.
@@ -28,11 +32,12 @@
 
 mod decode_error;
 mod device_reading;
-mod encode;
+mod digesting;
 mod fault_writer;
 mod frame_reading;
 mod frame_writing;
 mod header;
+mod header_error;
 mod kind_reading;
 pub mod laws;
 mod lengths;
@@ -46,28 +51,30 @@ mod sector_writing;
 mod shape_spelling;
 mod sink;
 mod size_text;
-mod tally;
+mod waiting;
 mod writing;
 
 pub use decode_error::DecodeError;
 pub use device_reading::{decode_device, decode_device_at};
-pub use encode::{
-    encode_commit, encode_device, encode_header, encode_page, encode_round, encode_zero_page,
-};
+pub use digesting::{Digesting, Eager, Nowhere};
 pub use fault_writer::FaultWriter;
-pub use header::{FIRST_VERSION, FRONT_LEN, Header, MAGIC, VERSION, decode_header, is_version};
-pub use lengths::{
-    BAD_SECTOR_LEN, COMMIT_LEN, GOOD_SECTOR_LEN, PAGE_RECORD_LEN, ZERO_PAGE_LEN, device_len,
-    header_len, page_len,
+pub use header::{
+    FIRST_VERSION, FRONT_LEN, Header, MAGIC, VERSION, decode_header, is_version, read_header,
 };
+pub use header_error::HeaderError;
+pub use lengths::{device_len, header_len, page_len};
 pub use numbers::{u8_at, u32_at};
 pub use record::{Record, decode_record, has_record};
 pub use record_head::{
-    BODY_MAX, COMMIT_RECORD, COMMIT_TAG, DEVICE_TAG, FoundHead, HEAD_MAX, PAGE_TAG, RECORD_MAX,
-    ROUND_END_TAG, RecordHead, SECTOR_TAG, ZERO_PAGE_TAG, read_head,
+    BAD_SECTOR_RECORD, BODY_MAX, COMMIT_RECORD, COMMIT_TAG, DEVICE_TAG, FoundHead,
+    GOOD_SECTOR_RECORD, HEAD_MAX, PAGE_TAG, RECORD_MAX, ROUND_END_TAG, RecordHead, SECTOR_TAG,
+    ZERO_PAGE_TAG, read_head,
 };
 pub use sector_writing::{encode_sector, write_bad_sector, write_sector};
 pub use shape_spelling::{shape_at, shape_len};
 pub use sink::{Sink, SinkFault, WriteSink};
-pub use tally::{NoTally, Tally};
-pub use writing::{write_device, write_header, write_page, write_round};
+pub use waiting::Waiting;
+pub use writing::{
+    encode_commit, encode_device, encode_header, encode_page, encode_round, encode_zero_page,
+    write_page,
+};

@@ -73,6 +73,12 @@ pub const PAGE_RECORD: usize = PAGE_HEAD + PAGE_SIZE;
 /// The length of the record of a good sector, in bytes.
 pub const GOOD_SECTOR_RECORD: usize = SECTOR_HEAD + SECTOR_SIZE;
 
+/// The length of the record of a bad sector, in bytes.
+pub const BAD_SECTOR_RECORD: usize = SECTOR_HEAD;
+
+/// The length of the record of a page of zeros, in bytes.
+pub const ZERO_PAGE_RECORD: usize = ZERO_PAGE_HEAD;
+
 /// The length of the record of the digest, in bytes.
 pub const COMMIT_RECORD: usize = COMMIT_HEAD + DIGEST_LEN;
 

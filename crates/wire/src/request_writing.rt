@@ -7,8 +7,6 @@ ghost use Rattle.wire.specs.Sinks.{Appends, Takes};
 
 use crate::request_text::{HEAD_LEN, SEG_LEN, head_bytes, seg_bytes};
 use crate::sink::{Sink, SinkFault};
-use crate::tally::Tally;
-use crate::writing::put;
 use blk::{Request, Requests};
 use chains::Seg;
 
@@ -19,44 +17,32 @@ const SEGS_END: usize = 1 << 16;
 const LEN_END: usize = 1 << 32;
 
 /// Writes the count of the requests, then each request.
-pub fn write_requests<S: Sink, T: Tally>(
-    requests: &Requests,
-    out: &mut S,
-    tally: &mut T,
-) -> Result<(), SinkFault>
+pub fn write_requests<S: Sink>(requests: &Requests, out: &mut S) -> Result<(), SinkFault>
     ensures out { Appends (S.state out.old) (requests_text requests.now) result (S.state out.new) }
-    ensures taken { OnOk result (Takes (T.has_taken tally.old) (requests_text requests.now) (T.has_taken tally.new)) }
+    ensures taken { OnOk result (Takes (S.sum out.old) (requests_text requests.now) (S.sum out.new)) }
 {
-    put(&[requests.len() as u8], out, tally)?;
-    write_each(requests.as_slice(), out, tally)
+    out.put(&[requests.len() as u8])?;
+    write_each(requests.as_slice(), out)
 }
 
 #[tactic(auto, using(crate::proofs::Saving::text_more))]
-fn write_each<S: Sink, T: Tally>(
-    requests: &[Request],
-    out: &mut S,
-    tally: &mut T,
-) -> Result<(), SinkFault>
+fn write_each<S: Sink>(requests: &[Request], out: &mut S) -> Result<(), SinkFault>
     ensures out { Appends (S.state out.old) (flat_map request_text requests.now) result (S.state out.new) }
-    ensures taken { OnOk result (Takes (T.has_taken tally.old) (flat_map request_text requests.now) (T.has_taken tally.new)) }
+    ensures taken { OnOk result (Takes (S.sum out.old) (flat_map request_text requests.now) (S.sum out.new)) }
 {
     for i in 0..requests.len() {
-        write_request(&requests[i], out, tally)?;
+        write_request(&requests[i], out)?;
     }
     Ok(())
 }
 
-fn write_request<S: Sink, T: Tally>(
-    request: &Request,
-    out: &mut S,
-    tally: &mut T,
-) -> Result<(), SinkFault>
+fn write_request<S: Sink>(request: &Request, out: &mut S) -> Result<(), SinkFault>
     ensures out { Appends (S.state out.old) (request_text request.now) result (S.state out.new) }
-    ensures taken { OnOk result (Takes (T.has_taken tally.old) (request_text request.now) (T.has_taken tally.new)) }
+    ensures taken { OnOk result (Takes (S.sum out.old) (request_text request.now) (S.sum out.new)) }
 {
-    put(&request_head(request), out, tally)?;
-    write_segs(request.readable.as_slice(), out, tally)?;
-    write_segs(request.writable.as_slice(), out, tally)
+    out.put(&request_head(request))?;
+    write_segs(request.readable.as_slice(), out)?;
+    write_segs(request.writable.as_slice(), out)
 }
 
 /// Encodes the head of a request, with the counts of its segments.
@@ -69,12 +55,12 @@ fn request_head(request: &Request) -> [u8; 26]
 }
 
 #[tactic(auto, using(crate::proofs::Saving::text_more))]
-fn write_segs<S: Sink, T: Tally>(segs: &[Seg], out: &mut S, tally: &mut T) -> Result<(), SinkFault>
+fn write_segs<S: Sink>(segs: &[Seg], out: &mut S) -> Result<(), SinkFault>
     ensures out { Appends (S.state out.old) (segs_text segs.now) result (S.state out.new) }
-    ensures taken { OnOk result (Takes (T.has_taken tally.old) (segs_text segs.now) (T.has_taken tally.new)) }
+    ensures taken { OnOk result (Takes (S.sum out.old) (segs_text segs.now) (S.sum out.new)) }
 {
     for i in 0..segs.len() {
-        put(&seg_bytes(&segs[i]), out, tally)?;
+        out.put(&seg_bytes(&segs[i]))?;
     }
     Ok(())
 }

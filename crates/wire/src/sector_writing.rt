@@ -9,8 +9,6 @@ ghost use Rattle.wire.specs.Sinks.{Appends, Takes};
 
 use crate::record_head::{GOOD_SECTOR_RECORD, RecordHead, SECTOR_HEAD, head_bytes};
 use crate::sink::{Sink, SinkFault};
-use crate::tally::{NoTally, Tally};
-use crate::writing::put;
 use machine::SECTOR_SIZE;
 
 /// Writes the record of a sector: its 512 bytes, or none if it is bad.
@@ -23,25 +21,27 @@ pub fn encode_sector<S: Sink>(
     ensures out { MatchOption content.entry
         (Appends (S.state out.old) (spelled_record (sector device number None)) result (S.state out.new))
         (λ bytes. Appends (S.state out.old) (spelled_record (sector device number (Some bytes.now))) result (S.state out.new)) }
+    ensures taken { OnOk result (MatchOption content.entry
+        (Takes (S.sum out.old) (spelled_record (sector device number None)) (S.sum out.new))
+        (λ bytes. Takes (S.sum out.old) (spelled_record (sector device number (Some bytes.now))) (S.sum out.new))) }
 {
     match content {
-        Some(bytes) => write_sector(device, number, bytes, out, &mut NoTally),
-        None => write_bad_sector(device, number, out, &mut NoTally),
+        Some(bytes) => write_sector(device, number, bytes, out),
+        None => write_bad_sector(device, number, out),
     }
 }
 
 /// Writes the record of a good sector.
-pub fn write_sector<S: Sink, T: Tally>(
+pub fn write_sector<S: Sink>(
     device: u8,
     number: u32,
     bytes: &[u8; SECTOR_SIZE],
     out: &mut S,
-    tally: &mut T,
 ) -> Result<(), SinkFault>
     ensures out { Appends (S.state out.old) (spelled_record (sector device number (Some bytes.now))) result (S.state out.new) }
-    ensures taken { OnOk result (Takes (T.has_taken tally.old) (spelled_record (sector device number (Some bytes.now))) (T.has_taken tally.new)) }
+    ensures taken { OnOk result (Takes (S.sum out.old) (spelled_record (sector device number (Some bytes.now))) (S.sum out.new)) }
 {
-    put(&sector_record(device, number, bytes), out, tally)
+    out.put(&sector_record(device, number, bytes))
 }
 
 /// The whole record of a good sector, so that a sink is called once for it.
@@ -62,19 +62,14 @@ fn sector_record(device: u8, number: u32, bytes: &[u8; SECTOR_SIZE]) -> [u8; GOO
 
 /// Writes the record of a bad sector.
 #[tactic(auto, unfolding(crate::specs::Records::spelled_record))]
-pub fn write_bad_sector<S: Sink, T: Tally>(
-    device: u8,
-    number: u32,
-    out: &mut S,
-    tally: &mut T,
-) -> Result<(), SinkFault>
+pub fn write_bad_sector<S: Sink>(device: u8, number: u32, out: &mut S) -> Result<(), SinkFault>
     ensures out { Appends (S.state out.old) (spelled_record (sector device number None)) result (S.state out.new) }
-    ensures taken { OnOk result (Takes (T.has_taken tally.old) (spelled_record (sector device number None)) (T.has_taken tally.new)) }
+    ensures taken { OnOk result (Takes (S.sum out.old) (spelled_record (sector device number None)) (S.sum out.new)) }
 {
     let head = head_bytes(RecordHead::Sector {
         device,
         number,
         is_good: false,
     });
-    put(&head[..SECTOR_HEAD], out, tally)
+    out.put(&head[..SECTOR_HEAD])
 }

@@ -1,4 +1,4 @@
-//! Shapes in the header of a stream.
+//! Shapes in the header of a stream: the device ID, and what it has.
 
 ghost use Rattle.std.specs.Prelude.{◌≡◌, MatchOption, None, Some};
 ghost use Rattle.wire.specs.Header.{shape_length};
@@ -7,16 +7,40 @@ ghost use Rattle.wire.specs.ShapeReading.{block_shape_of, net_shape_of, shape_of
 use crate::numbers::{u8_at, u64_at};
 use machine::{SECTORS_MAX, Shape};
 
+/// The device ID with which the shape of a network device begins.
+pub const NET_ID: u8 = 1;
+
+/// The device ID with which the shape of a block device begins.
+pub const BLOCK_ID: u8 = 2;
+
+/// The device ID that is the shape of a console.
+pub const CONSOLE_ID: u8 = 3;
+
+/// The device ID that is the shape of an entropy device.
+pub const ENTROPY_ID: u8 = 4;
+
+/// The length of the shape of a network device, in bytes: the ID, and 6 of its MAC.
+pub const NET_SHAPE: usize = 7;
+
+/// The length of the shape of a block device, in bytes: the ID, 8 of its sectors, 1 that says whether it is read-only, 20 of its id.
+pub const BLOCK_SHAPE: usize = 30;
+
+/// The length of the shape of a console, in bytes.
+pub const CONSOLE_SHAPE: usize = 1;
+
+/// The length of the shape of an entropy device, in bytes.
+pub const ENTROPY_SHAPE: usize = 1;
+
 /// The encoded length of a shape whose first byte, the number of the kind of device, is this. `None` if no kind has
 /// this number.
 pub fn shape_len(number: u8) -> Option<usize>
     ensures { MatchOption result (shape_length number ≡ None) (λ len. shape_length number ≡ Some len) }
 {
     match number {
-        1 => Some(7),
-        2 => Some(30),
-        3 => Some(1),
-        4 => Some(1),
+        NET_ID => Some(NET_SHAPE),
+        BLOCK_ID => Some(BLOCK_SHAPE),
+        CONSOLE_ID => Some(CONSOLE_SHAPE),
+        ENTROPY_ID => Some(ENTROPY_SHAPE),
         _ => None,
     }
 }
@@ -30,10 +54,10 @@ pub fn shape_at(bytes: &[u8]) -> Option<(Shape, &[u8])>
         return None;
     };
     match *number {
-        1 => net_shape_at(rest),
-        2 => block_shape_at(rest),
-        3 => Some((Shape::Console, rest)),
-        4 => Some((Shape::Entropy, rest)),
+        NET_ID => net_shape_at(rest),
+        BLOCK_ID => block_shape_at(rest),
+        CONSOLE_ID => Some((Shape::Console, rest)),
+        ENTROPY_ID => Some((Shape::Entropy, rest)),
         _ => None,
     }
 }

@@ -15,16 +15,23 @@ pub struct SinkFault;
 /// flushed or not. An honest sink stays honest and holds, after a `put` that succeeds, what it held and then the bytes
 /// given. After a failure its bytes and its honesty are not specified. It is flushed exactly if the last call was a
 /// `flush` that succeeded.
+///
+/// An `impl` gives `put`, `flush` and `state`. One that digests what it takes (`Digesting`) says by `sum` how far it has come; any
+/// other leaves `sum` out, and then the clause `takes` says nothing.
 pub trait Sink {
-    ghost use Rattle.std.specs.Prelude.{◌≡◌, false};
-    ghost use Rattle.wire.specs.Sinks.{SinkState, Appends, Flushes};
+    ghost use Rattle.std.specs.Prelude.{◌≡◌, OnOk, false};
+    ghost use Rattle.wire.specs.Sinks.{SinkState, Appends, Digested, Flushes, Takes, undigested};
 
     /// The bytes that it holds, the count of its failures, whether it is honest, and whether it is flushed.
     ghost state: { Self → SinkState };
 
+    /// How far it has digested what was put into it. Most sinks digest nothing, and leave this out.
+    ghost sum: { Self → Digested } = { λ _. undigested };
+
     /// Takes all the bytes, after those that it holds.
     fn put(&mut self, bytes: &[u8]) -> Result<(), SinkFault>
         ensures appends { Appends (state self.old) bytes.now result (state self.new) }
+        ensures takes { OnOk result (Takes (sum self.old) bytes.now (sum self.new)) }
         ensures unflushed { (state self.new).is_flushed ≡ false };
 
     /// Passes all that it took on to its destination.

@@ -14,5 +14,5 @@ pub returns-in_ok-write_sector-in-Ok-true-clause-added :
     goal.returns-in_ok-write_sector-in-Ok-true-clause-added
 returns-in_ok-write_sector-in-Ok-true-clause-added g c =
     let whole : IsSector c.read_sector.new.buf = record { size = search rules; bytes = subst IsBytes c.as_slice.ensures c.recall_bytes.ensures } in
-    added_good c.args.machine.now c.read_sector.new.self c.args.dev c.args.number c.read_sector.new.buf (g.S.Sink.state c.args.out.now) (g.S.Sink.state c.write_sector.new.out) (g.T.Tally.has_taken c.args.tally.now) (g.T.Tally.has_taken c.write_sector.new.tally) (tt {0}) whole
+    added_good c.args.machine.now c.read_sector.new.self c.args.dev c.args.number c.read_sector.new.buf (g.S.Sink.state c.args.out.now) (g.S.Sink.state c.write_sector.new.out) (g.S.Sink.sum c.args.out.now) (g.S.Sink.sum c.write_sector.new.out) (tt {0}) whole
     (rw (c.in-Ok-true.is, c.in-Ok-true.field-0-test) at c.read_sector.ensures.read) (rw c.in_ok-write_sector-in-Ok-true.was at c.write_sector.ensures.out) c.in_ok-write_sector-in-Ok-true.ensures.taken

@@ -9,5 +9,5 @@ abbrev pub invariant-loop-number : goal.invariant-loop-number
 invariant-loop-number g l = record {
   count : (g.S.Sink.state l.out).failures ≡ (g.S.Sink.state l.fn.out).failures;
   holds : IsTrue (g.S.Sink.state l.fn.out).honest → IsTrue (g.S.Sink.state l.out).honest × ((g.S.Sink.state l.out).held ≡ (g.S.Sink.state l.fn.out).held ++ device_texts 0 (take l.number (state_of l.machine).devices));
-  taken : Takes (g.T.Tally.has_taken l.fn.tally) (device_texts 0 (take l.number (state_of l.machine).devices)) (g.T.Tally.has_taken l.tally);
+  taken : Takes (g.S.Sink.sum l.fn.out) (device_texts 0 (take l.number (state_of l.machine).devices)) (g.S.Sink.sum l.out);
 }

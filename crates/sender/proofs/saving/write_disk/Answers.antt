@@ -3,6 +3,7 @@ use Rattle.guestmem.specs.Item.{sector}
 use Rattle.machine.specs.NextBad.{IsNextBad}
 use Rattle.machine.specs.Seen.{all_calls, state_of}
 use Rattle.wire.specs.Records.{spelled_record}
+use Rattle.wire.specs.Sinks.{prompt}
 use Rattle.wire.specs.Stream.{record_of, texts}
 use Rattle.sender.specs.Items.{first_sector, records_from, size_on}
 use Rattle.sender.proofs.Disks.{few_told, sector_there, size_told}
@@ -21,7 +22,7 @@ loop-number-init g c =
       few = rw c.sectors-number-end.ensures (few_told m c.shapes.result.now c.args.dev _ c.shapes.ensures.sound c.shapes.ensures.shapes c.requires);
       calls = sym (no_items g.D.Disk.called m (first_sector m c.args.dev) (all_calls c.args.machine.now));
       sent = sends_nothing c.args.machine.now (g.S.Sink.state c.args.out.now) (texts (records_from m (first_sector m c.args.dev) 0)) (tt {0}) (none_from m (first_sector m c.args.dev));
-      taken = takes_nothing {A = Unit {0}} c.args.machine.now (g.T.Tally.has_taken c.args.tally.now) (texts (records_from m (first_sector m c.args.dev) 0)) (tt {0}) (none_from m (first_sector m c.args.dev));
+      taken = takes_nothing {A = Unit {0}} c.args.machine.now (prompt c.args.sum.now.taken) (texts (records_from m (first_sector m c.args.dev) 0)) (tt {0}) (none_from m (first_sector m c.args.dev));
     }
 
 pub send_in_turn-requires-clause-there : goal.send_in_turn-requires-clause-there
@@ -49,7 +50,7 @@ loop-number-preserved g c =
           (omega (arith, c.loop-number-test.true, c.loop-number.invariant.end)) c.loop-number.invariant.calls c.send_in_turn.ensures.calls;
       sent = sends_next c.args.machine.now c.loop-number.machine c.send_in_turn.new.machine (g.S.Sink.state c.args.out.now) (g.S.Sink.state c.loop-number.out) (g.S.Sink.state c.send_in_turn.new.out) before after (λ k. spelled_record (record_of k (sector c.args.dev c.loop-number.number))) (tt {0}) (Ok (tt {0})) more
           c.loop-number.invariant.sent one;
-      taken = takes_next {B = Unit {0}} c.args.machine.now c.loop-number.machine c.send_in_turn.new.machine (g.S.Sink.state c.args.out.now) (g.S.Sink.state c.loop-number.out) (g.T.Tally.has_taken c.args.tally.now) (g.T.Tally.has_taken c.loop-number.tally) (g.T.Tally.has_taken c.send_in_turn.new.tally) before after (λ k. spelled_record (record_of k (sector c.args.dev c.loop-number.number))) (tt {0}) (Ok (tt {0})) more
+      taken = takes_next {B = Unit {0}} c.args.machine.now c.loop-number.machine c.send_in_turn.new.machine (g.S.Sink.state c.args.out.now) (g.S.Sink.state c.loop-number.out) (prompt c.args.sum.now.taken) (prompt c.loop-number.sum.taken) (prompt c.send_in_turn.new.sum.taken) before after (λ k. spelled_record (record_of k (sector c.args.dev c.loop-number.number))) (tt {0}) (Ok (tt {0})) more
           c.loop-number.invariant.sent c.loop-number.invariant.taken (rw c.in_ok-next_bad.was at c.send_in_turn.ensures.taken);
     }
 

@@ -2,6 +2,7 @@ use Rattle.std.proofs.Common.{◌≡◌, ◌≤◌, Ok}
 use Rattle.machine.specs.NextBad.{IsNextBad}
 use Rattle.machine.specs.Seen.{state_of}
 use Rattle.machine.specs.Sound.{IsSound}
+use Rattle.wire.specs.Sinks.{prompt}
 use Rattle.wire.specs.Stream.{texts}
 use Rattle.sender.specs.Items.{first_sector, records_from, size_on}
 use Rattle.sender.specs.Reads.{ReadsItems}
@@ -16,5 +17,5 @@ invariant-loop-number g l = record {
   next : IsNextBad (state_of l.fn.machine) l.dev l.number l.next_bad;
   calls : ReadsItems g.D.Disk.called l.fn.machine (first_sector (state_of l.fn.machine) l.dev) l.number l.machine;
   sent : Sends l.fn.machine (g.S.Sink.state l.fn.out) (texts (records_from (state_of l.fn.machine) (first_sector (state_of l.fn.machine) l.dev) l.number)) (Ok (tt {0})) l.machine (g.S.Sink.state l.out);
-  taken : TakesOn l.fn.machine (g.T.Tally.has_taken l.fn.tally) (texts (records_from (state_of l.fn.machine) (first_sector (state_of l.fn.machine) l.dev) l.number)) (Ok (tt {0})) (g.T.Tally.has_taken l.tally);
+  taken : TakesOn l.fn.machine (prompt l.fn.sum.taken) (texts (records_from (state_of l.fn.machine) (first_sector (state_of l.fn.machine) l.dev) l.number)) (Ok (tt {0})) (prompt l.sum.taken);
 }

@@ -4,6 +4,7 @@ use Rattle.machine.specs.Shapes.{made_as}
 use Rattle.machine.specs.Layout.{pages_of}
 use Rattle.machine.specs.Seen.{all_calls, state_of}
 use Rattle.machine.specs.State.{DeviceState}
+use Rattle.wire.specs.Sinks.{prompt}
 use Rattle.wire.specs.Stream.{texts}
 use Rattle.sender.specs.Items.{disk_text, records_from, sectors_before}
 use Rattle.sender.proofs.Disks.{disks_long}
@@ -20,7 +21,7 @@ loop-dev-init g c =
       end = ap length c.shapes.ensures.shapes ∙ length-map m.devices (λ (d : DeviceState). made_as d.kind);
       calls = sym (no_items g.D.Disk.called m (pages_of m) (all_calls c.args.machine.now));
       sent = sends_nothing c.args.machine.now (g.S.Sink.state c.args.out.now) (texts (records_from m (pages_of m) 0)) (tt {0}) (none_from m (pages_of m));
-      taken = takes_nothing {A = Unit {0}} c.args.machine.now (g.T.Tally.has_taken c.args.tally.now) (texts (records_from m (pages_of m) 0)) (tt {0}) (none_from m (pages_of m));
+      taken = takes_nothing {A = Unit {0}} c.args.machine.now (prompt c.args.sum.now.taken) (texts (records_from m (pages_of m) 0)) (tt {0}) (none_from m (pages_of m));
     }
 
 pub loop-dev-preserved : goal.loop-dev-preserved
@@ -39,7 +40,7 @@ loop-dev-preserved g c =
           (omega (arith, c.loop-dev-test.true, c.loop-dev.invariant.end, long, counts)) (rw c.in_ok-write_disk.was at c.write_disk.ensures.calls);
       sent = sends_next c.args.machine.now c.loop-dev.machine c.write_disk.new.machine (g.S.Sink.state c.args.out.now) (g.S.Sink.state c.loop-dev.out) (g.S.Sink.state c.write_disk.new.out) before after (λ k. disk_text k dev) (tt {0}) (Ok (tt {0})) more
           c.loop-dev.invariant.sent (rw c.in_ok-write_disk.was at c.write_disk.ensures.sent);
-      taken = takes_next {B = Unit {0}} c.args.machine.now c.loop-dev.machine c.write_disk.new.machine (g.S.Sink.state c.args.out.now) (g.S.Sink.state c.loop-dev.out) (g.T.Tally.has_taken c.args.tally.now) (g.T.Tally.has_taken c.loop-dev.tally) (g.T.Tally.has_taken c.write_disk.new.tally) before after (λ k. disk_text k dev) (tt {0}) (Ok (tt {0})) more
+      taken = takes_next {B = Unit {0}} c.args.machine.now c.loop-dev.machine c.write_disk.new.machine (g.S.Sink.state c.args.out.now) (g.S.Sink.state c.loop-dev.out) (prompt c.args.sum.now.taken) (prompt c.loop-dev.sum.taken) (prompt c.write_disk.new.sum.taken) before after (λ k. disk_text k dev) (tt {0}) (Ok (tt {0})) more
           c.loop-dev.invariant.sent c.loop-dev.invariant.taken (rw c.in_ok-write_disk.was at c.write_disk.ensures.taken);
     }
 

@@ -2,6 +2,7 @@ use Rattle.std.proofs.Common.{◌≡◌, length, Ok}
 use Rattle.machine.specs.Layout.{pages_of}
 use Rattle.machine.specs.Seen.{state_of}
 use Rattle.machine.specs.Sound.{IsSound}
+use Rattle.wire.specs.Sinks.{prompt}
 use Rattle.wire.specs.Stream.{texts}
 use Rattle.sender.specs.Items.{records_from, sectors_before}
 use Rattle.sender.specs.Reads.{ReadsItems}
@@ -14,5 +15,5 @@ invariant-loop-dev g l = record {
   end : l.dev-end ≡ length (state_of l.fn.machine).devices;
   calls : ReadsItems g.D.Disk.called l.fn.machine (pages_of (state_of l.fn.machine)) (sectors_before (state_of l.fn.machine) l.dev) l.machine;
   sent : Sends l.fn.machine (g.S.Sink.state l.fn.out) (texts (records_from (state_of l.fn.machine) (pages_of (state_of l.fn.machine)) (sectors_before (state_of l.fn.machine) l.dev))) (Ok (tt {0})) l.machine (g.S.Sink.state l.out);
-  taken : TakesOn l.fn.machine (g.T.Tally.has_taken l.fn.tally) (texts (records_from (state_of l.fn.machine) (pages_of (state_of l.fn.machine)) (sectors_before (state_of l.fn.machine) l.dev))) (Ok (tt {0})) (g.T.Tally.has_taken l.tally);
+  taken : TakesOn l.fn.machine (prompt l.fn.sum.taken) (texts (records_from (state_of l.fn.machine) (pages_of (state_of l.fn.machine)) (sectors_before (state_of l.fn.machine) l.dev))) (Ok (tt {0})) (prompt l.sum.taken);
 }

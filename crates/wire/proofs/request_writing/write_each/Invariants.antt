@@ -9,5 +9,5 @@ abbrev pub invariant-loop-i : goal.invariant-loop-i
 invariant-loop-i g l = record {
   count : (g.S.Sink.state l.out).failures ≡ (g.S.Sink.state l.fn.out).failures;
   holds : IsTrue (g.S.Sink.state l.fn.out).honest → IsTrue (g.S.Sink.state l.out).honest × ((g.S.Sink.state l.out).held ≡ (g.S.Sink.state l.fn.out).held ++ flat_map request_text (take l.i l.requests));
-  taken : Takes (g.T.Tally.has_taken l.fn.tally) (flat_map request_text (take l.i l.requests)) (g.T.Tally.has_taken l.tally);
+  takes : Takes (g.S.Sink.sum l.fn.out) (flat_map request_text (take l.i l.requests)) (g.S.Sink.sum l.out);
 }

@@ -8,5 +8,5 @@ abbrev pub invariant-loop-i : goal.invariant-loop-i
 invariant-loop-i g l = record {
   count : (g.S.Sink.state l.out).failures ≡ (g.S.Sink.state l.fn.out).failures;
   holds : IsTrue (g.S.Sink.state l.fn.out).honest → IsTrue (g.S.Sink.state l.out).honest × ((g.S.Sink.state l.out).held ≡ (g.S.Sink.state l.fn.out).held ++ segs_text (take l.i l.segs));
-  taken : Takes (g.T.Tally.has_taken l.fn.tally) (segs_text (take l.i l.segs)) (g.T.Tally.has_taken l.tally);
+  takes : Takes (g.S.Sink.sum l.fn.out) (segs_text (take l.i l.segs)) (g.S.Sink.sum l.out);
 }

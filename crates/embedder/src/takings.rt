@@ -1,0 +1,110 @@
+//! A stream whose bytes are taken while it grows, beside one that is written at once.
+
+use crate::own_sink::OwnSink;
+use anyhow::{Result, bail, ensure};
+use std::alloc::Global;
+use vmig::{Live, LiveWaiting, Machine, MemDisk, Shape, Waiting, encode_round, receive};
+
+/// The most that is taken at once: two pages and a bit.
+const TAKE_MAX: usize = 9000;
+
+/// Moves of machines by calls and takings that a seed draws.
+pub fn agree(alloc: Global) -> Result<()> {
+    for seed in 0..8 {
+        move_agrees(alloc, seed)?;
+    }
+    Ok(())
+}
+
+/// A new machine of seven pages, a console and an entropy device.
+fn machine_of(alloc: Global) -> Result<Machine<MemDisk>> {
+    let shapes = [Shape::Console, Shape::Entropy];
+    Ok(Machine::new(alloc, 7, &shapes, Vec::new(alloc))?)
+}
+
+/// The next number that a seed draws: a linear congruential generator, of whose numbers the high half is used.
+fn next_draw(draw: u32) -> u32 {
+    draw.wrapping_mul(1_664_525).wrapping_add(1_013_904_223)
+}
+
+/// One machine that is moved twice: to a sink, and to memory from which bytes are taken.
+#[derive(Drop)]
+struct Twins {
+    eager: Live<MemDisk, OwnSink>,
+    lagging: LiveWaiting<MemDisk>,
+    taken: Vec<u8>,
+}
+
+impl Twins {
+    /// Nothing is sent yet. The memory was written and taken from before.
+    fn new(alloc: Global) -> Result<Twins> {
+        let Ok(eager) = Live::new(alloc, machine_of(alloc)?, OwnSink::new(alloc)) else {
+            bail!("out of memory");
+        };
+        let mut writer = Waiting::new(alloc);
+        encode_round(1, &mut writer)?;
+        let mut round = [0; 5];
+        ensure!(writer.take(&mut round) == 5, "what was written before");
+        let Ok(lagging) = LiveWaiting::new(alloc, machine_of(alloc)?, writer) else {
+            bail!("out of memory");
+        };
+        Ok(Twins {
+            eager,
+            lagging,
+            taken: Vec::new(alloc),
+        })
+    }
+
+    /// The same call of both.
+    fn call(&mut self, draw: u32) -> Result<()> {
+        let addr = (draw >> 17) as u64;
+        let bytes = [1, (draw % 256) as u8];
+        let is_same = match (draw >> 16) % 8 {
+            0 => self.eager.end_round() == self.lagging.end_round(),
+            1 | 2 => self.eager.write_ram(addr, &bytes) == self.lagging.write_ram(addr, &bytes),
+            _ => self.eager.copy() == self.lagging.copy(),
+        };
+        ensure!(is_same, "a call of both");
+        Ok(())
+    }
+
+    /// Takes the first of the bytes that wait.
+    fn take(&mut self, most: usize) -> Result<()> {
+        let mut buf = [0; TAKE_MAX];
+        let size = most.min(TAKE_MAX);
+        let got = self.lagging.take(&mut buf[..size]);
+        self.taken.extend_from_slice(&buf[..got])?;
+        Ok(())
+    }
+}
+
+/// A move of which the seed draws the calls, and how many bytes are taken after each.
+fn move_agrees(alloc: Global, seed: u32) -> Result<()> {
+    let mut twins = Twins::new(alloc)?;
+    let mut draw = next_draw(seed);
+    ensure!(twins.eager.begin() == twins.lagging.begin(), "the begin");
+    for _ in 0..60 {
+        twins.call(draw)?;
+        draw = next_draw(draw);
+        twins.take(((draw >> 16) % 16384) as usize)?;
+        draw = next_draw(draw);
+    }
+    ensure!(twins.eager.stop() == twins.lagging.stop(), "the stop");
+    for _ in 0..60 {
+        twins.take(TAKE_MAX)?;
+    }
+    let Twins {
+        eager,
+        lagging: _,
+        taken,
+    } = twins;
+    let (_machine, sink) = eager.into_parts();
+    ensure!(
+        taken.as_slice() == sink.bytes.as_slice(),
+        "the bytes that were taken"
+    );
+    let none: Vec<MemDisk> = Vec::new(alloc);
+    let (machine, _rounds) = receive(alloc, taken.as_slice(), none)?;
+    ensure!(machine.ram().len() == 28_672, "what arrived");
+    Ok(())
+}

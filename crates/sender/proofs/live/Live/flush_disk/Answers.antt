@@ -1,7 +1,0 @@
-use Rattle.sender.proofs.Flushed.{live_flushed}
-use Rattle.sender.proofs.live.Live.flush_disk.Goals as goal
-
-pub invariant_of-self : goal.invariant_of-self
-invariant_of-self g c =
-    let i = c.self.inside in
-    live_flushed i.source c.flush_disk.new.self i.stage i.left i.changed.set i.changed.firsts.items i.at c.args.dev c.flush_disk.result c.self.invariant c.flush_disk.ensures.flushed
