@@ -8,9 +8,9 @@ use Rattle.wire.specs.Stream.{texts, rounds}
 use Rattle.guestmem.specs.Item as items
 use Rattle.machine.specs.Layout.{IsItemIn}
 use Rattle.wire.proofs.Bodies.{body_is_short}
-use Rattle.wire.proofs.HeaderLemmas.{header_of-spelled}
+use Rattle.wire.proofs.HeaderParts.{begins_once}
 use Rattle.wire.proofs.Spelling.{head_same, tail_same, split_same, one_record, number_same}
-use Rattle.wire.proofs.Unique.{cons_same, alike}
+use Rattle.wire.proofs.Unique.{cons_same}
 use Rattle.receiver.specs.Good.{AreGood, Follows, IsNextDevice, devices_in}
 use Rattle.receiver.specs.Faults.{IsEarly, Opens, IsBadPage, IsLongZeros, IsBadSector, IsBadRound, IsBadHead, IsBadBody, IsBadDigest, IsTrailing, IsFault, IsFront, IsRecordFault}
 use Rattle.receiver.specs.declared.ram_terms.RamTerms.{RamTerms}
@@ -218,7 +218,7 @@ led_fault opening before others tail rest good goods none quiets (inr l) k place
 -- Two headers of the same bytes, of machines whose RAM begins at one address.
 pub one_opening : (bytes : List ℕ) (o p : Opened) (x y : List ℕ) → o.ram ≡ p.ram → Begins bytes o x → Begins bytes p y → (o ≡ p) × (x ≡ y)
 one_opening bytes o p x y based a b =
-    let t = alike (said_by o) (said_by p) x y (sym (header_of-spelled bytes (said_by o) x a) ∙ header_of-spelled bytes (said_by p) y b) in
+    let t = begins_once {o = said_by o} {p = said_by p} a b in
     let same : opened o.ram (said_by o) ≡ opened p.ram (said_by p) = ap (λ (r : RamTerms). opened r (said_by o)) based ∙ ap (λ (h : Opening). opened p.ram h) t.0 in
     (same, t.1)
 

@@ -1,378 +1,54 @@
--- Headers as far as they came.
-use Rattle.std.proofs.Common.{◌≡◌, Bool, true, false, cond, eqb, ℕ, zero, suc, ◌+◌, ◌<◌, ◌≤◌, ◌⊎◌, inl, inr, List, [], ◌∷◌, ◌++◌, length, take, drop, get_or, Option, Some, None, refl, sym, ap, subst, ◌∙◌, append_assoc, append-nil, arith}
-use Rattle.std.specs.Prelude.{All}
-use Rattle.std.specs.List.{AllByRecursion}
-use Rattle.std.proofs.lemmas.List.{take-append-drop, length-append, length-take, drop_at}
-use Rattle.std.proofs.lemmas.List.Elements.{All-push, recursion_from_All}
-use Rattle.guestmem.specs.Number.{IsBytes, number_at}
-use Rattle.wire.specs.Header.{front, spelled_shape, spelled_shapes, Begins, Opening, IsVersion, shape_length}
-use Rattle.wire.specs.Numbers.{spelled, Fit}
-use Rattle.machine.specs.Sound.{IsSoundShape}
-use Rattle.machine.specs.declared.shape.Shape.{Shape}
-use Rattle.wire.specs.ShapeReading.{shape_of}
-use Rattle.wire.proofs.Choices.{same_found}
-use Rattle.wire.proofs.Digits.{spelled-numbers, numbers-spelled, length-spelled}
-use Rattle.wire.proofs.HeaderLemmas.{length_shape, no_shape, shape_of-spelled}
-use Rattle.wire.proofs.Spelling.{head_same, split_same}
-use Rattle.wire.proofs.Unique.{cons_same}
+-- Headers as far as they came, and their faults for what is said of RAM and disks.
+use Rattle.std.proofs.Common.{◌≡◌, ℕ, List, sym, ap, subst, ◌∙◌}
 use Rattle.machine.specs.Shapes.{disk_sizes}
-use Rattle.receiver.specs.Faults.{IsBeyond, IsUnknown, MayCount, IsBadMagic, IsBadVersion, Says, IsBadCount, IsNoShape, IsBadShape, IsHeaderFault, TellsHead, WaitsHead}
-use Rattle.receiver.specs.Heading.{ShapeWaits, BadFirst, FewShapes, ShapesWait, ShapesBad, ShapesRead, OnBad}
+use Rattle.wire.specs.Header.{Begins, Opening}
+use Rattle.wire.specs.HeaderFaults.{IsHeaderPart, OnFault, ShowsFault}
+use Rattle.wire.specs.declared.header_error.HeaderError.{HeaderError}
+use Rattle.wire.specs.declared.header_error.HeaderError.TheVariants as heads
+use Rattle.wire.proofs.HeaderParts.{begun_without_fault, header_same, says_of}
+use Rattle.receiver.specs.Faults.{IsHeaderFault, TellsHead, WaitsHead, recv_error_of}
 use Rattle.receiver.specs.Opened.{HasPages}
 use Rattle.receiver.specs.declared.ram_terms.RamTerms.{RamTerms}
 use Rattle.receiver.specs.declared.recv_error.RecvError.{RecvError}
 use Rattle.receiver.specs.declared.recv_error.RecvError.TheVariants as errors
 
--- One list of shapes is the beginning of the other.
-
-pub record LongerShapes (ss ts : List Shape) (x y : List ℕ) : Type 0 where
-  pub more : List Shape
-  pub all : ts ≡ ss ++ more
-  pub left : x ≡ spelled_shapes more ++ y
-
-longer_shapes : (s t : Shape) (ss ts : List Shape) (x y : List ℕ) → s ≡ t → LongerShapes ss ts x y → LongerShapes (s ∷ ss) (t ∷ ts) x y
-longer_shapes s t ss ts x y e l = record { more = l.more; all = cons_same (sym e) l.all; left = l.left }
-
-first_two : (s t : Shape) (x y : List ℕ) → (◌≡◌ {A = Option (Shape × List ℕ)} (Some (s, x)) (Some (t, y))) → (s ≡ t) × (x ≡ y)
-first_two s t x y e =
-    let same = same_found (s, x) (t, y) e in
-    (ap (λ (p : Shape × List ℕ). p.0) same, ap (λ (p : Shape × List ℕ). p.1) same)
-
-pub one_shape : (s t : Shape) (x y : List ℕ) → IsSoundShape s → IsSoundShape t → spelled_shape s ++ x ≡ spelled_shape t ++ y → (s ≡ t) × (x ≡ y)
-one_shape s t x y h k e = first_two s t x y (sym (shape_of-spelled s x h) ∙ ap shape_of e ∙ shape_of-spelled t y k)
-
-shapes_by : (s t : Shape) (ss ts : List Shape) (x y : List ℕ) → s ≡ t → LongerShapes ss ts x y ⊎ LongerShapes ts ss y x → LongerShapes (s ∷ ss) (t ∷ ts) x y ⊎ LongerShapes (t ∷ ts) (s ∷ ss) y x
-shapes_by s t ss ts x y e (inl l) = inl (longer_shapes s t ss ts x y e l)
-shapes_by s t ss ts x y e (inr l) = inr (longer_shapes t s ts ss y x (sym e) l)
-
-shapes_led_by : (ss ts : List Shape) (x y : List ℕ) → AllByRecursion IsSoundShape ss → AllByRecursion IsSoundShape ts → spelled_shapes ss ++ x ≡ spelled_shapes ts ++ y → LongerShapes ss ts x y ⊎ LongerShapes ts ss y x
-shapes_led_by [] ts x y h k e = inl (record { more = ts; all = refl; left = e })
-shapes_led_by (s ∷ ss) [] x y h k e = inr (record { more = s ∷ ss; all = refl; left = sym e })
-shapes_led_by (s ∷ ss) (t ∷ ts) x y h k e =
-    let o = one_shape s t (spelled_shapes ss ++ x) (spelled_shapes ts ++ y) h.0 k.0 (sym (append_assoc (spelled_shape s) (spelled_shapes ss) x) ∙ e ∙ append_assoc (spelled_shape t) (spelled_shapes ts) y) in
-    shapes_by s t ss ts x y o.0 (shapes_led_by ss ts x y h.1 k.1 o.1)
-
-pub shapes_led : (ss ts : List Shape) (x y : List ℕ) → All IsSoundShape ss → All IsSoundShape ts → spelled_shapes ss ++ x ≡ spelled_shapes ts ++ y → LongerShapes ss ts x y ⊎ LongerShapes ts ss y x
-shapes_led ss ts x y h k e = shapes_led_by ss ts x y (recursion_from_All IsSoundShape ss h) (recursion_from_All IsSoundShape ts k) e
-
--- What is behind some sound shapes is sound too.
-sound_after : (ss more : List Shape) → AllByRecursion IsSoundShape (ss ++ more) → AllByRecursion IsSoundShape more
-sound_after [] more h = h
-sound_after (s ∷ ss) more h = sound_after ss more h.1
-
-pub sound_behind : (ss more ts : List Shape) → ts ≡ ss ++ more → All IsSoundShape ts → AllByRecursion IsSoundShape more
-sound_behind ss more ts e h = sound_after ss more (recursion_from_All IsSoundShape (ss ++ more) (rw e at h))
-
--- No wrong shape is spelled.
-
-unknown_spelled : (s : Shape) (bad x y : List ℕ) → IsSoundShape s → IsUnknown bad → bad ++ x ≡ spelled_shape s ++ y → ⊥
-unknown_spelled s bad x y good n e =
-    let l = length_shape s good in
-    let first : n.number ≡ l.number = head_same (ap (λ (z : List ℕ). z ++ x) (sym n.is) ∙ e ∙ ap (λ (z : List ℕ). z ++ y) l.is) in
-    let no : (◌≡◌ {A = Option ℕ} None (Some (suc (length l.others)))) = sym n.never ∙ ap shape_length first ∙ l.long in cc
-
-beyond_spelled : (s : Shape) (bad x y : List ℕ) → IsSoundShape s → IsBeyond bad → bad ++ x ≡ spelled_shape s ++ y → ⊥
-beyond_spelled s bad x y good n e =
-    let l = length_shape s good in
-    let first : n.number ≡ l.number = head_same (ap (λ (z : List ℕ). z ++ x) (sym n.is) ∙ e ∙ ap (λ (z : List ℕ). z ++ y) l.is) in
-    let long : (◌≡◌ {A = Option ℕ} (Some (length bad)) (Some (suc (length l.others)))) = sym n.long ∙ ap shape_length first ∙ l.long in
-    let size : length bad ≡ length (spelled_shape s) = same_found (length bad) (suc (length l.others)) long ∙ sym (ap length l.is) in
-    n.never s good (split_same bad (spelled_shape s) x y size e).0
-
-pub no_bad_spelled : (s : Shape) (bad x y : List ℕ) → IsSoundShape s → IsNoShape bad → ¬ (bad ++ x ≡ spelled_shape s ++ y)
-no_bad_spelled s bad x y good (inl n) e = unknown_spelled s bad x y good n e
-no_bad_spelled s bad x y good (inr n) e = beyond_spelled s bad x y good n e
-
--- Two wrong shapes at the front are of one length.
-lengths_known : (m n a b : ℕ) → m ≡ n → shape_length m ≡ Some a → shape_length n ≡ Some b → a ≡ b
-lengths_known m n a b same e f = same_found a b (sym e ∙ ap shape_length same ∙ f)
-
-none_known : (m n a : ℕ) → m ≡ n → shape_length m ≡ None → shape_length n ≡ Some a → ⊥
-none_known m n a same e f = let no : (◌≡◌ {A = Option ℕ} None (Some a)) = sym e ∙ ap shape_length same ∙ f in cc
-
-unknown_beyond : (bad other x y : List ℕ) → IsUnknown bad → IsBeyond other → bad ++ x ≡ other ++ y → ⊥
-unknown_beyond bad other x y n m e = none_known n.number m.number (length other) (head_same (ap (λ (z : List ℕ). z ++ x) (sym n.is) ∙ e ∙ ap (λ (z : List ℕ). z ++ y) m.is)) n.never m.long
-
-pub bad_lengths : (bad other x y : List ℕ) → IsNoShape bad → IsNoShape other → bad ++ x ≡ other ++ y → length bad ≡ length other
-bad_lengths bad other x y (inl n) (inl m) e = ap length n.is ∙ sym (ap length m.is)
-bad_lengths bad other x y (inl n) (inr m) e = absurd (unknown_beyond bad other x y n m e)
-bad_lengths bad other x y (inr n) (inl m) e = absurd (unknown_beyond other bad y x m n (sym e))
-bad_lengths bad other x y (inr n) (inr m) e = lengths_known n.number m.number (length bad) (length other) (head_same (ap (λ (z : List ℕ). z ++ x) (sym n.is) ∙ e ∙ ap (λ (z : List ℕ). z ++ y) m.is)) n.long m.long
-
--- One shape.
-
-bad_first_byte : (bad rest bytes others : List ℕ) (number : ℕ) → bytes ≡ number ∷ others → bytes ≡ bad ++ rest → (n : IsUnknown bad) → n.number ≡ number
-bad_first_byte bad rest bytes others number is e n = sym (head_same (sym is ∙ e ∙ ap (λ (z : List ℕ). z ++ rest) n.is))
-
-no_bad_yet : (bad rest bytes others : List ℕ) (number len : ℕ) → bytes ≡ number ∷ others → shape_length number ≡ Some len → length bytes < len → IsNoShape bad → ¬ (bytes ≡ bad ++ rest)
-no_bad_yet bad rest bytes others number len is long short (inl n) e = none_known n.number number len (bad_first_byte bad rest bytes others number is e n) n.never long
-no_bad_yet bad rest bytes others number len is long short (inr n) e =
-    let first : n.number ≡ number = sym (head_same (sym is ∙ e ∙ ap (λ (z : List ℕ). z ++ rest) n.is)) in
-    omega (arith, short, ap length e, length-append bad rest, lengths_known n.number number (length bad) len first n.long long)
-
-pub shape_cut : (bytes others : List ℕ) (number len : ℕ) → shape_of bytes ≡ None → bytes ≡ number ∷ others → shape_length number ≡ Some len → length bytes < len → ShapeWaits bytes
-shape_cut bytes others number len none is long short = record {
-  no_shape = no_shape bytes none;
-  no_bad = λ bad rest n. no_bad_yet bad rest bytes others number len is long short n;
-}
-
-bad_none : (bad rest bytes : List ℕ) → IsNoShape bad → length bytes ≡ 0 → ¬ (bytes ≡ bad ++ rest)
-bad_none bad rest bytes (inl n) none e = omega (arith, none, ap length e, length-append bad rest, ap length n.is)
-bad_none bad rest bytes (inr n) none e = omega (arith, none, ap length e, length-append bad rest, ap length n.is)
-
-pub no_shape_yet : (bytes : List ℕ) → shape_of bytes ≡ None → length bytes ≡ 0 → ShapeWaits bytes
-no_shape_yet bytes is none = record { no_shape = no_shape bytes is; no_bad = λ bad rest n e. bad_none bad rest bytes n none e }
-
-pub unknown_shape : (number : ℕ) (bytes rest : List ℕ) → bytes ≡ number ∷ rest → shape_length number ≡ None → BadFirst bytes
-unknown_shape number bytes rest e never = record { bad = number ∷ []; more = rest; whole = e; never = inl (record { number = number; is = refl; never = never }) }
-
-first_kept : (bytes others : List ℕ) (number len : ℕ) → bytes ≡ number ∷ others → 0 < len → (tail : List ℕ) × (take len bytes ≡ number ∷ tail)
-first_kept bytes others number zero is some = absurd (omega (arith, some))
-first_kept bytes others number (suc len) is some = (take len others, ap (take (suc len)) is)
-
--- Every shape has some bytes.
-has_some : (b : Bool) (n : ℕ) (other : Option ℕ) → 0 < n → ((len : ℕ) → other ≡ Some len → 0 < len) → (len : ℕ) → cond b (Some n) other ≡ Some len → 0 < len
-has_some true n other some others len e = let same : n ≡ len = same_found n len e in omega (arith, some, same)
-has_some false n other some others len e = others len e
-
-pub some_length : (number len : ℕ) → shape_length number ≡ Some len → 0 < len
-some_length number len e =
-    has_some (eqb number 1) 7 _ (omega arith) (has_some (eqb number 2) 30 _ (omega arith)
-    (has_some (eqb number 3) 1 _ (omega arith) (has_some (eqb number 4) 1 None (omega arith) (λ n none. absurd cc)))) len e
-
--- No shape has more than 30.
-few_by : (b : Bool) (n : ℕ) (other : Option ℕ) → n ≤ 30 → ((len : ℕ) → other ≡ Some len → len ≤ 30) → (len : ℕ) → cond b (Some n) other ≡ Some len → len ≤ 30
-few_by true n other few others len e = let same : n ≡ len = same_found n len e in omega (arith, few, same)
-few_by false n other few others len e = others len e
-
-pub few_length : (number len : ℕ) → shape_length number ≡ Some len → len ≤ 30
-few_length number len e =
-    few_by (eqb number 1) 7 _ (omega arith) (few_by (eqb number 2) 30 _ (omega arith)
-    (few_by (eqb number 3) 1 _ (omega arith) (few_by (eqb number 4) 1 None (omega arith) (λ n none. absurd cc)))) len e
-
-pub few_spelled : (bytes rest : List ℕ) (s : Shape) → IsSoundShape s → bytes ≡ spelled_shape s ++ rest → length bytes ≤ length rest + 30
-few_spelled bytes rest s good e =
-    let l = length_shape s good in
-    omega (arith, few_length l.number (suc (length l.others)) l.long, ap length e, length-append (spelled_shape s) rest, ap length l.is)
-
-pub beyond_shape : (number len : ℕ) (bytes others : List ℕ) → shape_of bytes ≡ None → bytes ≡ number ∷ others → shape_length number ≡ Some len → 0 < len → len ≤ length bytes → BadFirst bytes
-beyond_shape number len bytes others none is long some le =
-    let kept = first_kept bytes others number len is some in
-    let size : length (take len bytes) ≡ len = omega (arith, le, length-take len bytes) in
-    let whole : bytes ≡ take len bytes ++ drop len bytes = sym (take-append-drop len bytes) in
-    record {
-      bad = take len bytes;
-      more = drop len bytes;
-      whole = whole;
-      never = inr (record {
-        number = number;
-        others = kept.0;
-        is = kept.1;
-        long = rw size long;
-        never = λ s good e. no_shape bytes none s (drop len bytes) good (whole ∙ ap (λ (z : List ℕ). z ++ drop len bytes) e);
-      });
-    }
-
--- So many shapes.
-
-none_sound : All IsSoundShape []
-none_sound k d below = absurd (omega (arith, below))
-
-pub no_shapes : (bytes : List ℕ) (ss : List Shape) → ss ≡ [] → ShapesRead 0 bytes ss bytes
-no_shapes bytes ss e = rw e (record { count_is = refl; sound = none_sound; whole = refl })
-
-pub spelled-snoc : (ss : List Shape) (s : Shape) → spelled_shapes (ss ++ s ∷ []) ≡ spelled_shapes ss ++ spelled_shape s
-spelled-snoc [] s = append-nil (spelled_shape s)
-spelled-snoc (t ∷ ss) s = ap (λ (x : List ℕ). spelled_shape t ++ x) (spelled-snoc ss s) ∙ sym (append_assoc (spelled_shape t) (spelled_shapes ss) (spelled_shape s))
-
-pub more_shapes : (n : ℕ) (bytes rest after : List ℕ) (ss : List Shape) (s : Shape) → ShapesRead n bytes ss rest → IsSoundShape s × (rest ≡ spelled_shape s ++ after) → ShapesRead (n + 1) bytes (ss ++ s ∷ []) after
-more_shapes n bytes rest after ss s h e = record {
-  count_is = omega (arith, h.count_is, length-append ss (s ∷ []));
-  sound = All-push IsSoundShape ss s h.sound e.0;
-  whole = h.whole ∙ ap (λ (x : List ℕ). spelled_shapes ss ++ x) e.1 ∙ sym (append_assoc (spelled_shapes ss) (spelled_shape s) after) ∙ ap (λ (x : List ℕ). x ++ after) (sym (spelled-snoc ss s));
-}
-
-pub few_shapes : (n count : ℕ) (bytes rest : List ℕ) (ss : List Shape) → ShapesRead n bytes ss rest → n < count → FewShapes count bytes
-few_shapes n count bytes rest ss h lt = record { shapes = ss; rest = rest; fewer = omega (arith, h.count_is, lt); sound = h.sound; whole = h.whole }
-
-pub shapes_wait : (n count : ℕ) (bytes rest : List ℕ) (ss : List Shape) → ShapesRead n bytes ss rest → n < count → ShapeWaits rest → ShapesWait count bytes
-unfolding few_shapes
-shapes_wait n count bytes rest ss h lt w = record { few = few_shapes n count bytes rest ss h lt; waits = w }
-
-pub shapes_bad : (n count : ℕ) (bytes rest : List ℕ) (ss : List Shape) → ShapesRead n bytes ss rest → n < count → BadFirst rest → ShapesBad count bytes
-unfolding few_shapes
-shapes_bad n count bytes rest ss h lt b = record { few = few_shapes n count bytes rest ss h lt; bad = b }
-
--- The first 16 bytes.
-
-abbrev head_widths : List ℕ
-head_widths = 4 ∷ 4 ∷ 4 ∷ 4 ∷ []
-
-abbrev head_numbers : ℕ → ℕ → ℕ → List ℕ
-head_numbers version pages count = 0x47494d56 ∷ version ∷ pages ∷ count ∷ []
-
-head_spelled : (version pages count : ℕ) → front version pages count ≡ spelled head_widths (head_numbers version pages count)
-unfolding front
-head_spelled version pages count = refl
-
-length-front : (version pages count : ℕ) → length (front version pages count) ≡ 16
-unfolding front
-length-front version pages count = refl
-
-head_says : (version pages count : ℕ) (rest : List ℕ) → IsVersion version → pages ≤ 16384 → count ≤ 16 → Says (spelled head_widths (head_numbers version pages count) ++ rest) pages count
-head_says version pages count rest known few_pages few_devices =
-    let fits : Fit head_widths (head_numbers version pages count) = (omega arith, (omega (arith, known.most), (omega (arith, few_pages), (omega (arith, few_devices), tt)))) in
-    let read = numbers-spelled head_widths (head_numbers version pages count) [] rest fits in
-    let nth = λ (k : ℕ). ap (λ (ns : List ℕ). get_or ns k 0) read in
-    record {
-      long = omega (arith, length-append (spelled head_widths (head_numbers version pages count)) rest, length-spelled head_widths (head_numbers version pages count) fits);
-      magic = nth 0;
-      known = subst IsVersion (sym (nth 1)) known;
-      pages_are = nth 2;
-      count_is = nth 3;
-    }
-
-grouped : {bytes : List ℕ} {opening : Opening} {rest : List ℕ} → Begins bytes opening rest → bytes ≡ front opening.version opening.pages (length opening.shapes) ++ (spelled_shapes opening.shapes ++ rest)
-grouped {opening = opening} {rest = rest} b = b.whole ∙ append_assoc (front opening.version opening.pages (length opening.shapes)) (spelled_shapes opening.shapes) rest
-
-pub says_of : {bytes : List ℕ} {opening : Opening} {rest : List ℕ} → Begins bytes opening rest → Says bytes opening.pages (length opening.shapes)
-says_of {opening = opening} {rest = rest} b =
-    subst (λ (x : List ℕ). Says x opening.pages (length opening.shapes)) (sym (grouped b ∙ ap (λ (x : List ℕ). x ++ (spelled_shapes opening.shapes ++ rest)) (head_spelled opening.version opening.pages (length opening.shapes))))
-    (head_says opening.version opening.pages (length opening.shapes) (spelled_shapes opening.shapes ++ rest) b.good.known b.good.few_pages b.good.few_devices)
-
-pub shapes_behind : {bytes : List ℕ} {opening : Opening} {rest : List ℕ} → Begins bytes opening rest → drop 16 bytes ≡ spelled_shapes opening.shapes ++ rest
-shapes_behind {opening = opening} {rest = rest} b = ap (drop 16) (grouped b) ∙ drop_at (front opening.version opening.pages (length opening.shapes)) (spelled_shapes opening.shapes ++ rest) 16 (length-front opening.version opening.pages (length opening.shapes))
-
-four_same : {a b c d m n o p : ℕ} → a ≡ m → b ≡ n → c ≡ o → d ≡ p → spelled head_widths (a ∷ b ∷ c ∷ d ∷ []) ≡ spelled head_widths (m ∷ n ∷ o ∷ p ∷ [])
-four_same e f g h = rw (e, f, g, h) refl
-
-pub begins_so : (bytes : List ℕ) (version pages count : ℕ) (ss : List Shape) (rest : List ℕ) → IsBytes bytes → version ≡ number_at bytes 4 4 → Says bytes pages count → MayCount pages count → ShapesRead count (drop 16 bytes) ss rest
-    → Begins bytes (record { version = version; pages = pages; shapes = ss }) rest
-begins_so bytes version pages count ss rest are is says may read =
-    let taken = spelled-numbers head_widths 0 bytes are says.long in
-    let same = four_same says.magic (sym is) says.pages_are says.count_is in
-    record {
-      good = record { known = subst IsVersion (sym is) says.known; some_page = may.some_page; few_pages = may.few_pages; some_device = omega (arith, may.some_device, read.count_is); few_devices = omega (arith, may.few_devices, read.count_is); sound = read.sound };
-      whole =
-          sym (take-append-drop 16 bytes) ∙ ap (λ (x : List ℕ). x ++ drop 16 bytes) (sym taken ∙ same ∙ sym (head_spelled version pages count))
-          ∙ ap (λ (n : ℕ). front version pages n ++ drop 16 bytes) (sym read.count_is)
-          ∙ ap (λ (x : List ℕ). front version pages (length ss) ++ x) read.whole
-          ∙ sym (append_assoc (front version pages (length ss)) (spelled_shapes ss) rest);
-    }
-
 -- A header that is not whole, with no fault.
-head_waits : (bytes : List ℕ) → ((opening : Opening) (rest : List ℕ) → ¬ (Begins bytes opening rest)) → ((at : ℕ) → ¬ (IsBadMagic bytes at)) → ((at : ℕ) → ¬ (IsBadVersion bytes at)) → ((at : ℕ) → ¬ (IsBadCount bytes at))
-    → ((at : ℕ) → ¬ (IsBadShape bytes at)) → (ram : RamTerms) (sizes : List ℕ) (k : RecvError) (at : ℕ) → ¬ (IsHeaderFault ram sizes bytes k at)
-head_waits bytes b m v c s ram sizes errors.BadMagic at h = m at h
-head_waits bytes b m v c s ram sizes errors.BadVersion at h = v at h
-head_waits bytes b m v c s ram sizes errors.BadShape at (inl h) = c at h
-head_waits bytes b m v c s ram sizes errors.BadShape at (inr h) = s at h
-head_waits bytes b m v c s ram sizes errors.ShapeMismatch at h = b h.opening h.more h.begins
-head_waits bytes b m v c s ram sizes errors.BadTag at h = h
-head_waits bytes b m v c s ram sizes errors.BadPage at h = h
-head_waits bytes b m v c s ram sizes errors.BadSector at h = h
-head_waits bytes b m v c s ram sizes errors.BadRound at h = h
-head_waits bytes b m v c s ram sizes errors.BadDevice at h = h
-head_waits bytes b m v c s ram sizes errors.BadDigest at h = h
-head_waits bytes b m v c s ram sizes errors.Missing at h = h
-head_waits bytes b m v c s ram sizes errors.Trailing at h = h
-head_waits bytes b m v c s ram sizes errors.Truncated at h = h
-head_waits bytes b m v c s ram sizes errors.DiskFailed at h = h
-head_waits bytes b m v c s ram sizes errors.NoMemory at h = h
-head_waits bytes b m v c s ram sizes errors.AlreadyFailed at h = h
+no_fault_yet : (bytes : List ℕ) → IsHeaderPart bytes → (ram : RamTerms) (sizes : List ℕ) (k : RecvError) (at : ℕ) → ¬ (IsHeaderFault ram sizes bytes k at)
+no_fault_yet bytes p ram sizes errors.BadMagic at h = p.no_fault heads.BadMagic at h
+no_fault_yet bytes p ram sizes errors.BadVersion at h = p.no_fault heads.BadVersion at h
+no_fault_yet bytes p ram sizes errors.BadShape at h = p.no_fault heads.BadShape at h
+no_fault_yet bytes p ram sizes errors.ShapeMismatch at h = p.no_header h.opening h.more h.begins
+no_fault_yet bytes p ram sizes errors.BadTag at h = h
+no_fault_yet bytes p ram sizes errors.BadPage at h = h
+no_fault_yet bytes p ram sizes errors.BadSector at h = h
+no_fault_yet bytes p ram sizes errors.BadRound at h = h
+no_fault_yet bytes p ram sizes errors.BadDevice at h = h
+no_fault_yet bytes p ram sizes errors.BadDigest at h = h
+no_fault_yet bytes p ram sizes errors.Missing at h = h
+no_fault_yet bytes p ram sizes errors.Trailing at h = h
+no_fault_yet bytes p ram sizes errors.Truncated at h = h
+no_fault_yet bytes p ram sizes errors.DiskFailed at h = h
+no_fault_yet bytes p ram sizes errors.NoMemory at h = h
+no_fault_yet bytes p ram sizes errors.AlreadyFailed at h = h
 
-pub head_short : (bytes : List ℕ) → length bytes < 16 → ((at : ℕ) → ¬ (IsBadMagic bytes at)) → ((at : ℕ) → ¬ (IsBadVersion bytes at)) → WaitsHead bytes
-head_short bytes short m v =
-    let none : (opening : Opening) (rest : List ℕ) → ¬ (Begins bytes opening rest) = λ opening rest b. omega (arith, short, (says_of b).long) in
-    record { no_header = none; no_fault = head_waits bytes none m v (λ at h. omega (arith, short, h.says.long)) (λ at h. omega (arith, short, h.says.long)) }
+pub waits_head : (bytes : List ℕ) → IsHeaderPart bytes → WaitsHead bytes
+waits_head bytes p = record { no_header = p.no_header; no_fault = no_fault_yet bytes p }
 
--- What is behind fewer shapes than there are to be.
+-- A fault of the header is one whatever is said of RAM and disks.
+told_so : (bytes : List ℕ) (k : HeaderError) → OnFault k ((at : ℕ) × ShowsFault k bytes at) → TellsHead (recv_error_of k) ((ram : RamTerms) (sizes : List ℕ) → (at : ℕ) × IsHeaderFault ram sizes bytes (recv_error_of k) at)
+told_so bytes heads.BadMagic h = λ ram sizes. h
+told_so bytes heads.BadVersion h = λ ram sizes. h
+told_so bytes heads.BadShape h = λ ram sizes. h
+told_so bytes heads.NoMemory h = tt
 
-no_more : (more : List Shape) (x y : List ℕ) → AllByRecursion IsSoundShape more → ShapeWaits x → x ≡ spelled_shapes more ++ y → more ≡ []
-no_more [] x y good w e = refl
-no_more (s ∷ more) x y good w e = absurd (w.no_shape s (spelled_shapes more ++ y) good.0 (e ∙ append_assoc (spelled_shape s) (spelled_shapes more) y))
+pub told_head : (bytes : List ℕ) (k : HeaderError) (e : RecvError) → e ≡ recv_error_of k → OnFault k ((at : ℕ) × ShowsFault k bytes at) → TellsHead e ((ram : RamTerms) (sizes : List ℕ) → (at : ℕ) × IsHeaderFault ram sizes bytes e at)
+told_head bytes k e is h = rw is (told_so bytes k h)
 
-not_whole : (count : ℕ) (ss ts : List Shape) (x y : List ℕ) → All IsSoundShape ts → length ss < count → length ts ≡ count → ShapeWaits x → LongerShapes ss ts x y ⊎ LongerShapes ts ss y x → ⊥
-not_whole count ss ts x y good lt e w (inl l) = omega (arith, lt, e, ap length l.all, length-append ss l.more, ap length (no_more l.more x y (sound_behind ss l.more ts l.all good) w l.left))
-not_whole count ss ts x y good lt e w (inr l) = omega (arith, lt, e, ap length l.all, length-append ts l.more)
-
-bad_left : (more : List Shape) (bad x y : List ℕ) → AllByRecursion IsSoundShape more → IsNoShape bad → ShapeWaits x → bad ++ y ≡ spelled_shapes more ++ x → ⊥
-bad_left [] bad x y good n w e = w.no_bad bad y n (sym e)
-bad_left (s ∷ more) bad x y good n w e = no_bad_spelled s bad y (spelled_shapes more ++ x) good.0 n (e ∙ append_assoc (spelled_shape s) (spelled_shapes more) x)
-
-bad_right : (more : List Shape) (bad x y : List ℕ) → AllByRecursion IsSoundShape more → IsNoShape bad → ShapeWaits x → x ≡ spelled_shapes more ++ (bad ++ y) → ⊥
-bad_right [] bad x y good n w e = w.no_bad bad y n e
-bad_right (s ∷ more) bad x y good n w e = w.no_shape s (spelled_shapes more ++ (bad ++ y)) good.0 (e ∙ append_assoc (spelled_shape s) (spelled_shapes more) (bad ++ y))
-
-not_bad : (ss ts : List Shape) (bad x y : List ℕ) → All IsSoundShape ss → All IsSoundShape ts → IsNoShape bad → ShapeWaits x → LongerShapes ss ts x (bad ++ y) ⊎ LongerShapes ts ss (bad ++ y) x → ⊥
-not_bad ss ts bad x y h k n w (inl l) = bad_right l.more bad x y (sound_behind ss l.more ts l.all k) n w l.left
-not_bad ss ts bad x y h k n w (inr l) = bad_left l.more bad x y (sound_behind ts l.more ss l.all h) n w l.left
-
-pub head_part : (bytes : List ℕ) (pages count : ℕ) → Says bytes pages count → MayCount pages count → ShapesWait count (drop 16 bytes) → WaitsHead bytes
-head_part bytes pages count says may s =
-    let none : (opening : Opening) (rest : List ℕ) → ¬ (Begins bytes opening rest) = λ opening rest b.
-    not_whole count s.few.shapes opening.shapes s.few.rest rest b.good.sound s.few.fewer (sym (says_of b).count_is ∙ says.count_is) s.waits (shapes_led s.few.shapes opening.shapes s.few.rest rest s.few.sound b.good.sound (sym s.few.whole ∙ shapes_behind b)) in
-    record {
-      no_header = none;
-      no_fault = head_waits bytes none (λ at h. h.never says.magic) (λ at h. h.never says.known)
-          (λ at h. h.never (rw (sym h.says.pages_are ∙ says.pages_are, sym h.says.count_is ∙ says.count_is) may))
-          (λ at h. not_bad s.few.shapes h.shapes h.bad s.few.rest h.more s.few.sound h.sound h.never s.waits (shapes_led s.few.shapes h.shapes s.few.rest (h.bad ++ h.more) s.few.sound h.sound (sym s.few.whole ∙ h.whole)));
-    }
-
-pub bad_count : (ram : RamTerms) (sizes bytes : List ℕ) (pages count : ℕ) → Says bytes pages count → ¬ (MayCount pages count) → (at : ℕ) × IsHeaderFault ram sizes bytes errors.BadShape at
-bad_count ram sizes bytes pages count says never = (16, inl (record { pages = pages; count = count; says = says; never = never; there = refl }))
-
-pub bad_shapes : (ram : RamTerms) (sizes bytes : List ℕ) (pages count : ℕ) → Says bytes pages count → MayCount pages count → ShapesBad count (drop 16 bytes) → (at : ℕ) × IsHeaderFault ram sizes bytes errors.BadShape at
-bad_shapes ram sizes bytes pages count says may s = (
-  16 + (length (spelled_shapes s.few.shapes) + length s.bad.bad),
-  inr (record {
-    pages = pages;
-    count = count;
-    shapes = s.few.shapes;
-    bad = s.bad.bad;
-    more = s.bad.more;
-    says = says;
-    may = may;
-    fewer = s.few.fewer;
-    sound = s.few.sound;
-    whole = s.few.whole ∙ ap (λ (x : List ℕ). spelled_shapes s.few.shapes ++ x) s.bad.whole;
-    never = s.bad.never;
-    there = refl;
-  }),
-)
-
--- Behind a whole header no fault of one stands.
-
-none_more : (ss ts more : List Shape) → length ss ≡ length ts → ts ≡ ss ++ more → ss ≡ ts
-none_more ss ts [] e f = sym (f ∙ append-nil ss)
-none_more ss ts (s ∷ more) e f = absurd (omega (arith, e, ap length f, length-append ss (s ∷ more)))
-
-shapes_same : (ss ts : List Shape) (x y : List ℕ) → length ss ≡ length ts → LongerShapes ss ts x y ⊎ LongerShapes ts ss y x → ss ≡ ts
-shapes_same ss ts x y e (inl l) = none_more ss ts l.more e l.all
-shapes_same ss ts x y e (inr l) = sym (none_more ts ss l.more (sym e) l.all)
-
-pub header_same : {bytes rest other : List ℕ} {o p : Opening} → Begins bytes o rest → Begins bytes p other → (o.shapes ≡ p.shapes)
-header_same {bytes} {rest} {other} {o} {p} a b =
-    let count : length p.shapes ≡ length o.shapes = sym (says_of b).count_is ∙ (says_of a).count_is in
-    shapes_same o.shapes p.shapes rest other (sym count) (shapes_led o.shapes p.shapes rest other a.good.sound b.good.sound (sym (shapes_behind a) ∙ shapes_behind b))
-
-bad_within : (more : List Shape) (bad x y : List ℕ) → AllByRecursion IsSoundShape more → IsNoShape bad → 0 < length more → bad ++ y ≡ spelled_shapes more ++ x → ⊥
-bad_within [] bad x y good n some e = omega (arith, some)
-bad_within (s ∷ more) bad x y good n some e = no_bad_spelled s bad y (spelled_shapes more ++ x) good.0 n (e ∙ append_assoc (spelled_shape s) (spelled_shapes more) x)
-
-not_bad_whole : (ss ts : List Shape) (bad x y : List ℕ) → All IsSoundShape ss → IsNoShape bad → length ts < length ss → LongerShapes ss ts x (bad ++ y) ⊎ LongerShapes ts ss (bad ++ y) x → ⊥
-not_bad_whole ss ts bad x y good n lt (inl l) = omega (arith, lt, ap length l.all, length-append ss l.more)
-not_bad_whole ss ts bad x y good n lt (inr l) = bad_within l.more bad x y (sound_behind ts l.more ss l.all good) n (omega (arith, lt, ap length l.all, length-append ts l.more)) l.left
-
+-- Behind a whole header that suits RAM and disks no fault of one stands.
 pub no_header_fault : (ram : RamTerms) (sizes bytes : List ℕ) (opening : Opening) (rest : List ℕ) → Begins bytes opening rest → sizes ≡ disk_sizes opening.shapes → HasPages ram opening.pages → (k : RecvError) (at : ℕ) → ¬ (IsHeaderFault ram sizes bytes k at)
-no_header_fault ram sizes bytes opening rest b fits suits errors.BadMagic at h = h.never (says_of b).magic
-no_header_fault ram sizes bytes opening rest b fits suits errors.BadVersion at h = h.never (says_of b).known
-no_header_fault ram sizes bytes opening rest b fits suits errors.BadShape at (inl h) =
-    let says = says_of b in
-    h.never (rw (sym h.says.pages_are ∙ says.pages_are, sym h.says.count_is ∙ says.count_is) (record { some_page = b.good.some_page; few_pages = b.good.few_pages; some_device = b.good.some_device; few_devices = b.good.few_devices }))
-no_header_fault ram sizes bytes opening rest b fits suits errors.BadShape at (inr h) =
-    let says = says_of b in
-    not_bad_whole opening.shapes h.shapes h.bad rest h.more b.good.sound h.never (omega (arith, h.fewer, sym h.says.count_is ∙ says.count_is)) (shapes_led opening.shapes h.shapes rest (h.bad ++ h.more) b.good.sound h.sound (sym (shapes_behind b) ∙ h.whole))
+no_header_fault ram sizes bytes opening rest b fits suits errors.BadMagic at h = begun_without_fault bytes opening rest b heads.BadMagic at h
+no_header_fault ram sizes bytes opening rest b fits suits errors.BadVersion at h = begun_without_fault bytes opening rest b heads.BadVersion at h
+no_header_fault ram sizes bytes opening rest b fits suits errors.BadShape at h = begun_without_fault bytes opening rest b heads.BadShape at h
 no_header_fault ram sizes bytes opening rest b fits suits errors.ShapeMismatch at h = h.never (fits ∙ ap disk_sizes (header_same b h.begins), subst (HasPages ram) (sym (says_of b).pages_are ∙ (says_of h.begins).pages_are) suits)
 no_header_fault ram sizes bytes opening rest b fits suits errors.BadTag at h = h
 no_header_fault ram sizes bytes opening rest b fits suits errors.BadPage at h = h
@@ -386,21 +62,3 @@ no_header_fault ram sizes bytes opening rest b fits suits errors.Truncated at h 
 no_header_fault ram sizes bytes opening rest b fits suits errors.DiskFailed at h = h
 no_header_fault ram sizes bytes opening rest b fits suits errors.NoMemory at h = h
 no_header_fault ram sizes bytes opening rest b fits suits errors.AlreadyFailed at h = h
-
-pub told_shapes : (bytes : List ℕ) (pages count : ℕ) (e : RecvError) → Says bytes pages count → MayCount pages count → OnBad e (ShapesBad count (drop 16 bytes)) → TellsHead e ((ram : RamTerms) (sizes : List ℕ) → (at : ℕ) × IsHeaderFault ram sizes bytes e at)
-told_shapes bytes pages count errors.BadShape says may h = λ ram sizes. bad_shapes ram sizes bytes pages count says may h
-told_shapes bytes pages count errors.NoMemory says may h = tt
-told_shapes bytes pages count errors.BadMagic says may h = absurd h
-told_shapes bytes pages count errors.BadVersion says may h = absurd h
-told_shapes bytes pages count errors.ShapeMismatch says may h = absurd h
-told_shapes bytes pages count errors.BadTag says may h = absurd h
-told_shapes bytes pages count errors.BadPage says may h = absurd h
-told_shapes bytes pages count errors.BadSector says may h = absurd h
-told_shapes bytes pages count errors.BadRound says may h = absurd h
-told_shapes bytes pages count errors.BadDevice says may h = absurd h
-told_shapes bytes pages count errors.BadDigest says may h = absurd h
-told_shapes bytes pages count errors.Missing says may h = absurd h
-told_shapes bytes pages count errors.Trailing says may h = absurd h
-told_shapes bytes pages count errors.Truncated says may h = absurd h
-told_shapes bytes pages count errors.DiskFailed says may h = absurd h
-told_shapes bytes pages count errors.AlreadyFailed says may h = absurd h

@@ -39,13 +39,14 @@ use Rattle.receiver.specs.declared.stage.Stage.TheVariants as stages
 use Rattle.receiver.specs.declared.ram_terms.RamTerms.{RamTerms}
 use Rattle.receiver.specs.declared.recv_error.RecvError.{RecvError}
 use Rattle.receiver.proofs.Aligned.{no_record_fault, not_early}
-use Rattle.receiver.proofs.Heads.{head_short, no_header_fault}
+use Rattle.wire.proofs.HeaderParts.{head_short}
+use Rattle.receiver.proofs.Heads.{no_header_fault, waits_head}
 use Rattle.receiver.proofs.Quiet.{no_page, quiet}
 use Rattle.receiver.proofs.Steps.{devices_are}
 use Rattle.receiver.proofs.Working.{commit_text, front_at, front_of}
 
 pub nothing_known : WaitsHead []
-nothing_known = head_short [] (omega arith) (λ at h. omega (arith, h.long)) (λ at h. omega (arith, h.long))
+nothing_known = waits_head [] (head_short [] (omega arith) (λ at h. omega (arith, h.long)) (λ at h. omega (arith, h.long)))
 
 -- The digest is no other record, and has no fault.
 

@@ -16,13 +16,15 @@ use Rattle.wire.proofs.PartLengths.{length_header}
 use Rattle.wire.proofs.Spelling.{head_same, tail_same, split_same, number_same}
 use Rattle.receiver.specs.Good.{AreGood, devices_in}
 use Rattle.machine.specs.Shapes.{disk_sizes}
-use Rattle.receiver.specs.Faults.{MayTag, IsComplete, IsLate, IsPageTag, Opens, IsBadTag, IsMissing, IsBadPage, IsLongZeros, IsBadSector, IsBadRound, IsBadHead, IsBadBody, IsBadDigest, IsTrailing, IsFault, IsRecordFault, IsBadMagic, IsBadVersion, IsBadCount, IsBadShape, IsMismatch, IsNoShape, IsHeaderFault, Fault}
+use Rattle.receiver.specs.Faults.{MayTag, IsComplete, IsLate, IsPageTag, Opens, IsBadTag, IsMissing, IsBadPage, IsLongZeros, IsBadSector, IsBadRound, IsBadHead, IsBadBody, IsBadDigest, IsTrailing, IsFault, IsRecordFault, IsMismatch, IsHeaderFault, Fault}
 use Rattle.receiver.specs.declared.ram_terms.RamTerms.{RamTerms}
 use Rattle.receiver.specs.declared.recv_error.RecvError.{RecvError}
 use Rattle.receiver.specs.declared.recv_error.RecvError.TheVariants as errors
 use Rattle.receiver.proofs.Quiet.{no_page}
 use Rattle.receiver.proofs.Aligned.{one_opening, LongerRecords, records_led, good_spell, next_good, no_fault_here}
-use Rattle.receiver.proofs.Heads.{no_header_fault, header_same, says_of, shapes_led, sound_behind, LongerShapes, bad_lengths, no_bad_spelled}
+use Rattle.wire.specs.HeaderFaults.{IsBadMagic, IsBadVersion, IsBadCount, IsBadShape, IsNoShape}
+use Rattle.wire.proofs.HeaderParts.{header_same, says_of, shapes_led, sound_behind, LongerShapes, bad_lengths, no_bad_spelled}
+use Rattle.receiver.proofs.Heads.{no_header_fault}
 
 abbrev pub Same : RecvError → ℕ → RecvError → ℕ → Type 0
 Same k p j q = (k ≡ j) × (p ≡ q)

@@ -13,7 +13,8 @@ use Rattle.wire.proofs.Digits.{length-digits, number_at-append}
 use Rattle.wire.proofs.Spelling.{head_same, tail_same}
 use Rattle.wire.proofs.Unique.{cons_same}
 use Rattle.receiver.specs.Good.{devices_in}
-use Rattle.receiver.specs.Faults.{Opens, Says, IsFault, IsRecordFault, IsHeaderFault, Fault}
+use Rattle.wire.specs.HeaderFaults.{Says}
+use Rattle.receiver.specs.Faults.{Opens, IsFault, IsRecordFault, IsHeaderFault, Fault}
 use Rattle.receiver.specs.declared.ram_terms.RamTerms.{RamTerms}
 use Rattle.receiver.specs.declared.recv_error.RecvError.{RecvError}
 use Rattle.receiver.specs.declared.recv_error.RecvError.TheVariants as errors

@@ -14,8 +14,8 @@ use Rattle.machine.specs.Layout.{Layout, layout_of, pages_of}
 use Rattle.machine.specs.Sound.{IsSoundDevice}
 use Rattle.machine.specs.State.{DeviceState, MachineState, base_of}
 use Rattle.guestmem.proofs.ByteLaws.{IsBytes-drop}
-use Rattle.wire.proofs.Unique.{body_spells, stream_begins, alike}
-use Rattle.wire.proofs.HeaderLemmas.{header_of-spelled}
+use Rattle.wire.proofs.HeaderParts.{begins_once}
+use Rattle.wire.proofs.Unique.{body_spells, stream_begins}
 use Rattle.receiver.specs.Good.{AreGood}
 use Rattle.receiver.specs.Fed.{IsReading, device_records}
 use Rattle.receiver.specs.Faults.{WaitsHead}
@@ -83,9 +83,7 @@ no_stream_reading ram ds read tail held i m are parts r s =
     let before_all = before_commit s.version (pages_of m) s.entries m.devices in
     let digest = sha256 before_all in
     let others = s.entries ++ device_records 0 m.devices in
-    let a = header_of-spelled held (said_by r.opening) (texts o.before ++ tail) front.begins in
-    let b = header_of-spelled held opening (texts s.entries ++ (device_texts 0 m.devices ++ spelled_record (commit digest))) (stream_begins s.by) in
-    let t = alike (said_by r.opening) opening (texts o.before ++ tail) (texts s.entries ++ (device_texts 0 m.devices ++ spelled_record (commit digest))) (sym a ∙ b) in
+    let t = begins_once {o = said_by r.opening} {p = opening} front.begins (stream_begins s.by) in
     let text : texts others ≡ texts s.entries ++ device_texts 0 m.devices = texts-append s.entries (device_records 0 m.devices) ∙ ap (λ (x : List ℕ). texts s.entries ++ x) (texts_devices 0 m.devices) in
     let same : texts o.before ++ tail ≡ texts others ++ (5 ∷ digest) =
     t.1 ∙ sym (append_assoc (texts s.entries) (device_texts 0 m.devices) (spelled_record (commit digest))) ∙ ap (λ (x : List ℕ). (texts s.entries ++ device_texts 0 m.devices) ++ x) (commit_text digest)

@@ -1,18 +1,18 @@
 -- The faults of a stream, each with its place: the number of bytes up to and including the one at which it is found. The header
 -- and whole good records come first, and then bytes that begin with the fault.
-use Rattle.std.specs.Prelude.{◌≡◌, ◌≢◌, ◌<◌, ◌≤◌, ◌^◌, ◌⊎◌, ℕ, ◌+◌, ◌*◌, true, List, [], ◌∷◌, ◌++◌, length, drop, All, Some, None}
+use Rattle.std.specs.Prelude.{◌≡◌, ◌≢◌, ◌<◌, ◌≤◌, ◌^◌, ◌⊎◌, ℕ, ◌+◌, ◌*◌, true, List, [], ◌∷◌, ◌++◌, length, drop}
 use Rattle.sha2.specs.Sha256.{sha256}
-use Rattle.guestmem.specs.Number.{number_at}
 use Rattle.wire.specs.DeviceBody.{IsBodyOf}
 use Rattle.wire.specs.Header as told
-use Rattle.wire.specs.Header.{spelled_shape, spelled_shapes, IsVersion, shape_length}
+use Rattle.wire.specs.HeaderFaults.{IsBadCount, IsBadMagic, IsBadShape, IsBadVersion}
 use Rattle.wire.specs.Numbers.{digits}
 use Rattle.wire.specs.Records.{Record, is_zero_page}
 use Rattle.wire.specs.Stream.{rounds, texts}
+use Rattle.wire.specs.declared.header_error.HeaderError.{HeaderError}
+use Rattle.wire.specs.declared.header_error.HeaderError.TheVariants as heads
 use Rattle.guestmem.specs.Item as items
 use Rattle.machine.specs.Layout.{IsItemIn}
 use Rattle.machine.specs.Shapes.{disk_sizes}
-use Rattle.machine.specs.Sound.{IsSoundShape}
 use Rattle.machine.specs.State.{DeviceState}
 use Rattle.machine.specs.declared.shape.Shape.{Shape}
 use Rattle.receiver.specs.Opened.{HasPages, Opened, Begins, header, layout_in}
@@ -173,74 +173,6 @@ IsFault opening before tail _ place = ⊥
 
 -- The header.
 
--- How many pages and devices a machine may have.
-pub record MayCount (pages count : ℕ) : Type 0 where
-  pub some_page : 1 ≤ pages
-  pub few_pages : pages ≤ 16384
-  pub some_device : 1 ≤ count
-  pub few_devices : count ≤ 16
-
--- BadMagic (1), found at the fourth byte.
-pub record IsBadMagic (bytes : List ℕ) (at : ℕ) : Type 0 where
-  pub long : 4 ≤ length bytes
-  pub never : number_at bytes 0 4 ≢ 0x47494d56
-  pub there : at ≡ 4
-
--- BadVersion (2), found at the eighth byte.
-pub record IsBadVersion (bytes : List ℕ) (at : ℕ) : Type 0 where
-  pub long : 8 ≤ length bytes
-  pub magic : number_at bytes 0 4 ≡ 0x47494d56
-  pub never : ¬ (IsVersion (number_at bytes 4 4))
-  pub there : at ≡ 8
-
--- The first 16 bytes have the magic bytes and a version that there is, and these counts of pages and devices.
-pub record Says (bytes : List ℕ) (pages count : ℕ) : Type 0 where
-  pub long : 16 ≤ length bytes
-  pub magic : number_at bytes 0 4 ≡ 0x47494d56
-  pub known : IsVersion (number_at bytes 4 4)
-  pub pages_are : number_at bytes 8 4 ≡ pages
-  pub count_is : number_at bytes 12 4 ≡ count
-
--- BadShape (3), found at the sixteenth byte.
-pub record IsBadCount (bytes : List ℕ) (at : ℕ) : Type 0 where
-  pub pages : ℕ
-  pub count : ℕ
-  pub says : Says bytes pages count
-  pub never : ¬ (MayCount pages count)
-  pub there : at ≡ 16
-
--- Bytes that are no shape: a device ID that no device has, found at this byte; or (`IsBeyond`) as many bytes as a shape with
--- their first byte as device ID has, which are the encoding of no shape that a device may have.
-pub record IsUnknown (bad : List ℕ) : Type 0 where
-  pub number : ℕ
-  pub is : bad ≡ number ∷ []
-  pub never : shape_length number ≡ None
-
-pub record IsBeyond (bad : List ℕ) : Type 0 where
-  pub number : ℕ
-  pub others : List ℕ
-  pub is : bad ≡ number ∷ others
-  pub long : shape_length number ≡ Some (length bad)
-  pub never : (s : Shape) → IsSoundShape s → bad ≢ spelled_shape s
-
-abbrev pub IsNoShape : List ℕ → Type 0
-IsNoShape bad = IsUnknown bad ⊎ IsBeyond bad
-
--- BadShape (3), found at a device ID that is unknown, or at the end of the shape.
-pub record IsBadShape (bytes : List ℕ) (at : ℕ) : Type 0 where
-  pub pages : ℕ
-  pub count : ℕ
-  pub shapes : List Shape
-  pub bad : List ℕ
-  pub more : List ℕ
-  pub says : Says bytes pages count
-  pub may : MayCount pages count
-  pub fewer : length shapes < count
-  pub sound : All IsSoundShape shapes
-  pub whole : drop 16 bytes ≡ spelled_shapes shapes ++ (bad ++ more)
-  pub never : IsNoShape bad
-  pub there : at ≡ 16 + (length (spelled_shapes shapes) + length bad)
-
 -- ShapeMismatch (4), found at the end of the header: the disks are not those of the machine, or the RAM that was handed in has another
 -- number of pages.
 pub record IsMismatch (ram : RamTerms) (sizes bytes : List ℕ) (at : ℕ) : Type 0 where
@@ -256,6 +188,13 @@ IsHeaderFault ram sizes bytes BadVersion at = IsBadVersion bytes at
 IsHeaderFault ram sizes bytes BadShape at = IsBadCount bytes at ⊎ IsBadShape bytes at
 IsHeaderFault ram sizes bytes ShapeMismatch at = IsMismatch ram sizes bytes at
 IsHeaderFault ram sizes bytes _ at = ⊥
+
+-- The faults of a header have the same names, but for one that the disks and the RAM make.
+abbrev pub recv_error_of : HeaderError → RecvError
+recv_error_of heads.BadMagic = BadMagic
+recv_error_of heads.BadVersion = BadVersion
+recv_error_of heads.BadShape = BadShape
+recv_error_of heads.NoMemory = NoMemory
 
 -- What a refusal means: there is this fault of the header, unless memory was refused.
 abbrev pub TellsHead : RecvError → Type 0 → Type 0
