@@ -13,3 +13,4 @@ pub mod Ran
 pub mod Taking
 pub mod Parked
 pub mod Unsynced
+pub mod Guests

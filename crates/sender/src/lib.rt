@@ -43,6 +43,8 @@
 //!   `LiveParked` (`specs/Parked`), of which no call is made. `LiveParked::give_back` takes the region back with the pages that were
 //!   written: they are dirty. Where the caller wrote into no other page, that is served as the guest's writes of these pages are, and the
 //!   history goes on by them. A page that was written and not named may be missing at the receiver.
+//! - `Guest` is what a host's loop does with a machine, by `Machine` and by `LiveOver`. Each of its clauses names the relation of the type
+//!   (`specs/Guests`), so over a `Live` it says what becomes dirty.
 //! - `replay(machine, events, out)` plays a list. By its *history* (`specs/History`, `specs/Ran`), which names no set:
 //!   an item is *stale* if each sending of it, if any, was followed by a touch, and *due* if it was stale as the last
 //!   round began and was not sent since. Every reply may come after those before it, the bytes added are the text of
@@ -66,6 +68,7 @@
 
 mod dirty;
 mod event;
+mod guest;
 pub mod laws;
 mod lending;
 mod live;
@@ -78,6 +81,7 @@ mod playing;
 mod saving;
 
 pub use event::{CopyAnswer, End, Item, LiveEvent, LiveReply, Remaining, Stopped};
+pub use guest::Guest;
 pub use lending::LiveParked;
 pub use live::{Live, LiveOver, LiveWaiting};
 pub use measuring::saved_len;

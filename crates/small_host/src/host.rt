@@ -1,12 +1,11 @@
 //! The loop around a machine.
 
 use crate::driver::Exit;
-use crate::guest::Guest;
 use crate::migration::migrate;
 use anyhow::{Result, bail};
 use std::io::Write;
 use vmig::{
-    Event, Machine, MemDisk, Refusal, Reply, Shape, SyncOwed, Work, WriteSink, receive, save,
+    Event, Guest, Machine, MemDisk, Reply, Shape, SyncOwed, Work, WriteSink, receive, save,
 };
 
 /// Sectors of the guest's disk.
@@ -18,13 +17,13 @@ const STEPS: u32 = 1000;
 
 /// A machine, its interrupt lines as the guest has them, and the step that was made last: the next turn begins behind it.
 #[derive(Drop)]
-pub struct Host<G: Guest> {
+pub struct Host<G: Guest<MemDisk> + Drop> {
     guest: G,
     lines: u16,
     last: Work,
 }
 
-impl<G: Guest> Host<G> {
+impl<G: Guest<MemDisk> + Drop> Host<G> {
     /// A host of this machine, whose guest sees no interrupt yet.
     pub fn of(guest: G) -> Host<G> {
         Host {
@@ -69,7 +68,9 @@ impl<G: Guest> Host<G> {
 
     /// Puts bytes in, and steps the devices: a driver need not kick again for a buffer that waits.
     pub fn give(&mut self, rt: &HostRuntime, dev: u8, bytes: &[u8]) -> Result<()> {
-        let kept = self.guest.input(dev, bytes)?;
+        let Reply::Accepted(kept) = self.guest.input(dev, bytes)? else {
+            bail!("no bytes were put in");
+        };
         println!(rt; "host: puts in {kept} bytes")?;
         self.work(rt)
     }
@@ -179,12 +180,4 @@ impl Host<Machine<MemDisk>> {
 pub fn disks(rt: &HostRuntime) -> Result<Vec<MemDisk>> {
     let disk = MemDisk::new(rt.alloc(), SECTORS)?;
     Ok(Vec::from_array(rt.alloc(), [disk])?)
-}
-
-/// An answer to a script that names the device and lies in RAM is no refusal.
-pub fn done<T: Drop>(answer: std::result::Result<T, Refusal>) -> Result<T> {
-    match answer {
-        Ok(value) => Ok(value),
-        Err(refusal) => bail!("refused {}", refusal.code()),
-    }
 }

@@ -6,7 +6,6 @@
 #![tactic(auto)]
 
 mod driver;
-mod guest;
 mod host;
 mod migration;
 

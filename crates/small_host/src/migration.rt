@@ -1,11 +1,13 @@
 //! The loop of a host that moves its guest to another host while it runs.
 
 use crate::driver::{DISK, Exit};
-use crate::guest::Moving;
 use crate::host::{Host, disks};
 use anyhow::{Result, bail};
 use std::io::Write;
 use vmig::{CopyAnswer, Live, Machine, MemDisk, Receiver, WriteSink};
+
+/// A machine that is being migrated, and the bytes written for it.
+type Moving = Live<MemDisk, WriteSink<Vec<u8>>>;
 
 /// With at most this many dirty items the guest is paused, and the rest is sent.
 const FEW: u64 = 1;
