@@ -19,8 +19,25 @@ pub fn agree(alloc: Global) -> Result<()> {
 fn events_answer(alloc: Global) -> Result<()> {
     let none: Vec<MemDisk> = Vec::new(alloc);
     let mut machine = Machine::new(alloc, 1, &[Shape::Entropy], none)?;
+    magic_is_read(&mut machine)?;
+    ram_is_written(alloc, &mut machine)?;
+    list_is_played(alloc, &mut machine)?;
+    ensure!(
+        machine.lines() == 0 && machine.shapes() == [Shape::Entropy].as_slice(),
+        "the machine"
+    );
+    Ok(())
+}
+
+/// A register tells what the device is.
+fn magic_is_read(machine: &mut Machine<MemDisk>) -> Result<()> {
     let reply = machine.apply(&register(0x000));
     ensure!(reply == Reply::Value(0x7472_6976), "MagicValue");
+    Ok(())
+}
+
+/// RAM takes two bytes at the end of its page, and the log hears of it.
+fn ram_is_written(alloc: Global, machine: &mut Machine<MemDisk>) -> Result<()> {
     let mut log = OwnLog::EMPTY;
     let bytes = Vec::from_array(alloc, [0x68, 0x69])?;
     let write = Event::MemWrite {
@@ -31,6 +48,11 @@ fn events_answer(alloc: Global) -> Result<()> {
         machine.apply_logged(&write, &mut log) == Reply::Done && log.is_touched,
         "a write of RAM"
     );
+    Ok(())
+}
+
+/// A list of events, each with its reply.
+fn list_is_played(alloc: Global, machine: &mut Machine<MemDisk>) -> Result<()> {
     let events = Vec::from_array(
         alloc,
         [
@@ -59,10 +81,6 @@ fn events_answer(alloc: Global) -> Result<()> {
             ]
             .as_slice(),
         "the replies are {replies:?}"
-    );
-    ensure!(
-        machine.lines() == 0 && machine.shapes() == [Shape::Entropy].as_slice(),
-        "the machine"
     );
     Ok(())
 }

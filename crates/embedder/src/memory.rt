@@ -11,6 +11,14 @@ const START: u64 = u64::MAX - 1;
 pub fn agrees(alloc: Global) -> Result<()> {
     let mut ram = Ram::new(alloc, 2)?;
     ensure!(ram.len() == 8192, "the length");
+    takes_bytes(&mut ram)?;
+    refuses(&mut ram)?;
+    pages_agree(&ram)?;
+    versions_agree(Ram::with_version(alloc, 1, START)?)
+}
+
+/// Two bytes across two pages are read as they were written.
+fn takes_bytes(ram: &mut Ram) -> Result<()> {
     ensure!(
         ram.write(4095, &[0x11, 0x22]) == Ok(Touched::Pages(0, 1)),
         "a write across two pages"
@@ -21,13 +29,17 @@ pub fn agrees(alloc: Global) -> Result<()> {
         ram.read(4095, &mut bytes).is_ok() && bytes == [0x11, 0x22],
         "the bytes"
     );
+    Ok(())
+}
+
+/// A write past the end, and one that is too long.
+fn refuses(ram: &mut Ram) -> Result<()> {
     ensure!(
         code_of(ram.write(8191, &[0, 0])) == 1,
         "a write past the end"
     );
     ensure!(code_of(ram.write(0, &[0; 4097])) == 2, "a write too long");
-    pages_agree(&ram)?;
-    versions_agree(Ram::with_version(alloc, 1, START)?)
+    Ok(())
 }
 
 /// The number of a refusal, or 0.
