@@ -1,6 +1,6 @@
 -- Flushes that fail in place of their step.
 use Rattle.std.proofs.Common.{◌≡◌, ◌≤◌, ◌<◌, ℕ, Bool, true, false, [], length, refl, sym, ap, ◌∙◌, subst, arith, true≢false}
-use Rattle.std.specs.Prelude.{Option, Some, None, MatchOption, Result, Ok, Err, is_some, slice_get, slice_set}
+use Rattle.std.specs.Prelude.{Option, Some, None, MatchOption, Result, Ok, Err, is_some, slice_set}
 use Rattle.std.proofs.lemmas.List.{get_or-set_same}
 use Rattle.guestmem.specs.Memory.{Memory}
 use Rattle.machine.specs.Seen.{DeviceSeen, Seen, no_marks, state_of}

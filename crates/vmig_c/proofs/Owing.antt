@@ -1,6 +1,6 @@
 -- Steps of devices whose disk is lost.
 use Rattle.std.proofs.Common.{◌≡◌, ◌≤◌, ◌<◌, ℕ, Bool, true, false, nat_lt, List, [], ◌++◌, length, drop, refl, sym, ap, ◌∙◌, subst, arith}
-use Rattle.std.specs.Prelude.{◌-◌, ◌&&◌, MatchOption, Option, Some, None, if◌then◌else◌, slice_get}
+use Rattle.std.specs.Prelude.{◌-◌, ◌&&◌, Option, Some, None, if◌then◌else◌, slice_get}
 use Rattle.blk.specs.Durable.{ends_write, owed_if}
 use Rattle.blk.specs.Flush as blk
 use Rattle.blk.specs.declared.durable.SyncOwed.{SyncOwed}
@@ -8,8 +8,8 @@ use Rattle.blk.specs.declared.durable.SyncOwed.TheVariants.{Nothing, Flush, EndO
 use Rattle.blk.specs.declared.request.Request.{Request}
 use Rattle.machine.specs.DeviceStep.{advances}
 use Rattle.machine.specs.Seen.{Seen, state_of}
-use Rattle.machine.specs.State.{DeviceState, MachineState}
-use Rattle.machine.specs.Unsynced.{flushes, flushes_if, kind_flushes, kind_owed, makes_flush, owed}
+use Rattle.machine.specs.State.{DeviceState}
+use Rattle.machine.specs.Unsynced.{flushes, flushes_if, kind_flushes, kind_owed, owed}
 use Rattle.machine.specs.declared.kind.Kind.{Kind}
 use Rattle.machine.specs.declared.kind.Kind.TheVariants.{Network, Block, Console, Entropy}
 use Rattle.machine.specs.declared.event.Event.TheVariants.{Step}
@@ -25,7 +25,7 @@ use Rattle.vmig_c.specs.Mirror.{is_closed}
 use Rattle.vmig_c.specs.Plain.{ArePlain}
 use Rattle.vmig_c.specs.Refused.{ArePlainIn, IsSameKept, IsSameSent}
 use Rattle.vmig_c.specs.Status.{live_status, status_of}
-use Rattle.vmig_c.specs.Stepped.{IsLiveStepped, IsStepped, LiveSteppedIf, RefusedStepsNothing, StepsKept, StepsOwing, SteppedIf, live_sent_in, most_sent_by, sent_in}
+use Rattle.vmig_c.specs.Stepped.{LiveSteppedIf, RefusedStepsNothing, StepsKept, StepsOwing, SteppedIf, live_sent_in, most_sent_by, sent_in}
 use Rattle.vmig_c.proofs.Plain.{refused_quiet}
 use Rattle.vmig_c.proofs.Quiet.{no_number, quiet_by}
 
