@@ -64,10 +64,6 @@ short_body held piece head b short =
 -- Its faults stand within the bytes that wait.
 within : (opening : Opened) (before : List Record) (held piece : List ℕ) (head : RecordHead) → IsBytes (held ++ piece) → BeginsHead held head → 7 ≤ length held → length held + length piece < length (spelled_head head) + body_len head
     → (k : RecvError) (place : ℕ) → IsFault opening before (held ++ piece) k place → place ≤ length held
-within opening before held piece head are b long short errors.BadMagic place h = absurd h
-within opening before held piece head are b long short errors.BadVersion place h = absurd h
-within opening before held piece head are b long short errors.BadShape place h = absurd h
-within opening before held piece head are b long short errors.ShapeMismatch place h = absurd h
 within opening before held piece head are b long short errors.BadTag place h = omega (arith, long, h.there)
 within opening before held piece head are b long short errors.BadPage place (inl h) = omega (arith, long, h.there)
 within opening before held piece head are b long short errors.BadPage place (inr h) =
@@ -91,10 +87,7 @@ within opening before held piece head are b long short errors.Trailing place h =
     let rest = drop (length (spelled_head head)) held ++ piece in
     let t = one_head head heads.Commit rest (sum ++ (h.byte ∷ h.more)) b.fits tt (sym (behind_head held piece head b) ∙ h.opens.whole) in
     absurd (omega (arith, short_body held piece head b short, ap body_len t.0, ap length t.1, length-append sum (h.byte ∷ h.more), length-sha256 (header opening ++ texts before)))
-within opening before held piece head are b long short errors.Truncated place h = absurd h
-within opening before held piece head are b long short errors.DiskFailed place h = absurd h
-within opening before held piece head are b long short errors.NoMemory place h = absurd h
-within opening before held piece head are b long short errors.AlreadyFailed place h = absurd h
+within opening before held piece head are b long short _ place h = absurd h
 
 waits_on : (opening : Opened) (before : List Record) (stage : Stage) (held piece : List ℕ) → IsWithinBody stage held piece → Waits opening before held → Waits opening before (held ++ piece)
 waits_on opening before stage held piece w waits = record {
