@@ -25,10 +25,8 @@ waits_head bytes p = record { no_header = p.no_header; no_fault = no_fault_yet b
 
 -- A fault of the header is one whatever is said of RAM and disks.
 told_so : (bytes : List ℕ) (k : HeaderError) → OnFault k ((at : ℕ) × ShowsFault k bytes at) → TellsHead (recv_error_of k) ((ram : RamTerms) (sizes : List ℕ) → (at : ℕ) × IsHeaderFault ram sizes bytes (recv_error_of k) at)
-told_so bytes heads.BadMagic h = λ ram sizes. h
-told_so bytes heads.BadVersion h = λ ram sizes. h
-told_so bytes heads.BadShape h = λ ram sizes. h
 told_so bytes heads.NoMemory h = tt
+told_so bytes _ h = λ ram sizes. h
 
 pub told_head : (bytes : List ℕ) (k : HeaderError) (e : RecvError) → e ≡ recv_error_of k → OnFault k ((at : ℕ) × ShowsFault k bytes at) → TellsHead e ((ram : RamTerms) (sizes : List ℕ) → (at : ℕ) × IsHeaderFault ram sizes bytes e at)
 told_head bytes k e is h = rw is (told_so bytes k h)

@@ -297,12 +297,8 @@ page_marked i n s low = omega (arith, low, s.ram_size, s.named_size, size_grows 
 
 -- The head of a device has its tag.
 pub device_tag : (tail more : List ℕ) (tag : ℕ) (head : RecordHead) → IsDeviceHead head → tail ≡ tag ∷ more → BeginsHead tail head → tag ≡ 4
-device_tag tail more tag (heads.Page n) is e b = absurd is
-device_tag tail more tag (heads.Sector d n good) is e b = absurd is
-device_tag tail more tag (heads.RoundEnd n) is e b = absurd is
 device_tag tail more tag (heads.Device d len) is e b = head_same (sym e ∙ b.whole)
-device_tag tail more tag heads.Commit is e b = absurd is
-device_tag tail more tag (heads.ZeroPage n) is e b = absurd is
+device_tag tail more tag _ is e b = absurd is
 
 -- The digest that comes.
 pub digest_refused : (opening : Opened) (before : List Record) (tail behind : List ℕ) → OpensHead opening before tail heads.Commit behind → length (take 32 behind) ≡ 32 → take 32 behind ≢ sha256 (header opening ++ texts before)
@@ -357,11 +353,7 @@ never_memory (Err x) h e = h (let same : x ≡ errors.NoMemory = cc in same)
 
 pub some_spelled : (head : RecordHead) → 0 < length (spelled_head head)
 some_spelled (heads.Page n) = omega arith
-some_spelled (heads.Sector d n good) = omega arith
-some_spelled (heads.RoundEnd n) = omega arith
-some_spelled (heads.Device d len) = omega arith
-some_spelled heads.Commit = omega arith
-some_spelled (heads.ZeroPage n) = omega arith
+some_spelled _ = omega arith
 
 -- What holds anyway holds where a record was taken.
 pub anyway : {P : Type 0} (r : Result Bool RecvError) → P → OnOk r P

@@ -39,8 +39,6 @@ on_err (Err x) P h e = h
 
 pub device_begins : (tail behind : List ℕ) (head : RecordHead) → IsWholeDevice head behind → tail ≡ spelled_head head ++ behind → BeginsDevice tail
 device_begins tail behind (heads.Page n) is e = absurd is
-device_begins tail behind (heads.Sector d n good) is e = absurd is
-device_begins tail behind (heads.RoundEnd n) is e = absurd is
 device_begins tail behind (heads.Device d len) is e =
     let body = take len behind in
     let many : length body ≡ len = omega (arith, is, length-take len behind) in
@@ -51,8 +49,7 @@ device_begins tail behind (heads.Device d len) is e =
       whole = e ∙ ap (λ (x : List ℕ). spelled_head (heads.Device d len) ++ x) (sym (take-append-drop len behind)) ∙ sym (append_assoc (spelled_head (heads.Device d len)) body (drop len behind))
           ∙ ap (λ (x : List ℕ). x ++ drop len behind) (sym (spelled_with (heads.Device d len) body many));
     }
-device_begins tail behind heads.Commit is e = absurd is
-device_begins tail behind (heads.ZeroPage n) is e = absurd is
+device_begins tail behind _ is e = absurd is
 
 pub device_here : {ds : List DiskState} {opening : Opened} {before : List Record} {i : Intake} {front : List ℕ} (bytes tail : List ℕ) (from : ℕ) → HasRead ds opening before i front → bytes ≡ front ++ tail → BeginsDevice tail → from ≤ length front → HasDevice opening.ram (sizes_in ds) bytes from
 device_here {opening = opening} {before = before} {front = front} bytes tail from h e b le = record {
