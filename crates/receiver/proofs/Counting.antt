@@ -76,40 +76,14 @@ no_truncation ram sizes bytes at (inl h) = h
 no_truncation ram sizes bytes at (inr h) = h.fault
 
 pub slice_told : (base : ℕ) (sizes : List ℕ) (marks new : List Marks) (bytes : List ℕ) (e : RecvError) → MarksRefused marks e new → TellsFault (ram_at base) sizes bytes e → RefusesSlice base sizes marks bytes e
-slice_told base sizes marks new bytes errors.BadMagic m t = t
-slice_told base sizes marks new bytes errors.BadVersion m t = t
-slice_told base sizes marks new bytes errors.BadShape m t = t
-slice_told base sizes marks new bytes errors.ShapeMismatch m t = t
-slice_told base sizes marks new bytes errors.BadTag m t = t
-slice_told base sizes marks new bytes errors.BadPage m t = t
-slice_told base sizes marks new bytes errors.BadSector m t = t
-slice_told base sizes marks new bytes errors.BadRound m t = t
-slice_told base sizes marks new bytes errors.BadDevice m t = t
-slice_told base sizes marks new bytes errors.BadDigest m t = t
-slice_told base sizes marks new bytes errors.Missing m t = t
-slice_told base sizes marks new bytes errors.Trailing m t = t
 slice_told base sizes marks new bytes errors.Truncated m t = absurd (no_truncation (ram_at base) sizes bytes t.0 t.1)
 slice_told base sizes marks new bytes errors.DiskFailed m t = record { disk = m.disk; unsteady = m.unsteady }
 slice_told base sizes marks new bytes errors.NoMemory m t = tt
-slice_told base sizes marks new bytes errors.AlreadyFailed m t = t
+slice_told base sizes marks new bytes _ m t = t
 
 pub slice_cut : (base : ℕ) (sizes : List ℕ) (marks : List Marks) (bytes : List ℕ) (e : RecvError) → IsFinish bytes e → NoFault (ram_at base) sizes bytes → RefusesSlice base sizes marks bytes e
-slice_cut base sizes marks bytes errors.BadMagic h n = absurd h
-slice_cut base sizes marks bytes errors.BadVersion h n = absurd h
-slice_cut base sizes marks bytes errors.BadShape h n = absurd h
-slice_cut base sizes marks bytes errors.ShapeMismatch h n = absurd h
-slice_cut base sizes marks bytes errors.BadTag h n = absurd h
-slice_cut base sizes marks bytes errors.BadPage h n = absurd h
-slice_cut base sizes marks bytes errors.BadSector h n = absurd h
-slice_cut base sizes marks bytes errors.BadRound h n = absurd h
-slice_cut base sizes marks bytes errors.BadDevice h n = absurd h
-slice_cut base sizes marks bytes errors.BadDigest h n = absurd h
-slice_cut base sizes marks bytes errors.Missing h n = absurd h
-slice_cut base sizes marks bytes errors.Trailing h n = absurd h
 slice_cut base sizes marks bytes errors.Truncated h n = (n, h)
-slice_cut base sizes marks bytes errors.DiskFailed h n = absurd h
-slice_cut base sizes marks bytes errors.NoMemory h n = absurd h
-slice_cut base sizes marks bytes errors.AlreadyFailed h n = absurd h
+slice_cut base sizes marks bytes _ h n = absurd h
 
 -- What is told of a first piece is told of the slice.
 pub told_at_once : (ram : RamTerms) (sizes bytes : List ℕ) (e : RecvError) → TellsNow ram sizes [] bytes e → TellsFault ram sizes bytes e

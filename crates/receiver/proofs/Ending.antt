@@ -15,8 +15,9 @@ use Rattle.receiver.specs.Faults.{WaitsHead}
 use Rattle.guestmem.specs.Memory.{Memory}
 use Rattle.machine.specs.Room.{RoomSeen}
 use Rattle.std.specs.Prelude.{Err, Option}
-use Rattle.receiver.specs.Calls.{FinishesOrBack}
+use Rattle.receiver.specs.Calls.{EndsWith, FinishesOrBack}
 use Rattle.receiver.specs.Disks.{all_marks_in}
+use Rattle.receiver.specs.declared.recv_error.RecvError.{RecvError}
 use Rattle.receiver.specs.declared.recv_error.RecvError.TheVariants.{AlreadyFailed, Truncated}
 use Rattle.receiver.specs.Fed.{HasCome, IsKnownIn, IsReading}
 use Rattle.receiver.specs.Receiving.{HasBeenFed, IsFinish, IsGivenUp, IsKnown, IsReceiver, ReaderSeen, Received, end_error, place_in, received_with, IsTaken, IsWholeFor, NoNext, has_ended, has_failed}
@@ -87,10 +88,10 @@ has_come r held room lacking i kept is done =
     let ended : IsKnownIn true r.ram r.disks r.digest some.0 held i = subst (λ (b : Bool). IsKnownIn b r.ram r.disks r.digest some.0 held i) done known in
     (some.0, ended.1)
 
--- The end of a stream that is cut off, and an end after a refusal.
-pub ends_cut : (r : ReaderSeen) (held : List ℕ) (back : Received) → has_failed r.stage ≡ false → has_ended r.stage ≡ false → ((b : List ℕ) → HasBeenFed (received_with r held) b → IsFinish b Truncated) → IsGivenUp (received_with r held) back
-    → FinishesOrBack (received_with r held) (Err (Truncated, back))
-ends_cut r held back on not_yet refused given = record {
+-- An end that is refused.
+pub ends_refused : {E : Type 0} {why : E → RecvError} {Gives : E → Type 0} (old : Received) (x : E) → ((b : List ℕ) → HasBeenFed old b → IsFinish b (why x)) → why x ≡ end_error old.failed
+    → (why x ≡ Truncated → (b : List ℕ) → HasBeenFed old b → ¬ (IsWholeFor old.ram old.sizes b)) → (old.failed ≡ true → why x ≡ AlreadyFailed) → Gives x → EndsWith why Gives old (Err x)
+ends_refused old x refused told lacking already back = record {
   arrived = tt;
   received = tt;
   marks = tt;
@@ -98,27 +99,20 @@ ends_cut r held back on not_yet refused given = record {
   fits = tt;
   refused = refused;
   whole = tt;
-  told = ap end_error (sym on);
-  lacking = λ is b f. not_whole_taken r.ram r.disks r.digest b held r.stage f.bytes not_yet f.taken;
+  told = told;
+  lacking = lacking;
   place = tt;
-  already = λ f. absurd (true_false _ f on);
+  already = already;
   goes_on = tt;
-  back = given;
+  back = back;
 }
 
+-- The end of a stream that is cut off, and an end after a refusal.
+pub ends_cut : (r : ReaderSeen) (held : List ℕ) (back : Received) → has_failed r.stage ≡ false → has_ended r.stage ≡ false → ((b : List ℕ) → HasBeenFed (received_with r held) b → IsFinish b Truncated) → IsGivenUp (received_with r held) back
+    → FinishesOrBack (received_with r held) (Err (Truncated, back))
+ends_cut r held back on not_yet refused given =
+    ends_refused (received_with r held) (Truncated, back) refused (ap end_error (sym on)) (λ is b f. not_whole_taken r.ram r.disks r.digest b held r.stage f.bytes not_yet f.taken) (λ f. absurd (true_false _ f on)) given
+
 pub ends_again : (r : ReaderSeen) (held : List ℕ) (back : Received) → has_failed r.stage ≡ true → IsGivenUp (received_with r held) back → FinishesOrBack (received_with r held) (Err (AlreadyFailed, back))
-ends_again r held back failed given = record {
-  arrived = tt;
-  received = tt;
-  marks = tt;
-  based = tt;
-  fits = tt;
-  refused = λ b f. absurd (true_false _ failed f.goes_on);
-  whole = tt;
-  told = ap end_error (sym failed);
-  lacking = λ is. absurd cc;
-  place = tt;
-  already = λ f. refl;
-  goes_on = tt;
-  back = given;
-}
+ends_again r held back failed given =
+    ends_refused (received_with r held) (AlreadyFailed, back) (λ b f. absurd (true_false _ failed f.goes_on)) (ap end_error (sym failed)) (λ is. absurd cc) (λ f. refl) given

@@ -15,7 +15,7 @@ use Rattle.machine.specs.Room.{RoomSeen}
 use Rattle.receiver.specs.Calls.{Feeds, IsNew}
 use Rattle.receiver.specs.Disks.{AreKept, AreRefused, MarksRefused, all_marks_in, disk_marks_of, sizes_in, sizes_of}
 use Rattle.receiver.specs.Faults.{Fault}
-use Rattle.receiver.specs.Reading.{IsFirst, TakesPiece}
+use Rattle.receiver.specs.Reading.{IsFirst, TakesPiece, place_of}
 use Rattle.receiver.specs.Receiving.{HasBeenFed, IsPastHead, IsKnown, IsReceiver, IsTaken, Knows, NoFault, ReaderSeen, Received, TellsFault, TellsNow, has_failed, place_aside, place_in, received_by, received_with}
 use Rattle.receiver.specs.Waiting.{LacksBytes}
 use Rattle.receiver.specs.declared.stage.Stage.{Stage}
@@ -48,53 +48,25 @@ told_more : (ram : RamTerms) (sizes b piece : List ℕ) (e : RecvError) → Tell
 told_more ram sizes b piece e t none =
     tells_more ((at : ℕ) × Fault ram sizes (b ++ piece) e at) ((at : ℕ) × (length b < at) × Fault ram sizes (b ++ piece) e at) e (λ x. (x.0, later ram sizes b piece e x.0 none x.1, x.1)) t
 
--- A piece is taken or refused.
-pub record GoesOn (r : Received) (piece : List ℕ) (next : Received) : Type 0 where
-  pub ram : next.ram ≡ r.ram
-  pub sizes : next.sizes ≡ r.sizes
-  pub marks : next.marks ≡ r.marks
-  pub fed : (b : List ℕ) → HasBeenFed r b → HasBeenFed next (b ++ piece)
-  pub quiet : (b : List ℕ) → HasBeenFed r b → NoFault r.ram r.sizes (b ++ piece)
-
-pub record IsRefused (r : Received) (piece : List ℕ) (disks : List DiskState) (e : RecvError) : Type 0 where
-  pub sizes : sizes_in disks ≡ r.sizes
-  pub marks : MarksRefused r.marks e (all_marks_in disks)
-  pub told : (b : List ℕ) → HasBeenFed r b → TellsNow r.ram r.sizes b piece e
-
 all_bytes : (front held piece b : List ℕ) → b ≡ front ++ held → b ++ piece ≡ front ++ (held ++ piece)
 all_bytes front held piece b is = ap (λ (x : List ℕ). x ++ piece) is ∙ append_assoc front held piece
 
-taken_on : (ram : RamTerms) (old ds : List DiskState) (digest : Sha256) (front held piece b rest : List ℕ) (next : Stage) → b ≡ front ++ held → AreKept old ds × IsTaken ram ds digest (front ++ (held ++ piece)) rest next → IsTaken ram ds digest (b ++ piece) rest next
-taken_on ram old ds digest front held piece b rest next is t =
-    let P : List ℕ → Type 0 = λ x. IsTaken ram ds digest x rest next in
-    subst P (sym (all_bytes front held piece b is)) t.1
-
-pub goes_on : (ram : RamTerms) (place placed : Option Ptr) (ds new : List DiskState) (stage next : Stage) (d e : Sha256) (held rest piece : List ℕ) → IsBytes piece → (front : List ℕ) × IsKnown ram ds d front held stage
-    → ((front : List ℕ) → IsKnown ram ds d front held stage → AreKept ds new × IsTaken ram new e (front ++ (held ++ piece)) rest next) → GoesOn (received_by ram place ds stage d held) piece (received_by ram placed new next e rest)
-goes_on ram place placed ds new stage next d e held rest piece are some took =
-    let first = took some.0 some.1 in
-    let more : (b : List ℕ) → HasBeenFed (received_by ram place ds stage d held) b → IsTaken ram new e (b ++ piece) rest next =
-    λ b h. taken_on ram ds new e h.taken.front held piece b rest next h.taken.whole (took h.taken.front h.taken.known) in
-    record {
-      ram = refl;
-      sizes = first.0.sizes;
-      marks = first.0.marks;
-      fed = λ b h. record { goes_on = not_failed ram new e (more b h).front rest next (more b h).known; bytes = IsBytes-append b piece h.bytes are; taken = more b h };
-      quiet = λ b h. rw (← first.0.sizes) (no_fault_known ram new e (b ++ piece) rest next (more b h));
-    }
-
-pub is_refused : (ram : RamTerms) (place : Option Ptr) (ds new : List DiskState) (stage : Stage) (d : Sha256) (held piece : List ℕ) (e : RecvError) → (front : List ℕ) × IsKnown ram ds d front held stage
-    → ((front : List ℕ) → IsKnown ram ds d front held stage → AreRefused ds new e × TellsFault ram (sizes_in ds) (front ++ (held ++ piece)) e) → IsRefused (received_by ram place ds stage d held) piece new e
-is_refused ram place ds new stage d held piece e some took =
-    let first = took some.0 some.1 in
-    record {
-      sizes = first.0.sizes;
-      marks = first.0.marks;
-      told = λ b h.
-          let t = took h.taken.front h.taken.known in
-          let told : TellsFault ram (sizes_in ds) (b ++ piece) e = rw (all_bytes h.taken.front held piece b h.taken.whole) t.1 in
-          told_more ram (sizes_in ds) b piece e told (no_fault_known ram ds d b held stage h.taken);
-    }
+-- A piece that is taken.
+pub fed_on : (r n : ReaderSeen) (held rest piece : List ℕ) (x : Unit {0}) → IsBytes piece → n.ram ≡ r.ram → place_of n ≡ place_of r → AreKept r.disks n.disks → has_failed r.stage ≡ false
+    → ((b : List ℕ) → HasBeenFed (received_with r held) b → IsTaken n.ram n.disks n.digest (b ++ piece) rest n.stage) → Feeds (received_with r held) piece (Ok x) (received_with n rest)
+fed_on r n held rest piece x are ram place same on more = record {
+  ram = ram;
+  sizes = same.sizes;
+  marks = same.marks;
+  fed = λ b h. record { goes_on = not_failed n.ram n.disks n.digest (more b h).front rest n.stage (more b h).known; bytes = IsBytes-append b piece h.bytes are; taken = more b h };
+  quiet = λ b h. subst (λ (t : RamTerms). NoFault t (sizes_in r.disks) (b ++ piece)) ram
+      (subst (λ (sizes : List ℕ). NoFault n.ram sizes (b ++ piece)) same.sizes (no_fault_known n.ram n.disks n.digest (b ++ piece) rest n.stage (more b h)));
+  told = tt;
+  failed = tt;
+  place = place;
+  already = λ f. absurd (true_false _ f on);
+  memory = λ e. absurd (ok_not_err e);
+}
 
 past_on : (stage : Stage) → has_failed stage ≡ true → IsPastHead stage → ⊥
 past_on stages.Head failed past = past
@@ -145,23 +117,32 @@ not_failed_before old new before had piece held has p = by_flag (has_failed old.
     by_flag true e = absurd (ok_not_err (p.already e).0)
     by_flag false e = refl
 
+pub fed_as_taken : (r n : ReaderSeen) (held rest piece : List ℕ) (had has lacking x : ℕ) → IsBytes piece → IsReceiver r held had lacking → TakesPiece r held had piece (Ok x) n rest has → Feeds (received_with r held) piece (Ok tt) (received_with n rest)
+fed_as_taken r n held rest piece had has lacking x are kept p =
+    let on : has_failed r.stage ≡ false = not_failed_before r n held had piece rest has p in
+    let some = kept.known on in
+    fed_on r n held rest piece tt are p.ram p.place (p.took some.0 some.1).0 on
+    (λ b h. subst (λ (x : List ℕ). IsTaken n.ram n.disks n.digest x rest n.stage) (sym (all_bytes h.taken.front held piece b h.taken.whole)) (p.took h.taken.front h.taken.known).1)
+
 -- A piece that was refused: now, or after a refusal before.
 refused_now : (old new : ReaderSeen) (before held none piece : List ℕ) (had has lacking : ℕ) (e : RecvError) → IsReceiver old before had lacking → TakesPiece old before had piece (Err e) new held has → has_failed old.stage ≡ false
     → Feeds (received_with old before) piece (Err e) (received_with new none)
 refused_now old new before held none piece had has lacking e kept p on =
     let some = kept.known on in
-    let told = is_refused old.ram (place_in old.aside old.stage) old.disks new.disks old.stage old.digest before piece e some p.took in
+    let first = p.took some.0 some.1 in
     record {
       ram = p.ram;
-      sizes = told.sizes;
-      marks = told.marks;
+      sizes = first.0.sizes;
+      marks = first.0.marks;
       fed = tt;
       quiet = tt;
-      told = told.told;
+      told = λ b h.
+          let told : TellsFault old.ram (sizes_in old.disks) (b ++ piece) e = rw (all_bytes h.taken.front before piece b h.taken.whole) (p.took h.taken.front h.taken.known).1 in
+          told_more old.ram (sizes_in old.disks) b piece e told (no_fault_known old.ram old.disks old.digest b before old.stage h.taken);
       failed = p.failed;
       place = p.place;
       already = λ f. absurd (true_false _ f on);
-      memory = λ is b fed opening rest begins from at. fed_wants old.ram (place_in old.aside old.stage) old.disks old.stage old.digest before piece b opening rest from (λ front known past. p.memory kept.roomy front known past (err_again is)) fed begins at;
+      memory = λ is b fed opening rest begins from at. fed_wants old before piece b opening rest from (λ front known past. p.memory kept.roomy front known past (err_again is)) fed begins at;
     }
 
 refused_then : (old new : ReaderSeen) (before held none piece : List ℕ) (had has : ℕ) (e : RecvError) → TakesPiece old before had piece (Err e) new held has → has_failed old.stage ≡ true → Feeds (received_with old before) piece (Err e) (received_with new none)

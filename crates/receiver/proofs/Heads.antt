@@ -18,28 +18,15 @@ no_fault_yet bytes p ram sizes errors.BadMagic at h = p.no_fault heads.BadMagic 
 no_fault_yet bytes p ram sizes errors.BadVersion at h = p.no_fault heads.BadVersion at h
 no_fault_yet bytes p ram sizes errors.BadShape at h = p.no_fault heads.BadShape at h
 no_fault_yet bytes p ram sizes errors.ShapeMismatch at h = p.no_header h.opening h.more h.begins
-no_fault_yet bytes p ram sizes errors.BadTag at h = h
-no_fault_yet bytes p ram sizes errors.BadPage at h = h
-no_fault_yet bytes p ram sizes errors.BadSector at h = h
-no_fault_yet bytes p ram sizes errors.BadRound at h = h
-no_fault_yet bytes p ram sizes errors.BadDevice at h = h
-no_fault_yet bytes p ram sizes errors.BadDigest at h = h
-no_fault_yet bytes p ram sizes errors.Missing at h = h
-no_fault_yet bytes p ram sizes errors.Trailing at h = h
-no_fault_yet bytes p ram sizes errors.Truncated at h = h
-no_fault_yet bytes p ram sizes errors.DiskFailed at h = h
-no_fault_yet bytes p ram sizes errors.NoMemory at h = h
-no_fault_yet bytes p ram sizes errors.AlreadyFailed at h = h
+no_fault_yet bytes p ram sizes _ at h = h
 
 pub waits_head : (bytes : List ℕ) → IsHeaderPart bytes → WaitsHead bytes
 waits_head bytes p = record { no_header = p.no_header; no_fault = no_fault_yet bytes p }
 
 -- A fault of the header is one whatever is said of RAM and disks.
 told_so : (bytes : List ℕ) (k : HeaderError) → OnFault k ((at : ℕ) × ShowsFault k bytes at) → TellsHead (recv_error_of k) ((ram : RamTerms) (sizes : List ℕ) → (at : ℕ) × IsHeaderFault ram sizes bytes (recv_error_of k) at)
-told_so bytes heads.BadMagic h = λ ram sizes. h
-told_so bytes heads.BadVersion h = λ ram sizes. h
-told_so bytes heads.BadShape h = λ ram sizes. h
 told_so bytes heads.NoMemory h = tt
+told_so bytes _ h = λ ram sizes. h
 
 pub told_head : (bytes : List ℕ) (k : HeaderError) (e : RecvError) → e ≡ recv_error_of k → OnFault k ((at : ℕ) × ShowsFault k bytes at) → TellsHead e ((ram : RamTerms) (sizes : List ℕ) → (at : ℕ) × IsHeaderFault ram sizes bytes e at)
 told_head bytes k e is h = rw is (told_so bytes k h)
@@ -50,15 +37,4 @@ no_header_fault ram sizes bytes opening rest b fits suits errors.BadMagic at h =
 no_header_fault ram sizes bytes opening rest b fits suits errors.BadVersion at h = begun_without_fault bytes opening rest b heads.BadVersion at h
 no_header_fault ram sizes bytes opening rest b fits suits errors.BadShape at h = begun_without_fault bytes opening rest b heads.BadShape at h
 no_header_fault ram sizes bytes opening rest b fits suits errors.ShapeMismatch at h = h.never (fits ∙ ap disk_sizes (header_same b h.begins), subst (HasPages ram) (sym (says_of b).pages_are ∙ (says_of h.begins).pages_are) suits)
-no_header_fault ram sizes bytes opening rest b fits suits errors.BadTag at h = h
-no_header_fault ram sizes bytes opening rest b fits suits errors.BadPage at h = h
-no_header_fault ram sizes bytes opening rest b fits suits errors.BadSector at h = h
-no_header_fault ram sizes bytes opening rest b fits suits errors.BadRound at h = h
-no_header_fault ram sizes bytes opening rest b fits suits errors.BadDevice at h = h
-no_header_fault ram sizes bytes opening rest b fits suits errors.BadDigest at h = h
-no_header_fault ram sizes bytes opening rest b fits suits errors.Missing at h = h
-no_header_fault ram sizes bytes opening rest b fits suits errors.Trailing at h = h
-no_header_fault ram sizes bytes opening rest b fits suits errors.Truncated at h = h
-no_header_fault ram sizes bytes opening rest b fits suits errors.DiskFailed at h = h
-no_header_fault ram sizes bytes opening rest b fits suits errors.NoMemory at h = h
-no_header_fault ram sizes bytes opening rest b fits suits errors.AlreadyFailed at h = h
+no_header_fault ram sizes bytes opening rest b fits suits _ at h = h

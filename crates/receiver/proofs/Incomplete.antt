@@ -1,6 +1,7 @@
 -- Bytes that wait for a body wait on, while it is incomplete.
 use Rattle.std.proofs.Common.{◌≡◌, ℕ, ◌+◌, ◌<◌, ◌≤◌, inl, inr, Bool, true, false, List, ◌∷◌, ◌++◌, length, drop, refl, sym, ap, ◌∙◌, append_assoc, arith, Option}
 use denote.RawPtr.{Ptr}
+use Rattle.std.specs.Prelude.{Ok}
 use Rattle.std.proofs.lemmas.List.{length-append}
 use Rattle.sha2.specs.Sha256.{sha256}
 use Rattle.sha2.specs.declared.Sha256.{Sha256}
@@ -18,7 +19,8 @@ use Rattle.wire.proofs.Heads.{begins, no_body, one_head}
 use Rattle.receiver.specs.Good.{devices_in}
 use Rattle.receiver.specs.Faults.{IsFault}
 use Rattle.receiver.specs.Fed.{IsKnownIn, Waits}
-use Rattle.receiver.specs.Receiving.{HasBeenFed, IsKnown, IsReceiver, IsTaken, ReaderSeen, has_failed, received_by}
+use Rattle.receiver.specs.Calls.{Feeds}
+use Rattle.receiver.specs.Receiving.{IsKnown, IsReceiver, ReaderSeen, has_failed, received_with}
 use Rattle.receiver.specs.Waiting.{LacksBytes, ReadsRecords}
 use Rattle.receiver.specs.declared.intake.Intake.{Intake}
 use Rattle.receiver.specs.declared.stage.Stage.{Stage}
@@ -26,10 +28,11 @@ use Rattle.receiver.specs.declared.stage.Stage.TheVariants as stages
 use Rattle.receiver.specs.declared.ram_terms.RamTerms.{RamTerms}
 use Rattle.receiver.specs.declared.recv_error.RecvError.{RecvError}
 use Rattle.receiver.specs.declared.recv_error.RecvError.TheVariants as errors
-use Rattle.receiver.proofs.Feeding.{GoesOn, is_receiver}
+use Rattle.receiver.proofs.Feeding.{fed_on, is_receiver}
 use Rattle.receiver.proofs.Knowing.{no_fault_known}
 use Rattle.receiver.proofs.Prefixes.{holds_here}
 use Rattle.receiver.proofs.Standing.{second_low}
+use Rattle.receiver.proofs.Working.{kept}
 
 -- The held bytes begin with a head, and as many as any head has; the record is incomplete also with the piece behind them.
 pub record IsWithinBody (stage : Stage) (held piece : List ℕ) : Type 0 where
@@ -64,10 +67,6 @@ short_body held piece head b short =
 -- Its faults stand within the bytes that wait.
 within : (opening : Opened) (before : List Record) (held piece : List ℕ) (head : RecordHead) → IsBytes (held ++ piece) → BeginsHead held head → 7 ≤ length held → length held + length piece < length (spelled_head head) + body_len head
     → (k : RecvError) (place : ℕ) → IsFault opening before (held ++ piece) k place → place ≤ length held
-within opening before held piece head are b long short errors.BadMagic place h = absurd h
-within opening before held piece head are b long short errors.BadVersion place h = absurd h
-within opening before held piece head are b long short errors.BadShape place h = absurd h
-within opening before held piece head are b long short errors.ShapeMismatch place h = absurd h
 within opening before held piece head are b long short errors.BadTag place h = omega (arith, long, h.there)
 within opening before held piece head are b long short errors.BadPage place (inl h) = omega (arith, long, h.there)
 within opening before held piece head are b long short errors.BadPage place (inr h) =
@@ -91,10 +90,7 @@ within opening before held piece head are b long short errors.Trailing place h =
     let rest = drop (length (spelled_head head)) held ++ piece in
     let t = one_head head heads.Commit rest (sum ++ (h.byte ∷ h.more)) b.fits tt (sym (behind_head held piece head b) ∙ h.opens.whole) in
     absurd (omega (arith, short_body held piece head b short, ap body_len t.0, ap length t.1, length-append sum (h.byte ∷ h.more), length-sha256 (header opening ++ texts before)))
-within opening before held piece head are b long short errors.Truncated place h = absurd h
-within opening before held piece head are b long short errors.DiskFailed place h = absurd h
-within opening before held piece head are b long short errors.NoMemory place h = absurd h
-within opening before held piece head are b long short errors.AlreadyFailed place h = absurd h
+within opening before held piece head are b long short _ place h = absurd h
 
 waits_on : (opening : Opened) (before : List Record) (stage : Stage) (held piece : List ℕ) → IsWithinBody stage held piece → Waits opening before held → Waits opening before (held ++ piece)
 waits_on opening before stage held piece w waits = record {
@@ -121,22 +117,19 @@ known_on ram ds digest front held piece stages.Head w known = absurd w.reads
 known_on ram ds digest front held piece (stages.Records i) w known = known_in i.ended ram ds digest front held piece i w known
 known_on ram ds digest front held piece stages.Failed w known = absurd w.reads
 
+on_reading : (stage : Stage) → ReadsRecords stage → has_failed stage ≡ false
+on_reading stages.Head reads = absurd reads
+on_reading (stages.Records i) reads = refl
+on_reading stages.Failed reads = absurd reads
+
 -- The piece is taken, and the receiver is one still.
-pub held_on : (ram : RamTerms) (place : Option Ptr) (ds : List DiskState) (stage : Stage) (digest : Sha256) (held piece : List ℕ) → IsBytes piece → IsWithinBody stage held piece → GoesOn (received_by ram place ds stage digest held) piece (received_by ram place ds stage digest (held ++ piece))
-held_on ram place ds stage digest held piece are w =
-    let more : (b : List ℕ) → HasBeenFed (received_by ram place ds stage digest held) b → IsTaken ram ds digest (b ++ piece) (held ++ piece) stage =
-    λ b h. record {
+pub held_on : (r : ReaderSeen) (held piece : List ℕ) (lacking : ℕ) → IsBytes piece → length piece < lacking → LacksBytes r.stage held lacking → Feeds (received_with r held) piece (Ok tt) (received_with r (held ++ piece))
+held_on r held piece lacking are less l =
+    fed_on r r held (held ++ piece) piece tt are refl refl (kept r.disks) (on_reading r.stage l.reads) (λ b h. record {
       front = h.taken.front;
       whole = ap (λ (x : List ℕ). x ++ piece) h.taken.whole ∙ append_assoc h.taken.front held piece;
-      known = known_on ram ds digest h.taken.front held piece stage w h.taken.known;
-    } in
-    record {
-      ram = refl;
-      sizes = refl;
-      marks = refl;
-      fed = λ b h. record { goes_on = h.goes_on; bytes = IsBytes-append b piece h.bytes are; taken = more b h };
-      quiet = λ b h. no_fault_known ram ds digest (b ++ piece) (held ++ piece) stage (more b h);
-    }
+      known = known_on r.ram r.disks r.digest h.taken.front held piece r.stage (within_body r.stage held piece lacking are less l) h.taken.known;
+    })
 
 -- With the piece behind the held bytes, the record lacks so many fewer.
 lacks_on : (stage : Stage) (held piece : List ℕ) (lacking left : ℕ) → IsBytes piece → left + length piece ≡ lacking → LacksBytes stage held lacking → LacksBytes stage (held ++ piece) left
@@ -149,11 +142,6 @@ lacks_on stage held piece lacking left are is l = record {
   short = omega (arith, l.short, is, length-append held piece);
   few = omega (arith, l.few, is, length-append held piece);
 }
-
-pub on_reading : (stage : Stage) → ReadsRecords stage → has_failed stage ≡ false
-on_reading stages.Head reads = absurd reads
-on_reading (stages.Records i) reads = refl
-on_reading stages.Failed reads = absurd reads
 
 pub receiver_on : (r : ReaderSeen) (held piece : List ℕ) (room more lacking left : ℕ) → IsBytes piece → length piece < lacking → left + length piece ≡ lacking → IsReceiver r held room lacking → room ≤ more → IsReceiver r (held ++ piece) more left
 receiver_on r held piece room more lacking left are less is kept le =

@@ -52,13 +52,9 @@ nothing_known = waits_head [] (head_short [] (omega arith) (λ at h. omega (arit
 
 pub no_other : (opening : Opened) (before : List Record) (digest : List ℕ) (r : Record) (y : List ℕ) → Follows opening before r → ¬ (5 ∷ digest ≡ spelled_record r ++ y)
 unfolding spelled_record
-no_other opening before digest (page n b) y f e = cc
 no_other opening before digest (sector d n (Some b)) y f e = cc
-no_other opening before digest (sector d n None) y f e = cc
-no_other opening before digest (round_end n) y f e = cc
-no_other opening before digest (device d b) y f e = cc
 no_other opening before digest (commit b) y f e = f.may
-no_other opening before digest (zero_page n) y f e = cc
+no_other opening before digest _ y f e = cc
 
 digest_quiet : (opening : Opened) (before : List Record) (digest : List ℕ) → digest ≡ sha256 (header opening ++ texts before) → (place : ℕ)
     → ¬ (IsBadDigest opening before (5 ∷ digest) place ⊎ IsTrailing opening before (5 ∷ digest) place)

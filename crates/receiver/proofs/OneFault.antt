@@ -36,10 +36,6 @@ by_tag : (G : RecvError → ℕ → Type 0) (opening : Opened) (before : List Re
     → (tag ≡ 4 → (q : ℕ) → IsBadHead opening before tail q → G errors.BadDevice q) → (tag ≡ 4 → (q : ℕ) → IsBadBody opening before tail q → G errors.BadDevice q)
     → (tag ≡ 5 → (q : ℕ) → IsBadDigest opening before tail q → G errors.BadDigest q) → (tag ≡ 5 → (q : ℕ) → IsTrailing opening before tail q → G errors.Trailing q)
     → (j : RecvError) (q : ℕ) → IsFault opening before tail j q → G j q
-by_tag G opening before tail tag more o p s r d b c t errors.BadMagic q h = absurd h
-by_tag G opening before tail tag more o p s r d b c t errors.BadVersion q h = absurd h
-by_tag G opening before tail tag more o p s r d b c t errors.BadShape q h = absurd h
-by_tag G opening before tail tag more o p s r d b c t errors.ShapeMismatch q h = absurd h
 by_tag G opening before tail tag more o p s r d b c t errors.BadTag q h = absurd (h.never (subst (MayTag opening.version (length opening.shapes) (devices_in before)) (head_same (sym o.whole ∙ h.whole)) o.may))
 by_tag G opening before tail tag more o p s r d b c t errors.BadPage q (inl h) = p (subst IsPageTag (head_same (sym h.opens.whole ∙ o.whole)) h.names) q (inl h)
 by_tag G opening before tail tag more o p s r d b c t errors.BadPage q (inr h) = p (inl (head_same (sym o.whole ∙ h.opens.whole))) q (inr h)
@@ -50,16 +46,9 @@ by_tag G opening before tail tag more o p s r d b c t errors.BadDevice q (inr h)
 by_tag G opening before tail tag more o p s r d b c t errors.BadDigest q h = c (head_same (sym o.whole ∙ h.opens.whole)) q h
 by_tag G opening before tail tag more o p s r d b c t errors.Missing q h = let same : tag ≡ h.tag = head_same (sym o.whole ∙ h.whole) in absurd (h.never (subst (IsComplete opening before) same (o.complete (subst IsLate (sym same) h.late))))
 by_tag G opening before tail tag more o p s r d b c t errors.Trailing q h = t (head_same (sym o.whole ∙ h.opens.whole)) q h
-by_tag G opening before tail tag more o p s r d b c t errors.Truncated q h = absurd h
-by_tag G opening before tail tag more o p s r d b c t errors.DiskFailed q h = absurd h
-by_tag G opening before tail tag more o p s r d b c t errors.NoMemory q h = absurd h
-by_tag G opening before tail tag more o p s r d b c t errors.AlreadyFailed q h = absurd h
+by_tag G opening before tail tag more o p s r d b c t _ q h = absurd h
 
 one_tag : (opening : Opened) (before : List Record) (tail : List ℕ) (p : ℕ) → IsBadTag opening before tail p → (j : RecvError) (q : ℕ) → IsFault opening before tail j q → Same errors.BadTag p j q
-one_tag opening before tail p f errors.BadMagic q h = absurd h
-one_tag opening before tail p f errors.BadVersion q h = absurd h
-one_tag opening before tail p f errors.BadShape q h = absurd h
-one_tag opening before tail p f errors.ShapeMismatch q h = absurd h
 one_tag opening before tail p f errors.BadTag q h = (refl, f.there ∙ sym h.there)
 one_tag opening before tail p f errors.BadPage q (inl h) = absurd (f.never (subst (MayTag opening.version (length opening.shapes) (devices_in before)) (head_same (sym h.opens.whole ∙ f.whole)) h.opens.may))
 one_tag opening before tail p f errors.BadPage q (inr h) = absurd (f.never (subst (MayTag opening.version (length opening.shapes) (devices_in before)) (head_same (sym h.opens.whole ∙ f.whole)) h.opens.may))
@@ -70,16 +59,9 @@ one_tag opening before tail p f errors.BadDevice q (inr h) = absurd (f.never (su
 one_tag opening before tail p f errors.BadDigest q h = absurd (f.never (subst (MayTag opening.version (length opening.shapes) (devices_in before)) (head_same (sym h.opens.whole ∙ f.whole)) h.opens.may))
 one_tag opening before tail p f errors.Missing q h = absurd (f.never (subst (MayTag opening.version (length opening.shapes) (devices_in before)) (head_same (sym h.whole ∙ f.whole)) h.may))
 one_tag opening before tail p f errors.Trailing q h = absurd (f.never (subst (MayTag opening.version (length opening.shapes) (devices_in before)) (head_same (sym h.opens.whole ∙ f.whole)) h.opens.may))
-one_tag opening before tail p f errors.Truncated q h = absurd h
-one_tag opening before tail p f errors.DiskFailed q h = absurd h
-one_tag opening before tail p f errors.NoMemory q h = absurd h
-one_tag opening before tail p f errors.AlreadyFailed q h = absurd h
+one_tag opening before tail p f _ q h = absurd h
 
 one_missing : (opening : Opened) (before : List Record) (tail : List ℕ) (p : ℕ) → IsMissing opening before tail p → (j : RecvError) (q : ℕ) → IsFault opening before tail j q → Same errors.Missing p j q
-one_missing opening before tail p f errors.BadMagic q h = absurd h
-one_missing opening before tail p f errors.BadVersion q h = absurd h
-one_missing opening before tail p f errors.BadShape q h = absurd h
-one_missing opening before tail p f errors.ShapeMismatch q h = absurd h
 one_missing opening before tail p f errors.BadTag q h = absurd (h.never (subst (MayTag opening.version (length opening.shapes) (devices_in before)) (head_same (sym f.whole ∙ h.whole)) f.may))
 one_missing opening before tail p f errors.BadPage q (inl h) = let same = head_same (sym h.opens.whole ∙ f.whole) in absurd (f.never (subst (IsComplete opening before) same (h.opens.complete (subst IsLate (sym same) f.late))))
 one_missing opening before tail p f errors.BadPage q (inr h) = let same = head_same (sym h.opens.whole ∙ f.whole) in absurd (f.never (subst (IsComplete opening before) same (h.opens.complete (subst IsLate (sym same) f.late))))
@@ -90,10 +72,7 @@ one_missing opening before tail p f errors.BadDevice q (inr h) = let same = head
 one_missing opening before tail p f errors.BadDigest q h = let same = head_same (sym h.opens.whole ∙ f.whole) in absurd (f.never (subst (IsComplete opening before) same (h.opens.complete (subst IsLate (sym same) f.late))))
 one_missing opening before tail p f errors.Missing q h = (refl, f.there ∙ sym h.there)
 one_missing opening before tail p f errors.Trailing q h = let same = head_same (sym h.opens.whole ∙ f.whole) in absurd (f.never (subst (IsComplete opening before) same (h.opens.complete (subst IsLate (sym same) f.late))))
-one_missing opening before tail p f errors.Truncated q h = absurd h
-one_missing opening before tail p f errors.DiskFailed q h = absurd h
-one_missing opening before tail p f errors.NoMemory q h = absurd h
-one_missing opening before tail p f errors.AlreadyFailed q h = absurd h
+one_missing opening before tail p f _ q h = absurd h
 
 head_body : (opening : Opened) (before : List Record) (tail : List ℕ) (p q : ℕ) → IsBadHead opening before tail p → IsBadBody opening before tail q → ⊥
 head_body opening before tail p q f h =
@@ -129,10 +108,6 @@ zeros_page opening before tail p q f (inl h) = absurd (zeros_number opening befo
 zeros_page opening before tail p q f (inr h) = f.there ∙ sym h.there
 
 one_local : (opening : Opened) (before : List Record) (tail : List ℕ) (k : RecvError) (p : ℕ) → IsFault opening before tail k p → (j : RecvError) (q : ℕ) → IsFault opening before tail j q → Same k p j q
-one_local opening before tail errors.BadMagic p f = absurd f
-one_local opening before tail errors.BadVersion p f = absurd f
-one_local opening before tail errors.BadShape p f = absurd f
-one_local opening before tail errors.ShapeMismatch p f = absurd f
 one_local opening before tail errors.BadTag p f = one_tag opening before tail p f
 one_local opening before tail errors.BadPage p (inl f) = by_tag (λ j q. Same errors.BadPage p j q) opening before tail f.tag _ f.opens (λ z q h. (refl, page_page opening before tail p q f h)) (λ z q h. absurd (page_not f.tag f.names 2 (omega arith) (omega arith) z)) (λ z q h. absurd (page_not f.tag f.names 3 (omega arith) (omega arith) z)) (λ z q h. absurd (page_not f.tag f.names 4 (omega arith) (omega arith) z)) (λ z q h. absurd (page_not f.tag f.names 4 (omega arith) (omega arith) z)) (λ z q h. absurd (page_not f.tag f.names 5 (omega arith) (omega arith) z)) (λ z q h. absurd (page_not f.tag f.names 5 (omega arith) (omega arith) z))
 one_local opening before tail errors.BadPage p (inr f) = by_tag (λ j q. Same errors.BadPage p j q) opening before tail 1 _ f.opens (λ z q h. (refl, zeros_page opening before tail p q f h)) (λ z q h. absurd (omega (arith, z))) (λ z q h. absurd (omega (arith, z))) (λ z q h. absurd (omega (arith, z))) (λ z q h. absurd (omega (arith, z))) (λ z q h. absurd (omega (arith, z))) (λ z q h. absurd (omega (arith, z)))
@@ -143,10 +118,7 @@ one_local opening before tail errors.BadDevice p (inr f) = by_tag (λ j q. Same 
 one_local opening before tail errors.BadDigest p f = by_tag (λ j q. Same errors.BadDigest p j q) opening before tail 5 _ f.opens (λ z q h. absurd (no_page 5 (omega arith) (omega arith) z)) (λ z q h. absurd (omega (arith, z))) (λ z q h. absurd (omega (arith, z))) (λ z q h. absurd (omega (arith, z))) (λ z q h. absurd (omega (arith, z))) (λ z q h. (refl, f.there ∙ sym h.there)) (λ z q h. absurd (digest_trailing opening before tail p q f h))
 one_local opening before tail errors.Missing p f = one_missing opening before tail p f
 one_local opening before tail errors.Trailing p f = by_tag (λ j q. Same errors.Trailing p j q) opening before tail 5 _ f.opens (λ z q h. absurd (no_page 5 (omega arith) (omega arith) z)) (λ z q h. absurd (omega (arith, z))) (λ z q h. absurd (omega (arith, z))) (λ z q h. absurd (omega (arith, z))) (λ z q h. absurd (omega (arith, z))) (λ z q h. absurd (digest_trailing opening before tail q p h f)) (λ z q h. (refl, f.there ∙ sym h.there))
-one_local opening before tail errors.Truncated p f = absurd f
-one_local opening before tail errors.DiskFailed p f = absurd f
-one_local opening before tail errors.NoMemory p f = absurd f
-one_local opening before tail errors.AlreadyFailed p f = absurd f
+one_local opening before tail _ p f = absurd f
 
 longer_one : (opening : Opened) (before others : List Record) (tail rest : List ℕ) (k j : RecvError) (p q : ℕ) → AreGood opening [] others → IsFault opening before tail k p → IsFault opening others rest j q
     → (more : List Record) → others ≡ before ++ more → tail ≡ texts more ++ rest → (k ≡ j) × (length (texts before) + p ≡ length (texts others) + q)
@@ -196,18 +168,7 @@ one_magic ram sizes bytes p f errors.BadVersion q h = absurd (f.never h.magic)
 one_magic ram sizes bytes p f errors.BadShape q (inl h) = absurd (f.never h.says.magic)
 one_magic ram sizes bytes p f errors.BadShape q (inr h) = absurd (f.never h.says.magic)
 one_magic ram sizes bytes p f errors.ShapeMismatch q h = absurd (f.never (says_of h.begins).magic)
-one_magic ram sizes bytes p f errors.BadTag q h = absurd h
-one_magic ram sizes bytes p f errors.BadPage q h = absurd h
-one_magic ram sizes bytes p f errors.BadSector q h = absurd h
-one_magic ram sizes bytes p f errors.BadRound q h = absurd h
-one_magic ram sizes bytes p f errors.BadDevice q h = absurd h
-one_magic ram sizes bytes p f errors.BadDigest q h = absurd h
-one_magic ram sizes bytes p f errors.Missing q h = absurd h
-one_magic ram sizes bytes p f errors.Trailing q h = absurd h
-one_magic ram sizes bytes p f errors.Truncated q h = absurd h
-one_magic ram sizes bytes p f errors.DiskFailed q h = absurd h
-one_magic ram sizes bytes p f errors.NoMemory q h = absurd h
-one_magic ram sizes bytes p f errors.AlreadyFailed q h = absurd h
+one_magic ram sizes bytes p f _ q h = absurd h
 
 one_version : (ram : RamTerms) (sizes bytes : List ℕ) (p : ℕ) → IsBadVersion bytes p → (j : RecvError) (q : ℕ) → IsHeaderFault ram sizes bytes j q → Same errors.BadVersion p j q
 one_version ram sizes bytes p f errors.BadMagic q h = absurd (h.never f.magic)
@@ -215,18 +176,7 @@ one_version ram sizes bytes p f errors.BadVersion q h = (refl, f.there ∙ sym h
 one_version ram sizes bytes p f errors.BadShape q (inl h) = absurd (f.never h.says.known)
 one_version ram sizes bytes p f errors.BadShape q (inr h) = absurd (f.never h.says.known)
 one_version ram sizes bytes p f errors.ShapeMismatch q h = absurd (f.never (says_of h.begins).known)
-one_version ram sizes bytes p f errors.BadTag q h = absurd h
-one_version ram sizes bytes p f errors.BadPage q h = absurd h
-one_version ram sizes bytes p f errors.BadSector q h = absurd h
-one_version ram sizes bytes p f errors.BadRound q h = absurd h
-one_version ram sizes bytes p f errors.BadDevice q h = absurd h
-one_version ram sizes bytes p f errors.BadDigest q h = absurd h
-one_version ram sizes bytes p f errors.Missing q h = absurd h
-one_version ram sizes bytes p f errors.Trailing q h = absurd h
-one_version ram sizes bytes p f errors.Truncated q h = absurd h
-one_version ram sizes bytes p f errors.DiskFailed q h = absurd h
-one_version ram sizes bytes p f errors.NoMemory q h = absurd h
-one_version ram sizes bytes p f errors.AlreadyFailed q h = absurd h
+one_version ram sizes bytes p f _ q h = absurd h
 
 one_count : (ram : RamTerms) (sizes bytes : List ℕ) (p : ℕ) → IsBadCount bytes p → (j : RecvError) (q : ℕ) → IsHeaderFault ram sizes bytes j q → Same errors.BadShape p j q
 one_count ram sizes bytes p f errors.BadMagic q h = absurd (h.never f.says.magic)
@@ -234,18 +184,7 @@ one_count ram sizes bytes p f errors.BadVersion q h = absurd (h.never f.says.kno
 one_count ram sizes bytes p f errors.BadShape q (inl h) = (refl, f.there ∙ sym h.there)
 one_count ram sizes bytes p f errors.BadShape q (inr h) = absurd (f.never (rw (sym f.says.pages_are ∙ h.says.pages_are, sym f.says.count_is ∙ h.says.count_is) h.may))
 one_count ram sizes bytes p f errors.ShapeMismatch q h = absurd (no_header_fault (ram_at 0) (disk_sizes h.opening.shapes) bytes h.opening h.more h.begins refl tt errors.BadShape p (inl f))
-one_count ram sizes bytes p f errors.BadTag q h = absurd h
-one_count ram sizes bytes p f errors.BadPage q h = absurd h
-one_count ram sizes bytes p f errors.BadSector q h = absurd h
-one_count ram sizes bytes p f errors.BadRound q h = absurd h
-one_count ram sizes bytes p f errors.BadDevice q h = absurd h
-one_count ram sizes bytes p f errors.BadDigest q h = absurd h
-one_count ram sizes bytes p f errors.Missing q h = absurd h
-one_count ram sizes bytes p f errors.Trailing q h = absurd h
-one_count ram sizes bytes p f errors.Truncated q h = absurd h
-one_count ram sizes bytes p f errors.DiskFailed q h = absurd h
-one_count ram sizes bytes p f errors.NoMemory q h = absurd h
-one_count ram sizes bytes p f errors.AlreadyFailed q h = absurd h
+one_count ram sizes bytes p f _ q h = absurd h
 
 one_shape_fault : (ram : RamTerms) (sizes bytes : List ℕ) (p : ℕ) → IsBadShape bytes p → (j : RecvError) (q : ℕ) → IsHeaderFault ram sizes bytes j q → Same errors.BadShape p j q
 one_shape_fault ram sizes bytes p f errors.BadMagic q h = absurd (h.never f.says.magic)
@@ -253,18 +192,7 @@ one_shape_fault ram sizes bytes p f errors.BadVersion q h = absurd (h.never f.sa
 one_shape_fault ram sizes bytes p f errors.BadShape q (inl h) = absurd (h.never (rw (sym h.says.pages_are ∙ f.says.pages_are, sym h.says.count_is ∙ f.says.count_is) f.may))
 one_shape_fault ram sizes bytes p f errors.BadShape q (inr h) = (refl, omega (arith, f.there, h.there, shapes_one f.shapes h.shapes f.bad h.bad f.more h.more f.sound h.sound f.never h.never (shapes_led f.shapes h.shapes (f.bad ++ f.more) (h.bad ++ h.more) f.sound h.sound (sym f.whole ∙ h.whole))))
 one_shape_fault ram sizes bytes p f errors.ShapeMismatch q h = absurd (no_header_fault (ram_at 0) (disk_sizes h.opening.shapes) bytes h.opening h.more h.begins refl tt errors.BadShape p (inr f))
-one_shape_fault ram sizes bytes p f errors.BadTag q h = absurd h
-one_shape_fault ram sizes bytes p f errors.BadPage q h = absurd h
-one_shape_fault ram sizes bytes p f errors.BadSector q h = absurd h
-one_shape_fault ram sizes bytes p f errors.BadRound q h = absurd h
-one_shape_fault ram sizes bytes p f errors.BadDevice q h = absurd h
-one_shape_fault ram sizes bytes p f errors.BadDigest q h = absurd h
-one_shape_fault ram sizes bytes p f errors.Missing q h = absurd h
-one_shape_fault ram sizes bytes p f errors.Trailing q h = absurd h
-one_shape_fault ram sizes bytes p f errors.Truncated q h = absurd h
-one_shape_fault ram sizes bytes p f errors.DiskFailed q h = absurd h
-one_shape_fault ram sizes bytes p f errors.NoMemory q h = absurd h
-one_shape_fault ram sizes bytes p f errors.AlreadyFailed q h = absurd h
+one_shape_fault ram sizes bytes p f _ q h = absurd h
 
 header_length : {bytes x y : List ℕ} {o p : told.Opening} → told.Begins bytes o x → told.Begins bytes p y → length (told.header o) ≡ length (told.header p)
 header_length {o = o} {p = p} a b = omega (arith, length_header o, length_header p, ap (λ (z : List Shape). length (spelled_shapes z)) (header_same a b))
@@ -275,18 +203,7 @@ one_mismatch ram sizes bytes p f errors.BadVersion q h = absurd (h.never (says_o
 one_mismatch ram sizes bytes p f errors.BadShape q (inl h) = absurd (no_header_fault (ram_at 0) (disk_sizes f.opening.shapes) bytes f.opening f.more f.begins refl tt errors.BadShape q (inl h))
 one_mismatch ram sizes bytes p f errors.BadShape q (inr h) = absurd (no_header_fault (ram_at 0) (disk_sizes f.opening.shapes) bytes f.opening f.more f.begins refl tt errors.BadShape q (inr h))
 one_mismatch ram sizes bytes p f errors.ShapeMismatch q h = (refl, f.there ∙ header_length f.begins h.begins ∙ sym h.there)
-one_mismatch ram sizes bytes p f errors.BadTag q h = absurd h
-one_mismatch ram sizes bytes p f errors.BadPage q h = absurd h
-one_mismatch ram sizes bytes p f errors.BadSector q h = absurd h
-one_mismatch ram sizes bytes p f errors.BadRound q h = absurd h
-one_mismatch ram sizes bytes p f errors.BadDevice q h = absurd h
-one_mismatch ram sizes bytes p f errors.BadDigest q h = absurd h
-one_mismatch ram sizes bytes p f errors.Missing q h = absurd h
-one_mismatch ram sizes bytes p f errors.Trailing q h = absurd h
-one_mismatch ram sizes bytes p f errors.Truncated q h = absurd h
-one_mismatch ram sizes bytes p f errors.DiskFailed q h = absurd h
-one_mismatch ram sizes bytes p f errors.NoMemory q h = absurd h
-one_mismatch ram sizes bytes p f errors.AlreadyFailed q h = absurd h
+one_mismatch ram sizes bytes p f _ q h = absurd h
 
 one_header_fault : (ram : RamTerms) (sizes bytes : List ℕ) (k : RecvError) (p : ℕ) → IsHeaderFault ram sizes bytes k p → (j : RecvError) (q : ℕ) → IsHeaderFault ram sizes bytes j q → Same k p j q
 one_header_fault ram sizes bytes errors.BadMagic p f = one_magic ram sizes bytes p f
@@ -294,18 +211,7 @@ one_header_fault ram sizes bytes errors.BadVersion p f = one_version ram sizes b
 one_header_fault ram sizes bytes errors.BadShape p (inl f) = one_count ram sizes bytes p f
 one_header_fault ram sizes bytes errors.BadShape p (inr f) = one_shape_fault ram sizes bytes p f
 one_header_fault ram sizes bytes errors.ShapeMismatch p f = one_mismatch ram sizes bytes p f
-one_header_fault ram sizes bytes errors.BadTag p f = absurd f
-one_header_fault ram sizes bytes errors.BadPage p f = absurd f
-one_header_fault ram sizes bytes errors.BadSector p f = absurd f
-one_header_fault ram sizes bytes errors.BadRound p f = absurd f
-one_header_fault ram sizes bytes errors.BadDevice p f = absurd f
-one_header_fault ram sizes bytes errors.BadDigest p f = absurd f
-one_header_fault ram sizes bytes errors.Missing p f = absurd f
-one_header_fault ram sizes bytes errors.Trailing p f = absurd f
-one_header_fault ram sizes bytes errors.Truncated p f = absurd f
-one_header_fault ram sizes bytes errors.DiskFailed p f = absurd f
-one_header_fault ram sizes bytes errors.NoMemory p f = absurd f
-one_header_fault ram sizes bytes errors.AlreadyFailed p f = absurd f
+one_header_fault ram sizes bytes _ p f = absurd f
 
 pub one_fault : (ram : RamTerms) (sizes bytes : List ℕ) (k j : RecvError) (at bt : ℕ) → Fault ram sizes bytes k at → Fault ram sizes bytes j bt → Same k at j bt
 one_fault ram sizes bytes k j at bt (inl f) (inl h) = one_header_fault ram sizes bytes k at f j bt h

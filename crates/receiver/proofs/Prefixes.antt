@@ -40,10 +40,6 @@ opens_at : (opening : Opened) (before : List Record) (long tail : List ℕ) (tag
 opens_at opening before long tail tag more other o e = record { whole = e; may = o.may; complete = o.complete }
 
 stays_here : (opening : Opened) (before : List Record) (tail c : List ℕ) (k : RecvError) (p : ℕ) → IsFault opening before tail k p → IsFault opening before (tail ++ c) k p
-stays_here opening before tail c errors.BadMagic p h = absurd h
-stays_here opening before tail c errors.BadVersion p h = absurd h
-stays_here opening before tail c errors.BadShape p h = absurd h
-stays_here opening before tail c errors.ShapeMismatch p h = absurd h
 stays_here opening before tail c errors.BadTag p h = record { tag = h.tag; more = h.more ++ c; whole = ap (λ (x : List ℕ). x ++ c) h.whole; never = h.never; there = h.there }
 stays_here opening before tail c errors.BadPage p (inl h) = inl (record { tag = h.tag; number = h.number; more = h.more ++ c; names = h.names; opens = opens_on opening before tail c h.tag _ _ h.opens (append_assoc (digits 4 h.number) h.more c); fits = h.fits; never = h.never; there = h.there })
 stays_here opening before tail c errors.BadPage p (inr h) = inr (record { number = h.number; bytes = h.bytes; more = h.more ++ c; opens = opens_on opening before tail c 1 _ _ h.opens (append_assoc (digits 4 h.number) (h.bytes ++ h.more) c ∙ ap (λ (x : List ℕ). digits 4 h.number ++ x) (append_assoc h.bytes h.more c)); fits = h.fits; within = h.within; long = h.long; zeros = h.zeros; there = h.there })
@@ -54,16 +50,9 @@ stays_here opening before tail c errors.BadDevice p (inr h) = inr (record { body
 stays_here opening before tail c errors.BadDigest p h = record { digest = h.digest; more = h.more ++ c; opens = opens_on opening before tail c 5 _ _ h.opens (append_assoc h.digest h.more c); long = h.long; never = h.never; there = h.there }
 stays_here opening before tail c errors.Missing p h = record { tag = h.tag; more = h.more ++ c; whole = ap (λ (x : List ℕ). x ++ c) h.whole; may = h.may; late = h.late; never = h.never; there = h.there }
 stays_here opening before tail c errors.Trailing p h = record { byte = h.byte; more = h.more ++ c; opens = opens_on opening before tail c 5 _ _ h.opens (append_assoc (sha256 (header opening ++ texts before)) (h.byte ∷ h.more) c); there = h.there }
-stays_here opening before tail c errors.Truncated p h = absurd h
-stays_here opening before tail c errors.DiskFailed p h = absurd h
-stays_here opening before tail c errors.NoMemory p h = absurd h
-stays_here opening before tail c errors.AlreadyFailed p h = absurd h
+stays_here opening before tail c _ p h = absurd h
 
 pub holds_here : (opening : Opened) (before : List Record) (tail c : List ℕ) (k : RecvError) (p : ℕ) → p ≤ length tail → IsFault opening before (tail ++ c) k p → IsFault opening before tail k p
-holds_here opening before tail c errors.BadMagic p le h = absurd h
-holds_here opening before tail c errors.BadVersion p le h = absurd h
-holds_here opening before tail c errors.BadShape p le h = absurd h
-holds_here opening before tail c errors.ShapeMismatch p le h = absurd h
 holds_here opening before tail c errors.BadTag p le h =
     let b = behind tail c (h.tag ∷ []) h.more h.whole (omega (arith, le, h.there)) in
     record { tag = h.tag; more = b.w; whole = b.left; never = h.never; there = h.there }
@@ -94,10 +83,7 @@ holds_here opening before tail c errors.Missing p le h =
 holds_here opening before tail c errors.Trailing p le h =
     let b = behind tail c (5 ∷ (sha256 (header opening ++ texts before) ++ (h.byte ∷ []))) h.more (h.opens.whole ∙ ap (λ (x : List ℕ). 5 ∷ x) (sym (append_assoc (sha256 (header opening ++ texts before)) (h.byte ∷ []) h.more))) (omega (arith, le, h.there, length-append (sha256 (header opening ++ texts before)) (h.byte ∷ []), length-sha256 (header opening ++ texts before))) in
     record { byte = h.byte; more = b.w; opens = opens_at opening before (tail ++ c) tail 5 _ _ h.opens (b.left ∙ ap (λ (x : List ℕ). 5 ∷ x) (append_assoc (sha256 (header opening ++ texts before)) (h.byte ∷ []) b.w)); there = h.there }
-holds_here opening before tail c errors.Truncated p le h = absurd h
-holds_here opening before tail c errors.DiskFailed p le h = absurd h
-holds_here opening before tail c errors.NoMemory p le h = absurd h
-holds_here opening before tail c errors.AlreadyFailed p le h = absurd h
+holds_here opening before tail c _ p le h = absurd h
 
 says_on : (b c : List ℕ) (pages count : ℕ) → Says b pages count → Says (b ++ c) pages count
 says_on b c pages count h = record {
@@ -123,18 +109,7 @@ header_stays ram sizes b c errors.BadVersion p h = record { long = omega (arith,
 header_stays ram sizes b c errors.BadShape p (inl h) = inl (record { pages = h.pages; count = h.count; says = says_on b c h.pages h.count h.says; never = h.never; there = h.there })
 header_stays ram sizes b c errors.BadShape p (inr h) = inr (record { pages = h.pages; count = h.count; shapes = h.shapes; bad = h.bad; more = h.more ++ c; says = says_on b c h.pages h.count h.says; may = h.may; fewer = h.fewer; sound = h.sound; whole = drop-append-le 16 b c h.says.long ∙ ap (λ (x : List ℕ). x ++ c) h.whole ∙ append_assoc (spelled_shapes h.shapes) (h.bad ++ h.more) c ∙ ap (λ (x : List ℕ). spelled_shapes h.shapes ++ x) (append_assoc h.bad h.more c); never = h.never; there = h.there })
 header_stays ram sizes b c errors.ShapeMismatch p h = record { opening = h.opening; more = h.more ++ c; begins = record { good = h.begins.good; whole = ap (λ (x : List ℕ). x ++ c) h.begins.whole ∙ append_assoc (told.header h.opening) h.more c }; never = h.never; there = h.there }
-header_stays ram sizes b c errors.BadTag p h = absurd h
-header_stays ram sizes b c errors.BadPage p h = absurd h
-header_stays ram sizes b c errors.BadSector p h = absurd h
-header_stays ram sizes b c errors.BadRound p h = absurd h
-header_stays ram sizes b c errors.BadDevice p h = absurd h
-header_stays ram sizes b c errors.BadDigest p h = absurd h
-header_stays ram sizes b c errors.Missing p h = absurd h
-header_stays ram sizes b c errors.Trailing p h = absurd h
-header_stays ram sizes b c errors.Truncated p h = absurd h
-header_stays ram sizes b c errors.DiskFailed p h = absurd h
-header_stays ram sizes b c errors.NoMemory p h = absurd h
-header_stays ram sizes b c errors.AlreadyFailed p h = absurd h
+header_stays ram sizes b c _ p h = absurd h
 
 header_holds : (ram : RamTerms) (sizes b c : List ℕ) (k : RecvError) (p : ℕ) → p ≤ length b → IsHeaderFault ram sizes (b ++ c) k p → IsHeaderFault ram sizes b k p
 header_holds ram sizes b c errors.BadMagic p le h = record { long = omega (arith, le, h.there); never = λ e. h.never (number_at-append 0 4 b c (omega (arith, le, h.there)) ∙ e); there = h.there }
@@ -147,18 +122,7 @@ header_holds ram sizes b c errors.BadShape p le (inr h) =
 header_holds ram sizes b c errors.ShapeMismatch p le h =
     let d = behind b c (told.header h.opening) h.more h.begins.whole (omega (arith, le, h.there)) in
     record { opening = h.opening; more = d.w; begins = record { good = h.begins.good; whole = d.left }; never = h.never; there = h.there }
-header_holds ram sizes b c errors.BadTag p le h = absurd h
-header_holds ram sizes b c errors.BadPage p le h = absurd h
-header_holds ram sizes b c errors.BadSector p le h = absurd h
-header_holds ram sizes b c errors.BadRound p le h = absurd h
-header_holds ram sizes b c errors.BadDevice p le h = absurd h
-header_holds ram sizes b c errors.BadDigest p le h = absurd h
-header_holds ram sizes b c errors.Missing p le h = absurd h
-header_holds ram sizes b c errors.Trailing p le h = absurd h
-header_holds ram sizes b c errors.Truncated p le h = absurd h
-header_holds ram sizes b c errors.DiskFailed p le h = absurd h
-header_holds ram sizes b c errors.NoMemory p le h = absurd h
-header_holds ram sizes b c errors.AlreadyFailed p le h = absurd h
+header_holds ram sizes b c _ p le h = absurd h
 
 record_stays : (ram : RamTerms) (sizes b c : List ℕ) (k : RecvError) (at : ℕ) → IsRecordFault ram sizes b k at → IsRecordFault ram sizes (b ++ c) k at
 record_stays ram sizes b c k at h = record {

@@ -23,10 +23,6 @@ pub quiet : (opening : Opened) (before : List Record) (tail : List ℕ) (tag : �
     → (tag ≡ 4 → (place : ℕ) → ¬ (IsBadHead opening before tail place ⊎ IsBadBody opening before tail place))
     → (tag ≡ 5 → (place : ℕ) → ¬ (IsBadDigest opening before tail place ⊎ IsTrailing opening before tail place))
     → (k : RecvError) (place : ℕ) → ¬ (IsFault opening before tail k place)
-quiet opening before tail tag more o p s r d c errors.BadMagic place h = h
-quiet opening before tail tag more o p s r d c errors.BadVersion place h = h
-quiet opening before tail tag more o p s r d c errors.BadShape place h = h
-quiet opening before tail tag more o p s r d c errors.ShapeMismatch place h = h
 quiet opening before tail tag more o p s r d c errors.BadTag place h = h.never (subst (MayTag opening.version (length opening.shapes) (devices_in before)) (head_same (sym o.whole ∙ h.whole)) o.may)
 quiet opening before tail tag more o p s r d c errors.BadPage place (inl h) = p (subst IsPageTag (head_same (sym h.opens.whole ∙ o.whole)) h.names) place (inl h)
 quiet opening before tail tag more o p s r d c errors.BadPage place (inr h) = p (inl (head_same (sym o.whole ∙ h.opens.whole))) place (inr h)
@@ -39,16 +35,9 @@ quiet opening before tail tag more o p s r d c errors.Missing place h =
     let same : tag ≡ h.tag = head_same (sym o.whole ∙ h.whole) in
     h.never (subst (IsComplete opening before) same (o.complete (subst IsLate (sym same) h.late)))
 quiet opening before tail tag more o p s r d c errors.Trailing place h = c (head_same (sym o.whole ∙ h.opens.whole)) place (inr h)
-quiet opening before tail tag more o p s r d c errors.Truncated place h = h
-quiet opening before tail tag more o p s r d c errors.DiskFailed place h = h
-quiet opening before tail tag more o p s r d c errors.NoMemory place h = h
-quiet opening before tail tag more o p s r d c errors.AlreadyFailed place h = h
+quiet opening before tail tag more o p s r d c _ place h = h
 
 nothing_faulty : (opening : Opened) (before : List Record) (tail : List ℕ) → length tail ≡ 0 → (k : RecvError) (place : ℕ) → ¬ (IsFault opening before tail k place)
-nothing_faulty opening before tail none errors.BadMagic place h = h
-nothing_faulty opening before tail none errors.BadVersion place h = h
-nothing_faulty opening before tail none errors.BadShape place h = h
-nothing_faulty opening before tail none errors.ShapeMismatch place h = h
 nothing_faulty opening before tail none errors.BadTag place h = omega (arith, none, ap length h.whole)
 nothing_faulty opening before tail none errors.BadPage place (inl h) = omega (arith, none, ap length h.opens.whole)
 nothing_faulty opening before tail none errors.BadPage place (inr h) = omega (arith, none, ap length h.opens.whole)
@@ -59,10 +48,7 @@ nothing_faulty opening before tail none errors.BadDevice place (inr h) = omega (
 nothing_faulty opening before tail none errors.BadDigest place h = omega (arith, none, ap length h.opens.whole)
 nothing_faulty opening before tail none errors.Missing place h = omega (arith, none, ap length h.whole)
 nothing_faulty opening before tail none errors.Trailing place h = omega (arith, none, ap length h.opens.whole)
-nothing_faulty opening before tail none errors.Truncated place h = h
-nothing_faulty opening before tail none errors.DiskFailed place h = h
-nothing_faulty opening before tail none errors.NoMemory place h = h
-nothing_faulty opening before tail none errors.AlreadyFailed place h = h
+nothing_faulty opening before tail none _ place h = h
 
 -- No bytes wait.
 pub nothing_waits : (opening : Opened) (before : List Record) (tail : List ℕ) → length tail ≡ 0 → Waits opening before tail

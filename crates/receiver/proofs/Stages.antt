@@ -74,22 +74,9 @@ pub mismatch : (ram : RamTerms) (sizes held rest : List ℕ) (opening : Opened) 
 mismatch ram sizes held rest opening b never = (length (header opening), inl (record { opening = said_by opening; more = rest; begins = b; never = never; there = refl }))
 
 header_told : (ram : RamTerms) (sizes held : List ℕ) (e : RecvError) → TellsHead e ((ram : RamTerms) (sizes : List ℕ) → (at : ℕ) × IsHeaderFault ram sizes held e at) → Tells e ((at : ℕ) × Fault ram sizes held e at)
-header_told ram sizes held errors.BadMagic f = ((f ram sizes).0, inl (f ram sizes).1)
-header_told ram sizes held errors.BadVersion f = ((f ram sizes).0, inl (f ram sizes).1)
-header_told ram sizes held errors.BadShape f = ((f ram sizes).0, inl (f ram sizes).1)
-header_told ram sizes held errors.ShapeMismatch f = ((f ram sizes).0, inl (f ram sizes).1)
-header_told ram sizes held errors.BadTag f = ((f ram sizes).0, inl (f ram sizes).1)
-header_told ram sizes held errors.BadPage f = ((f ram sizes).0, inl (f ram sizes).1)
-header_told ram sizes held errors.BadSector f = ((f ram sizes).0, inl (f ram sizes).1)
-header_told ram sizes held errors.BadRound f = ((f ram sizes).0, inl (f ram sizes).1)
-header_told ram sizes held errors.BadDevice f = ((f ram sizes).0, inl (f ram sizes).1)
-header_told ram sizes held errors.BadDigest f = ((f ram sizes).0, inl (f ram sizes).1)
-header_told ram sizes held errors.Missing f = ((f ram sizes).0, inl (f ram sizes).1)
-header_told ram sizes held errors.Trailing f = ((f ram sizes).0, inl (f ram sizes).1)
-header_told ram sizes held errors.Truncated f = ((f ram sizes).0, inl (f ram sizes).1)
 header_told ram sizes held errors.DiskFailed f = tt
 header_told ram sizes held errors.NoMemory f = tt
-header_told ram sizes held errors.AlreadyFailed f = ((f ram sizes).0, inl (f ram sizes).1)
+header_told ram sizes held _ f = ((f ram sizes).0, inl (f ram sizes).1)
 
 never_disk_head : (held : List ℕ) (e : RecvError) → TellsHead e ((ram : RamTerms) (sizes : List ℕ) → (at : ℕ) × IsHeaderFault ram sizes held e at) → e ≢ errors.DiskFailed
 never_disk_head held e f same = let g : (ram : RamTerms) (sizes : List ℕ) → (at : ℕ) × IsHeaderFault ram sizes held errors.DiskFailed at = rw same at f in (g (ram_at 0) []).1

@@ -5,6 +5,7 @@ use Rattle.std.specs.Vec.{vec_capacity}
 use Rattle.std.proofs.lemmas.Bool.{cases_lt}
 use Rattle.std.proofs.lemmas.List.{take-append-drop, take_at, length-append, length-take}
 use Rattle.sha2.specs.Sha256.{sha256}
+use Rattle.sha2.specs.declared.Sha256.{Sha256}
 use Rattle.sha2.proofs.Facts256.{length-sha256}
 use Rattle.guestmem.specs.Number.{IsBytes}
 use Rattle.receiver.specs.Opened.{header, Opened}
@@ -21,7 +22,7 @@ use Rattle.receiver.specs.Disks.{AreRefused}
 use Rattle.receiver.specs.Good.{devices_in}
 use Rattle.receiver.specs.Faults.{IsBadBody, IsBadDigest, IsBadHead, IsBadPage, IsFault, IsLongZeros, IsPageTag, IsTrailing, Opens}
 use Rattle.receiver.specs.Fed.{Ends, HasRead, TookRecord, Waits}
-use Rattle.receiver.specs.Standing.{Closed, Entered, TookHead, IsDeviceHead, IsLong, IsNoBody, IsShort, IsSized, MayHead, OpensHead, record_behind, refusal_of}
+use Rattle.receiver.specs.Standing.{Closed, Entered, TookHead, Enters, IsDeviceHead, IsLong, IsNoBody, IsShort, IsSized, IsWholeDevice, Keeps, MayHead, OpensHead, TakesHead, record_behind, refusal_of}
 use Rattle.receiver.specs.declared.intake.Intake.{Intake}
 use Rattle.receiver.specs.declared.recv_error.RecvError.{RecvError}
 use Rattle.receiver.specs.declared.recv_error.RecvError.TheVariants as errors
@@ -296,12 +297,8 @@ page_marked i n s low = omega (arith, low, s.ram_size, s.named_size, size_grows 
 
 -- The head of a device has its tag.
 pub device_tag : (tail more : List ℕ) (tag : ℕ) (head : RecordHead) → IsDeviceHead head → tail ≡ tag ∷ more → BeginsHead tail head → tag ≡ 4
-device_tag tail more tag (heads.Page n) is e b = absurd is
-device_tag tail more tag (heads.Sector d n good) is e b = absurd is
-device_tag tail more tag (heads.RoundEnd n) is e b = absurd is
 device_tag tail more tag (heads.Device d len) is e b = head_same (sym e ∙ b.whole)
-device_tag tail more tag heads.Commit is e b = absurd is
-device_tag tail more tag (heads.ZeroPage n) is e b = absurd is
+device_tag tail more tag _ is e b = absurd is
 
 -- The digest that comes.
 pub digest_refused : (opening : Opened) (before : List Record) (tail behind : List ℕ) → OpensHead opening before tail heads.Commit behind → length (take 32 behind) ≡ 32 → take 32 behind ≢ sha256 (header opening ++ texts before)
@@ -354,30 +351,29 @@ pub never_memory : (r : Result Bool RecvError) → IfErr r (λ e. e ≢ errors.N
 never_memory (Ok took) h e = cc
 never_memory (Err x) h e = h (let same : x ≡ errors.NoMemory = cc in same)
 
--- What came of the digest, as its reader tells it: `ended` and `was`, after and before, and whether the digest of what came before is as it was.
-pub digest_done : (r : Result Bool RecvError) (ended was : Bool) (A : Type 0) → IfOk r (λ took. (took ≡ true → ended ≡ true) × (took ≡ false → (ended ≡ was) × A)) → IfOk r (λ took. took ≡ true → ended ≡ true)
-digest_done (Ok took) ended was A h = h.0
-digest_done (Err e) ended was A h = tt
-
-pub digest_untouched : (r : Result Bool RecvError) (ended was : Bool) (A : Type 0) → IfOk r (λ took. (took ≡ true → ended ≡ true) × (took ≡ false → (ended ≡ was) × A)) → ended ≡ false → OnOk r A
-digest_untouched (Ok true) ended was A h on = absurd (not_both_ways ended (h.0 refl) on)
-digest_untouched (Ok false) ended was A h on = (h.1 refl).1
-digest_untouched (Err e) ended was A h on = tt
-
-pub digest_goes_on : (r : Result Bool RecvError) (ended was : Bool) (A : Type 0) → IfOk r (λ took. (took ≡ true → ended ≡ true) × (took ≡ false → (ended ≡ was) × A)) → was ≡ false → r ≡ Ok false → ended ≡ false
-digest_goes_on (Ok true) ended was A h on e = absurd cc
-digest_goes_on (Ok false) ended was A h on e = (h.1 refl).0 ∙ on
-digest_goes_on (Err x) ended was A h on e = absurd cc
-
 pub some_spelled : (head : RecordHead) → 0 < length (spelled_head head)
 some_spelled (heads.Page n) = omega arith
-some_spelled (heads.Sector d n good) = omega arith
-some_spelled (heads.RoundEnd n) = omega arith
-some_spelled (heads.Device d len) = omega arith
-some_spelled heads.Commit = omega arith
-some_spelled (heads.ZeroPage n) = omega arith
+some_spelled _ = omega arith
 
 -- What holds anyway holds where a record was taken.
 pub anyway : {P : Type 0} (r : Result Bool RecvError) → P → OnOk r P
 anyway (Ok took) p = p
 anyway (Err e) p = tt
+
+-- A record that is not the digest: what its function promises is all of it.
+pub takes_one : (old ds : List DiskState) (i new : Intake) (digest : Sha256) (head : RecordHead) (behind : List ℕ) (r : Result Bool RecvError) → i.ended ≡ false → Keeps i new → IsShort head behind r → IsLong head behind r
+    → (r ≡ Err errors.NoMemory → IsWholeDevice head behind) → Enters old ds i new head behind r → TakesHead old ds i new digest digest head behind r
+takes_one old ds i new digest head behind r on keeps short long memory enters = record {
+  short = short;
+  long = long;
+  untouched = λ e. anyway r refl;
+  waits = λ e. keeps.ended ∙ on;
+  memory = memory;
+  after = λ front tail opening before are d h o. followed_by old ds opening before new front tail behind head r (keeps.ended ∙ on) o long (enters front tail opening before are h o);
+}
+
+-- One without a body.
+pub takes_whole : (ds : List DiskState) (i new : Intake) (digest : Sha256) (head : RecordHead) (behind : List ℕ) (r : Result Bool RecvError) → body_len head ≡ 0 → i.ended ≡ false → Keeps i new → OnOk r (r ≡ Ok true)
+    → IfErr r (λ e. e ≢ errors.NoMemory) → Enters ds ds i new head behind r → TakesHead ds ds i new digest digest head behind r
+takes_whole ds i new digest head behind r none on keeps all memory enters =
+    takes_one ds ds i new digest head behind r on keeps (all_short head behind r all) (all_long head behind r none) (λ e. absurd (never_memory r memory e)) enters

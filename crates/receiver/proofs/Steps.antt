@@ -48,12 +48,8 @@ count_devices k (d ∷ ds) = let ih = count_devices (k + 1) ds in omega (arith, 
 pub count_all : (v : ℕ) (l : Layout) (k : ℕ) (es : List Record) (ds : List DeviceState) → AllByRecursion (IsEntry v l) es → devices_in (es ++ device_records k ds) ≡ length ds
 unfolding devices_in
 count_all v l k [] ds h = count_devices k ds
-count_all v l k (page n b ∷ es) ds h = count_all v l k es ds h.1
-count_all v l k (sector d n o ∷ es) ds h = count_all v l k es ds h.1
-count_all v l k (round_end n ∷ es) ds h = count_all v l k es ds h.1
 count_all v l k (device d b ∷ es) ds h = absurd h.0.stands
-count_all v l k (commit b ∷ es) ds h = count_all v l k es ds h.1
-count_all v l k (zero_page z ∷ es) ds h = count_all v l k es ds h.1
+count_all v l k (_ ∷ es) ds h = count_all v l k es ds h.1
 
 pub devices_are : {ds : List DiskState} {front : List ℕ} {opening : Opened} {before : List Record} {i : Intake} → HasRead ds opening before i front → devices_in before ≡ length i.devices.items
 devices_are {opening = opening} {before = before} {i = i} h = ap devices_in h.split ∙ count_all opening.version (layout_in opening) 0 h.entries i.devices.items h.each
@@ -164,12 +160,8 @@ more_round ds front opening before i j n h none fits next ram named ends same_te
 -- A sector, whose disk keeps what it is.
 numbered_sector : (k : ℕ) (es : List Record) (dev n : ℕ) (o : Sector) → AreNumbered k es → AreNumbered k (es ++ sector dev n o ∷ [])
 numbered_sector k [] dev n o h = tt
-numbered_sector k (page m c ∷ es) dev n o h = numbered_sector k es dev n o h
-numbered_sector k (sector d m c ∷ es) dev n o h = numbered_sector k es dev n o h
 numbered_sector k (round_end m ∷ es) dev n o h = (h.0, numbered_sector (k + 1) es dev n o h.1)
-numbered_sector k (device d c ∷ es) dev n o h = numbered_sector k es dev n o h
-numbered_sector k (commit c ∷ es) dev n o h = numbered_sector k es dev n o h
-numbered_sector k (zero_page z ∷ es) dev n o h = numbered_sector k es dev n o h
+numbered_sector k (_ ∷ es) dev n o h = numbered_sector k es dev n o h
 
 -- A sector that has an encoding is whole.
 spelled_whole : (dev n : ℕ) (o : Sector) → HasSpelling (sector dev n o) → IsWhole o
@@ -211,12 +203,8 @@ records-snoc k (t ∷ ds) d =
 rounds_device : (es : List Record) (n : ℕ) (b : List ℕ) → rounds (es ++ device n b ∷ []) ≡ rounds es
 unfolding rounds
 rounds_device [] n b = refl
-rounds_device (page m c ∷ es) n b = rounds_device es n b
-rounds_device (sector d m c ∷ es) n b = rounds_device es n b
 rounds_device (round_end m ∷ es) n b = ap (λ (k : ℕ). k + 1) (rounds_device es n b)
-rounds_device (device d c ∷ es) n b = rounds_device es n b
-rounds_device (commit c ∷ es) n b = rounds_device es n b
-rounds_device (zero_page z ∷ es) n b = rounds_device es n b
+rounds_device (_ ∷ es) n b = rounds_device es n b
 
 -- What holds of each device and of one more.
 all-snoc : (P : DeviceState → Type 0) (ds : List DeviceState) (d : DeviceState) → AllByRecursion P ds → P d → AllByRecursion P (ds ++ d ∷ [])

@@ -118,52 +118,32 @@ taken_page v ram b disks named l i es r h low le e names is =
 pub rounds_page : (es : List Record) (i : ℕ) (b : List ℕ) → rounds (es ++ page i b ∷ []) ≡ rounds es
 unfolding rounds
 rounds_page [] i b = refl
-rounds_page (page n c ∷ es) i b = rounds_page es i b
-rounds_page (sector d n c ∷ es) i b = rounds_page es i b
 rounds_page (round_end n ∷ es) i b = ap (λ (k : ℕ). k + 1) (rounds_page es i b)
-rounds_page (device d c ∷ es) i b = rounds_page es i b
-rounds_page (commit c ∷ es) i b = rounds_page es i b
-rounds_page (zero_page z ∷ es) i b = rounds_page es i b
+rounds_page (_ ∷ es) i b = rounds_page es i b
 
 pub rounds_zeros : (es : List Record) (i : ℕ) → rounds (es ++ zero_page i ∷ []) ≡ rounds es
 unfolding rounds
 rounds_zeros [] i = refl
-rounds_zeros (page n c ∷ es) i = rounds_zeros es i
-rounds_zeros (sector d n c ∷ es) i = rounds_zeros es i
 rounds_zeros (round_end n ∷ es) i = ap (λ (k : ℕ). k + 1) (rounds_zeros es i)
-rounds_zeros (device d c ∷ es) i = rounds_zeros es i
-rounds_zeros (commit c ∷ es) i = rounds_zeros es i
-rounds_zeros (zero_page z ∷ es) i = rounds_zeros es i
+rounds_zeros (_ ∷ es) i = rounds_zeros es i
 
 pub rounds_sector : (es : List Record) (dev i : ℕ) (o : Sector) → rounds (es ++ sector dev i o ∷ []) ≡ rounds es
 unfolding rounds
 rounds_sector [] dev i o = refl
-rounds_sector (page n c ∷ es) dev i o = rounds_sector es dev i o
-rounds_sector (sector d n c ∷ es) dev i o = rounds_sector es dev i o
 rounds_sector (round_end n ∷ es) dev i o = ap (λ (k : ℕ). k + 1) (rounds_sector es dev i o)
-rounds_sector (device d c ∷ es) dev i o = rounds_sector es dev i o
-rounds_sector (commit c ∷ es) dev i o = rounds_sector es dev i o
-rounds_sector (zero_page z ∷ es) dev i o = rounds_sector es dev i o
+rounds_sector (_ ∷ es) dev i o = rounds_sector es dev i o
 
 pub rounds_round : (es : List Record) (k : ℕ) → rounds (es ++ round_end k ∷ []) ≡ rounds es + 1
 unfolding rounds
 rounds_round [] k = refl
-rounds_round (page n c ∷ es) k = rounds_round es k
-rounds_round (sector d n c ∷ es) k = rounds_round es k
 rounds_round (round_end n ∷ es) k = ap (λ (m : ℕ). m + 1) (rounds_round es k)
-rounds_round (device d c ∷ es) k = rounds_round es k
-rounds_round (commit c ∷ es) k = rounds_round es k
-rounds_round (zero_page z ∷ es) k = rounds_round es k
+rounds_round (_ ∷ es) k = rounds_round es k
 
 pub numbered_round : (k : ℕ) (es : List Record) (n : ℕ) → AreNumbered k es → n ≡ k + rounds es → AreNumbered k (es ++ round_end n ∷ [])
 unfolding rounds
 numbered_round k [] n h e = (omega (arith, e), tt)
-numbered_round k (page i c ∷ es) n h e = numbered_round k es n h e
-numbered_round k (sector d i o ∷ es) n h e = numbered_round k es n h e
 numbered_round k (round_end i ∷ es) n h e = (h.0, numbered_round (k + 1) es n h.1 (omega (arith, e)))
-numbered_round k (device d c ∷ es) n h e = numbered_round k es n h e
-numbered_round k (commit c ∷ es) n h e = numbered_round k es n h e
-numbered_round k (zero_page z ∷ es) n h e = numbered_round k es n h e
+numbered_round k (_ ∷ es) n h e = numbered_round k es n h e
 
 -- A record that names no item.
 taken_more : (v : ℕ) (ram : List ℕ) (disks : List (List Sector)) (named : List Bool) (l : Layout) (r : Record) (es : List Record) → ((i : Item) → says_of i r ≡ None) → AreTaken v ram disks named l es → AreTaken v ram disks named l (es ++ r ∷ [])

@@ -16,7 +16,7 @@ use Rattle.wire.specs.declared.record_head.RecordHead.TheVariants as heads
 use Rattle.wire.proofs.Heads.{spelled_with}
 use Rattle.receiver.specs.Disks.{sizes_in}
 use Rattle.receiver.specs.Fed.{HasRead}
-use Rattle.receiver.specs.Receiving.{HasBeenFed, HasDevice, IsKnown, IsPastHead, IsTaken, received_by}
+use Rattle.receiver.specs.Receiving.{HasBeenFed, HasDevice, IsPastHead, IsTaken, Knows, ReaderSeen, received_with}
 use Rattle.receiver.specs.Standing.{BeginsDevice, IsWholeDevice}
 use Rattle.receiver.specs.declared.intake.Intake.{Intake}
 use Rattle.receiver.specs.declared.ram_terms.RamTerms.{RamTerms}
@@ -39,8 +39,6 @@ on_err (Err x) P h e = h
 
 pub device_begins : (tail behind : List ℕ) (head : RecordHead) → IsWholeDevice head behind → tail ≡ spelled_head head ++ behind → BeginsDevice tail
 device_begins tail behind (heads.Page n) is e = absurd is
-device_begins tail behind (heads.Sector d n good) is e = absurd is
-device_begins tail behind (heads.RoundEnd n) is e = absurd is
 device_begins tail behind (heads.Device d len) is e =
     let body = take len behind in
     let many : length body ≡ len = omega (arith, is, length-take len behind) in
@@ -51,8 +49,7 @@ device_begins tail behind (heads.Device d len) is e =
       whole = e ∙ ap (λ (x : List ℕ). spelled_head (heads.Device d len) ++ x) (sym (take-append-drop len behind)) ∙ sym (append_assoc (spelled_head (heads.Device d len)) body (drop len behind))
           ∙ ap (λ (x : List ℕ). x ++ drop len behind) (sym (spelled_with (heads.Device d len) body many));
     }
-device_begins tail behind heads.Commit is e = absurd is
-device_begins tail behind (heads.ZeroPage n) is e = absurd is
+device_begins tail behind _ is e = absurd is
 
 pub device_here : {ds : List DiskState} {opening : Opened} {before : List Record} {i : Intake} {front : List ℕ} (bytes tail : List ℕ) (from : ℕ) → HasRead ds opening before i front → bytes ≡ front ++ tail → BeginsDevice tail → from ≤ length front → HasDevice opening.ram (sizes_in ds) bytes from
 device_here {opening = opening} {before = before} {front = front} bytes tail from h e b le = record {
@@ -92,14 +89,14 @@ past_head ram ds digest b held stages.Head opening rest t begins =
 past_head ram ds digest b held (stages.Records i) opening rest t begins = tt
 past_head ram ds digest b held stages.Failed opening rest t begins = absurd t.known
 
-pub fed_wants : (ram : RamTerms) (place : Option Ptr) (ds : List DiskState) (stage : Stage) (digest : Sha256) (held piece b : List ℕ) (opening : Opening) (rest : List ℕ) (from : ℕ)
-    → ((front : List ℕ) → IsKnown ram ds digest front held stage → IsPastHead stage → HasDevice ram (sizes_in ds) (front ++ (held ++ piece)) (length front))
-    → HasBeenFed (received_by ram place ds stage digest held) b → Begins b opening rest → from + length held ≡ length b → HasDevice ram (sizes_in ds) (b ++ piece) from
-fed_wants ram place ds stage digest held piece b opening rest from memory fed begins at =
+pub fed_wants : (r : ReaderSeen) (held piece b : List ℕ) (opening : Opening) (rest : List ℕ) (from : ℕ)
+    → ((front : List ℕ) → Knows r front held → IsPastHead r.stage → HasDevice r.ram (sizes_in r.disks) (front ++ (held ++ piece)) (length front))
+    → HasBeenFed (received_with r held) b → Begins b opening rest → from + length held ≡ length b → HasDevice r.ram (sizes_in r.disks) (b ++ piece) from
+fed_wants r held piece b opening rest from memory fed begins at =
     let t = fed.taken in
-    let d = memory t.front t.known (past_head ram ds digest b held stage opening rest t begins) in
+    let d = memory t.front t.known (past_head r.ram r.disks r.digest b held r.stage opening rest t begins) in
     let all : b ++ piece ≡ (t.front ++ (held ++ piece)) ++ [] = ap (λ (x : List ℕ). x ++ piece) t.whole ∙ append_assoc t.front held piece ∙ sym (append-nil (t.front ++ (held ++ piece))) in
-    device_on ram (sizes_in ds) (t.front ++ (held ++ piece)) [] (b ++ piece) from (length t.front) d all (omega (arith, at, ap length t.whole, length-append t.front held))
+    device_on r.ram (sizes_in r.disks) (t.front ++ (held ++ piece)) [] (b ++ piece) from (length t.front) d all (omega (arith, at, ap length t.whole, length-append t.front held))
 
 pub part_wants : (ram : RamTerms) (old ds : List DiskState) (digest : Sha256) (bytes held rest part after : List ℕ) (stage : Stage) (low : ℕ) → (p : IsPartly ram old ds digest bytes held rest stage) → rest ≡ part ++ after → low ≤ length p.front
     → HasDevice ram (sizes_in ds) (p.front ++ (held ++ part)) (length p.front) → HasDevice ram (sizes_in old) bytes low

@@ -29,12 +29,8 @@ use Rattle.receiver.proofs.Working.{commit_text}
 devices_in-append : (rs ss : List Record) → devices_in (rs ++ ss) ≡ devices_in rs + devices_in ss
 unfolding devices_in
 devices_in-append [] ss = let e : devices_in ss ≡ 0 + devices_in ss = omega arith in e
-devices_in-append (page n b ∷ rs) ss = devices_in-append rs ss
-devices_in-append (sector d n o ∷ rs) ss = devices_in-append rs ss
-devices_in-append (round_end n ∷ rs) ss = devices_in-append rs ss
 devices_in-append (device d b ∷ rs) ss = let ih = devices_in-append rs ss in omega (arith, ih)
-devices_in-append (commit b ∷ rs) ss = devices_in-append rs ss
-devices_in-append (zero_page z ∷ rs) ss = devices_in-append rs ss
+devices_in-append (_ ∷ rs) ss = devices_in-append rs ss
 
 none_in_page : (n : ℕ) (b : List ℕ) → devices_in (page n b ∷ []) ≡ 0
 unfolding devices_in
@@ -163,12 +159,8 @@ stream_quiet ram sizes bytes m s based suits fits =
 rounds_entries : (es : List Record) (ds : List DeviceState) → rounds (es ++ device_records 0 ds) ≡ rounds es
 unfolding rounds
 rounds_entries [] ds = rounds_none 0 ds
-rounds_entries (page n b ∷ es) ds = rounds_entries es ds
-rounds_entries (sector d n o ∷ es) ds = rounds_entries es ds
 rounds_entries (round_end n ∷ es) ds = ap (λ (k : ℕ). k + 1) (rounds_entries es ds)
-rounds_entries (device d b ∷ es) ds = rounds_entries es ds
-rounds_entries (commit b ∷ es) ds = rounds_entries es ds
-rounds_entries (zero_page z ∷ es) ds = rounds_entries es ds
+rounds_entries (_ ∷ es) ds = rounds_entries es ds
 
 pub stream_rounds : (ram : RamTerms) (sizes bytes : List ℕ) (m : MachineState) (n : ℕ) (s : IsStream bytes m) → base_of m.devices ≡ ram.base → HasPages ram (pages_of m) → sizes ≡ disk_sizes (shapes_in m.devices) → HasRounds ram sizes bytes n → rounds s.entries ≡ n
 stream_rounds ram sizes bytes m n s based suits fits h =

@@ -22,40 +22,14 @@ use Rattle.receiver.proofs.Lists.{empty}
 use Rattle.receiver.proofs.Quiet.{nothing_waits}
 
 pub tells : (F : Type 0) (e : RecvError) → F → Tells e F
-tells F errors.BadMagic h = h
-tells F errors.BadVersion h = h
-tells F errors.BadShape h = h
-tells F errors.ShapeMismatch h = h
-tells F errors.BadTag h = h
-tells F errors.BadPage h = h
-tells F errors.BadSector h = h
-tells F errors.BadRound h = h
-tells F errors.BadDevice h = h
-tells F errors.BadDigest h = h
-tells F errors.Missing h = h
-tells F errors.Trailing h = h
-tells F errors.Truncated h = h
 tells F errors.DiskFailed h = tt
 tells F errors.NoMemory h = tt
-tells F errors.AlreadyFailed h = h
+tells F _ h = h
 
 pub tells_more : (F G : Type 0) (e : RecvError) → (F → G) → Tells e F → Tells e G
-tells_more F G errors.BadMagic f h = f h
-tells_more F G errors.BadVersion f h = f h
-tells_more F G errors.BadShape f h = f h
-tells_more F G errors.ShapeMismatch f h = f h
-tells_more F G errors.BadTag f h = f h
-tells_more F G errors.BadPage f h = f h
-tells_more F G errors.BadSector f h = f h
-tells_more F G errors.BadRound f h = f h
-tells_more F G errors.BadDevice f h = f h
-tells_more F G errors.BadDigest f h = f h
-tells_more F G errors.Missing f h = f h
-tells_more F G errors.Trailing f h = f h
-tells_more F G errors.Truncated f h = f h
 tells_more F G errors.DiskFailed f h = tt
 tells_more F G errors.NoMemory f h = tt
-tells_more F G errors.AlreadyFailed f h = f h
+tells_more F G _ f h = f h
 
 pub kept : (ds : List DiskState) → AreKept ds ds
 kept ds = record { sizes = refl; marks = refl }
@@ -71,22 +45,8 @@ then_refused a b c e h k = record { sizes = k.sizes ∙ h.sizes; marks = marks_t
 
 -- A refusal that is no failure of a disk.
 pub refused_kept : (ds : List DiskState) (e : RecvError) → e ≢ errors.DiskFailed → AreRefused ds ds e
-refused_kept ds errors.BadMagic n = record { sizes = refl; marks = refl }
-refused_kept ds errors.BadVersion n = record { sizes = refl; marks = refl }
-refused_kept ds errors.BadShape n = record { sizes = refl; marks = refl }
-refused_kept ds errors.ShapeMismatch n = record { sizes = refl; marks = refl }
-refused_kept ds errors.BadTag n = record { sizes = refl; marks = refl }
-refused_kept ds errors.BadPage n = record { sizes = refl; marks = refl }
-refused_kept ds errors.BadSector n = record { sizes = refl; marks = refl }
-refused_kept ds errors.BadRound n = record { sizes = refl; marks = refl }
-refused_kept ds errors.BadDevice n = record { sizes = refl; marks = refl }
-refused_kept ds errors.BadDigest n = record { sizes = refl; marks = refl }
-refused_kept ds errors.Missing n = record { sizes = refl; marks = refl }
-refused_kept ds errors.Trailing n = record { sizes = refl; marks = refl }
-refused_kept ds errors.Truncated n = record { sizes = refl; marks = refl }
 refused_kept ds errors.DiskFailed n = absurd (n refl)
-refused_kept ds errors.NoMemory n = record { sizes = refl; marks = refl }
-refused_kept ds errors.AlreadyFailed n = record { sizes = refl; marks = refl }
+refused_kept ds _ n = record { sizes = refl; marks = refl }
 
 never_disk : (opening : Opened) (before : List Record) (tail : List ℕ) (e : RecvError) (place : ℕ) → IsFault opening before tail e place → e ≢ errors.DiskFailed
 never_disk opening before tail e place f same = let no : IsFault opening before tail errors.DiskFailed place = rw same at f in no

@@ -1,5 +1,5 @@
 -- Which head of a record may come next, after whole good records, and what comes of the record.
-use Rattle.std.specs.Prelude.{◌≡◌, ◌<◌, ◌≤◌, ℕ, ◌+◌, ◌*◌, All, Bool, true, false, List, ◌∷◌, [], ◌++◌, drop, take, map, length, IfOk, Result, Ok, Err}
+use Rattle.std.specs.Prelude.{◌≡◌, ◌<◌, ◌≤◌, ℕ, ◌+◌, ◌*◌, All, Bool, true, false, List, ◌∷◌, [], ◌++◌, drop, take, map, length, IfOk, OnOk, Result, Ok, Err}
 use Rattle.std.specs.Vec.{vec_capacity}
 use Rattle.sha2.specs.Hashers.{Holds256}
 use Rattle.sha2.specs.declared.Sha256.{Sha256}
@@ -22,7 +22,7 @@ use Rattle.receiver.specs.Faults.{IsFault, IsNextHead, Opens}
 use Rattle.receiver.specs.Fed.{Ends, HasRead, Tells, TookRecord, Waits}
 use Rattle.receiver.specs.declared.intake.Intake.{Intake}
 use Rattle.receiver.specs.declared.recv_error.RecvError.{RecvError}
-use Rattle.receiver.specs.declared.recv_error.RecvError.TheVariants.{BadPage, BadSector, BadRound, BadDevice, BadDigest}
+use Rattle.receiver.specs.declared.recv_error.RecvError.TheVariants.{BadPage, BadSector, BadRound, BadDevice, BadDigest, NoMemory}
 use Rattle.receiver.specs.Opened.{Opened, layout_in}
 
 -- The bytes begin with this head, before `rest`, and a record with its tag may come here.
@@ -104,10 +104,6 @@ TookHead old disks opening before new front tail head (Ok false) = AreKept old d
 TookHead old disks opening before new front tail head (Err e) = AreRefused old disks e × Tells e ((place : ℕ) × IsFault opening before tail e place)
 
 -- The same for all bytes that were taken in before, which have this digest.
-abbrev pub TakesHead : List DiskState → List DiskState → Intake → Intake → Sha256 → RecordHead → List ℕ → Result Bool RecvError → Type 0
-TakesHead old disks i new digest head behind result = (front tail : List ℕ) (opening : Opened) (before : List Record) → IsBytes tail → Holds256 digest front → HasRead old opening before i front
-    → OpensHead opening before tail head behind → TookHead old disks opening before new front tail head result
-
 abbrev pub Closes : List DiskState → Intake → Intake → Sha256 → List ℕ → Result Bool RecvError → Type 0
 Closes disks i new digest behind result = (front tail : List ℕ) (opening : Opened) (before : List Record) → IsBytes tail → Holds256 digest front → HasRead disks opening before i front
     → OpensHead opening before tail heads.Commit behind → Closed disks opening before new front tail result
@@ -136,3 +132,13 @@ pub record BeginsDevice (tail : List ℕ) : Type 0 where
   pub body : List ℕ
   pub more : List ℕ
   pub whole : tail ≡ spelled_record (device number body) ++ more
+
+-- What taking the record of any head promises, the digest too. `was` and `digest` are the digest of what was taken in, before and after.
+pub record TakesHead (old disks : List DiskState) (i new : Intake) (was digest : Sha256) (head : RecordHead) (behind : List ℕ) (result : Result Bool RecvError) : Type 0 where
+  pub short : IsShort head behind result
+  pub long : IsLong head behind result
+  pub untouched : new.ended ≡ false → OnOk result (digest ≡ was)
+  pub waits : result ≡ Ok false → new.ended ≡ false
+  pub memory : result ≡ Err NoMemory → IsWholeDevice head behind
+  pub after : (front tail : List ℕ) (opening : Opened) (before : List Record) → IsBytes tail → Holds256 was front → HasRead old opening before i front
+      → OpensHead opening before tail head behind → TookHead old disks opening before new front tail head result

@@ -19,7 +19,7 @@ ghost use Rattle.receiver.specs.Faults.{IsLate, MayTag};
 ghost use Rattle.receiver.specs.Fed.{Checked, HasRead, IsUpTo, TakesPart, Worked};
 ghost use Rattle.receiver.specs.Receiving.{HasDevice};
 ghost use Rattle.receiver.specs.Spots.{CallsOf, HasMarks, IsSpotIn, disks_before};
-ghost use Rattle.receiver.specs.Standing.{BeginsDevice, Closes, Enters, IsDeviceHead, IsLong, IsShort, IsSized, IsWholeDevice, Keeps, TakesHead};
+ghost use Rattle.receiver.specs.Standing.{BeginsDevice, Closes, Enters, IsDeviceHead, IsLong, IsShort, IsSized, Keeps, TakesHead};
 ghost use Rattle.receiver.specs.declared.ram_terms.RamTerms.{RamTerms};
 ghost use Rattle.receiver.specs.declared.recv_error.RecvError.TheVariants as errors;
 
@@ -332,7 +332,9 @@ fn take_digest(intake: &mut Intake, taken: &mut Sha256, behind: &[u8]) -> Result
     ensures sized { IsSized intake.new }
     ensures shapes { intake.new.shapes.items ≡ intake.old.shapes.items }
     ensures place { intake.new.ram.place ≡ intake.old.ram.place }
-    ensures ended { IfOk result (λ took. (took ≡ true → intake.new.ended ≡ true) × (took ≡ false → (intake.new.ended ≡ intake.old.ended) × (taken.new ≡ taken.old))) }
+    ensures ended { IfOk result (λ took. took ≡ true → intake.new.ended ≡ true) }
+    ensures untouched { intake.new.ended ≡ false → OnOk result (taken.new ≡ taken.old) }
+    ensures waits { result ≡ Ok false → intake.new.ended ≡ intake.old.ended }
     ensures short { IsShort heads.Commit behind.now result }
     ensures long { IsLong heads.Commit behind.now result }
     ensures memory { IfErr result (λ e. e ≢ errors.NoMemory) }
@@ -365,13 +367,8 @@ fn take_record<D: Disk>(
     ensures sizes { sizes_of D.state disks.new ≡ sizes_of D.state disks.old }
     ensures shapes { intake.new.shapes.items ≡ intake.old.shapes.items }
     ensures place { intake.new.ram.place ≡ intake.old.ram.place }
-    ensures short { IsShort head behind.now result }
-    ensures long { IsLong head behind.now result }
-    ensures untouched { intake.new.ended ≡ false → OnOk result (taken.new ≡ taken.old) }
-    ensures waits { result ≡ Ok false → intake.new.ended ≡ false }
-    ensures memory { result ≡ Err errors.NoMemory → IsWholeDevice head behind.now }
     ensures calls { CallsOf D.called head intake.old.shapes.items result (map D.calls disks.old) (map D.calls disks.new) }
-    ensures after { TakesHead (map D.state disks.old) (map D.state disks.new) intake.old intake.new taken.old head behind.now result }
+    ensures takes { TakesHead (map D.state disks.old) (map D.state disks.new) intake.old intake.new taken.old taken.new head behind.now result }
 {
     match head {
         RecordHead::Page { number } => take_page(intake, number, behind),

@@ -1,3 +1,4 @@
+use Rattle.receiver.proofs.Ending.{ends_refused}
 use Rattle.receiver.proofs.receiver.Receiver.finish.Goals as goal
 
 pub returns-in-Ok : goal.returns-in-Ok
@@ -22,18 +23,4 @@ returns-in-Ok g c =
 pub returns-in-Err : goal.returns-in-Err
 returns-in-Err g c =
     let f = c.in-Err.ensures in
-    record {
-      arrived = tt;
-      received = tt;
-      marks = tt;
-      based = tt;
-      fits = tt;
-      refused = f.refused;
-      whole = tt;
-      told = f.told;
-      lacking = f.lacking;
-      place = tt;
-      already = f.already;
-      goes_on = tt;
-      back = tt;
-    }
+    ends_refused c.args.self c.in-Err.error f.refused f.told f.lacking f.already tt

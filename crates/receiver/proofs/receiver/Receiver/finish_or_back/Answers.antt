@@ -22,44 +22,21 @@ use Rattle.receiver.proofs.Steps.{devices_are}
 use Rattle.receiver.proofs.Streams.{no_stream_head, no_stream_reading}
 use Rattle.receiver.proofs.receiver.Receiver.finish_or_back.Goals as goal
 
-pub restore_in-requires-clause-sound : goal.restore_in-requires-clause-sound
-restore_in-requires-clause-sound g c =
+pub restore_in-requires : goal.restore_in-requires
+restore_in-requires g c =
     let r = c.reader.inside in
     let s = seen_of r.ram (map g.D.Disk.state r.disks.items) r.aside r.room r.digest r.stage in
     let h = (has_come s c.self.inside.held.items _ _ c.in-Records.intake (rw (← c.reader.view_is) at c.self.invariant) c.in-Records.is (not-false _ c.if-not-intake.false)).1 in
-    rw c.into_ram-ram.ensures (here_sound h.ended.read (h.ended.complete.devices refl) c.recall.ensures.bytes (rw c.deref.ensures.value at c.recall_disks.ensures))
-
-pub restore_in-requires-clause-shapes : goal.restore_in-requires-clause-shapes
-restore_in-requires-clause-shapes g c =
-    let r = c.reader.inside in
-    let s = seen_of r.ram (map g.D.Disk.state r.disks.items) r.aside r.room r.digest r.stage in
-    let h = (has_come s c.self.inside.held.items _ _ c.in-Records.intake (rw (← c.reader.view_is) at c.self.invariant) c.in-Records.is (not-false _ c.if-not-intake.false)).1 in
-    h.ended.read.shapes_are ∙ sym (whole_shapes h.ended.read (h.ended.complete.devices refl))
-
-pub restore_in-requires-clause-bad : goal.restore_in-requires-clause-bad
-restore_in-requires-clause-bad g c =
-    let r = c.reader.inside in
-    let s = seen_of r.ram (map g.D.Disk.state r.disks.items) r.aside r.room r.digest r.stage in
-    let h = (has_come s c.self.inside.held.items _ _ c.in-Records.intake (rw (← c.reader.view_is) at c.self.invariant) c.in-Records.is (not-false _ c.if-not-intake.false)).1 in
-    h.ended.read.written.marks
-
-pub restore_in-requires-clause-devices : goal.restore_in-requires-clause-devices
-restore_in-requires-clause-devices g c =
-    let r = c.reader.inside in
-    let s = seen_of r.ram (map g.D.Disk.state r.disks.items) r.aside r.room r.digest r.stage in
-    let h = (has_come s c.self.inside.held.items _ _ c.in-Records.intake (rw (← c.reader.view_is) at c.self.invariant) c.in-Records.is (not-false _ c.if-not-intake.false)).1 in
-    let room = (subst (λ (stage : Stage). IsReader s.ram s.disks s.aside s.room stage) c.in-Records.is c.reader.invariant).2 in
-    let count : length c.in-Records.intake.shapes.items ≡ length c.in-Records.intake.devices.items = ap length h.ended.read.shapes_are ∙ sym (h.ended.complete.devices refl) ∙ devices_are h.ended.read in
-    ap (λ (r : RoomSeen). r.devices) (same_room c.unwrap-room.ensures room) ∙ count
-
-pub restore_in-requires-clause-disks : goal.restore_in-requires-clause-disks
-restore_in-requires-clause-disks g c =
-    let r = c.reader.inside in
-    let s = seen_of r.ram (map g.D.Disk.state r.disks.items) r.aside r.room r.digest r.stage in
-    let h = (has_come s c.self.inside.held.items _ _ c.in-Records.intake (rw (← c.reader.view_is) at c.self.invariant) c.in-Records.is (not-false _ c.if-not-intake.false)).1 in
-    let room = (subst (λ (stage : Stage). IsReader s.ram s.disks s.aside s.room stage) c.in-Records.is c.reader.invariant).2 in
-    let count = marks_count _ c.in-Records.intake.bad.items h.ended.read.written.marks in
-    omega (arith, count, ap (λ (r : RoomSeen). r.disks) (same_room c.unwrap-room.ensures room))
+    let all = h.ended.complete.devices refl in
+    let marks = h.ended.read.written.marks in
+    let room = same_room c.unwrap-room.ensures (subst (λ (stage : Stage). IsReader s.ram s.disks s.aside s.room stage) c.in-Records.is c.reader.invariant).2 in
+    record {
+      sound = rw c.into_ram-ram.ensures (here_sound h.ended.read all c.recall.ensures.bytes (rw c.deref.ensures.value at c.recall_disks.ensures));
+      shapes = h.ended.read.shapes_are ∙ sym (whole_shapes h.ended.read all);
+      bad = marks;
+      devices = ap (λ (r : RoomSeen). r.devices) room ∙ ap length h.ended.read.shapes_are ∙ sym all ∙ devices_are h.ended.read;
+      disks = omega (arith, marks_count _ c.in-Records.intake.bad.items marks, ap (λ (r : RoomSeen). r.disks) room);
+    }
 
 pub returns-in-Records : goal.returns-in-Records
 returns-in-Records g c =
