@@ -25,7 +25,7 @@ use guestmem::recall_bytes;
 use machine::{Disk, Machine, SECTOR_SIZE};
 use wire::{
     Digesting, Eager, Nowhere, Sink, SinkFault, encode_commit, encode_device, encode_header,
-    write_bad_sector, write_page, write_sector,
+    encode_sector, write_page,
 };
 
 /// The digest of what `save` writes. It takes the same records as the writer.
@@ -157,8 +157,8 @@ fn send_in_turn<D: Disk, S: Sink>(
     ensures calls { ReadsItem D.called machine.old (sector dev number) machine.new }
 {
     if next_bad == Some(number as u64) {
-        write_bad_sector(dev, number, out)?;
-        let Ok(()) = write_bad_sector(dev, number, sum) else {
+        encode_sector(dev, number, None, out)?;
+        let Ok(()) = encode_sector(dev, number, None, sum) else {
             unreachable!()
         };
         return Ok(machine.next_bad(dev, number as u64 + 1));
@@ -188,8 +188,8 @@ fn send_good<D: Disk, S: Sink>(
             sector: number,
         });
     }
-    write_sector(dev, number, &bytes, out)?;
-    let Ok(()) = write_sector(dev, number, &bytes, sum) else {
+    encode_sector(dev, number, Some(&bytes), out)?;
+    let Ok(()) = encode_sector(dev, number, Some(&bytes), sum) else {
         unreachable!()
     };
     Ok(())
@@ -250,9 +250,9 @@ fn send_sector<D: Disk, S: Sink>(
     match machine.read_sector(dev, number as u64, &mut bytes) {
         Ok(true) => {
             recall_bytes(bytes.as_slice());
-            write_sector(dev, number, &bytes, out)?
+            encode_sector(dev, number, Some(&bytes), out)?
         }
-        Ok(false) => write_bad_sector(dev, number, out)?,
+        Ok(false) => encode_sector(dev, number, None, out)?,
         Err(_) => {
             return Err(MigError::DiskFailed {
                 dev,

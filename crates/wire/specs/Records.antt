@@ -1,5 +1,5 @@
 -- The records of a stream. The encoding of each is a head and a body.
-use Rattle.std.specs.Prelude.{◌≡◌, ◌<◌, ◌^◌, ℕ, Bool, true, false, ◌==◌, ◌&&◌, if◌then◌else◌, List, [], ◌++◌, length, drop, Option, Some, None}
+use Rattle.std.specs.Prelude.{◌≡◌, ◌<◌, ◌^◌, ℕ, Bool, true, false, ◌==◌, ◌&&◌, if◌then◌else◌, List, [], ◌++◌, length, drop, Option, Some, None, option_map}
 use Rattle.guestmem.specs.Number.{IsBytes}
 use Rattle.guestmem.specs.Zeros.{are_zeros}
 use Rattle.wire.specs.RecordHeads.{spelled_head}
@@ -18,14 +18,10 @@ pub data Record : Type 0 where
   commit : List ℕ → Record
   zero_page : ℕ → Record
 
-abbrev pub map_option : {A B : Type 0} → (A → B) → Option A → Option B
-map_option f None = None
-map_option f (Some x) = Some (f x)
-
 -- The record that was read from a slice.
 abbrev pub told : slices.Record → Record
 told (read.Page number bytes) = page number bytes.now
-told (read.Sector dev number bytes) = sector dev number (map_option (λ b. b.now) bytes)
+told (read.Sector dev number bytes) = sector dev number (option_map (λ b. b.now) bytes)
 told (read.RoundEnd number) = round_end number
 told (read.Device number bytes) = device number bytes.now
 told (read.Commit digest) = commit digest.now

@@ -70,7 +70,7 @@ pub use record_head::{
     GOOD_SECTOR_RECORD, HEAD_MAX, PAGE_TAG, RECORD_MAX, ROUND_END_TAG, RecordHead, SECTOR_TAG,
     ZERO_PAGE_TAG, read_head,
 };
-pub use sector_writing::{encode_sector, write_bad_sector, write_sector};
+pub use sector_writing::encode_sector;
 pub use shape_spelling::{shape_at, shape_len};
 pub use sink::{Sink, SinkFault, WriteSink};
 pub use waiting::Waiting;

@@ -3,7 +3,7 @@
 //! A bad sector has no bytes: what the source's disk holds there is nobody's. The record names its device by the number among
 //! all devices, not among the disks.
 
-ghost use Rattle.std.specs.Prelude.{◌≡◌, MatchOption, None, OnOk, Some};
+ghost use Rattle.std.specs.Prelude.{◌≡◌, None, OnOk, Some, option_map};
 ghost use Rattle.wire.specs.Records.{sector, spelled_record};
 ghost use Rattle.wire.specs.Sinks.{Appends, Takes};
 
@@ -18,12 +18,8 @@ pub fn encode_sector<S: Sink>(
     content: Option<&[u8; SECTOR_SIZE]>,
     out: &mut S,
 ) -> Result<(), SinkFault>
-    ensures out { MatchOption content.entry
-        (Appends (S.state out.old) (spelled_record (sector device number None)) result (S.state out.new))
-        (λ bytes. Appends (S.state out.old) (spelled_record (sector device number (Some bytes.now))) result (S.state out.new)) }
-    ensures taken { OnOk result (MatchOption content.entry
-        (Takes (S.sum out.old) (spelled_record (sector device number None)) (S.sum out.new))
-        (λ bytes. Takes (S.sum out.old) (spelled_record (sector device number (Some bytes.now))) (S.sum out.new))) }
+    ensures out { Appends (S.state out.old) (spelled_record (sector device number (option_map (λ b. b.now) content.entry))) result (S.state out.new) }
+    ensures taken { OnOk result (Takes (S.sum out.old) (spelled_record (sector device number (option_map (λ b. b.now) content.entry))) (S.sum out.new)) }
 {
     match content {
         Some(bytes) => write_sector(device, number, bytes, out),
@@ -32,7 +28,7 @@ pub fn encode_sector<S: Sink>(
 }
 
 /// Writes the record of a good sector.
-pub fn write_sector<S: Sink>(
+fn write_sector<S: Sink>(
     device: u8,
     number: u32,
     bytes: &[u8; SECTOR_SIZE],
@@ -62,7 +58,7 @@ fn sector_record(device: u8, number: u32, bytes: &[u8; SECTOR_SIZE]) -> [u8; GOO
 
 /// Writes the record of a bad sector.
 #[tactic(auto, unfolding(crate::specs::Records::spelled_record))]
-pub fn write_bad_sector<S: Sink>(device: u8, number: u32, out: &mut S) -> Result<(), SinkFault>
+fn write_bad_sector<S: Sink>(device: u8, number: u32, out: &mut S) -> Result<(), SinkFault>
     ensures out { Appends (S.state out.old) (spelled_record (sector device number None)) result (S.state out.new) }
     ensures taken { OnOk result (Takes (S.sum out.old) (spelled_record (sector device number None)) (S.sum out.new)) }
 {

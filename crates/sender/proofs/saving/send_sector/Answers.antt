@@ -4,15 +4,15 @@ use Rattle.guestmem.specs.Number.{IsBytes}
 use Rattle.sender.proofs.SectorReads.{added_good, sent_good}
 use Rattle.sender.proofs.saving.send_sector.Goals as goal
 
-pub returns-in_ok-write_sector-in-Ok-true-clause-sent :
-    goal.returns-in_ok-write_sector-in-Ok-true-clause-sent
-returns-in_ok-write_sector-in-Ok-true-clause-sent g c =
-    sent_good c.args.machine.now c.read_sector.new.self c.args.dev c.args.number c.read_sector.new.buf (g.S.Sink.state c.args.out.now) (g.S.Sink.state c.write_sector.new.out) (tt {0}) (tt {0})
-    (rw (c.in-Ok-true.is, c.in-Ok-true.field-0-test) at c.read_sector.ensures.read) (rw c.in_ok-write_sector-in-Ok-true.was at c.write_sector.ensures.out)
+pub returns-in_ok-encode_sector-in-Ok-true-clause-sent :
+    goal.returns-in_ok-encode_sector-in-Ok-true-clause-sent
+returns-in_ok-encode_sector-in-Ok-true-clause-sent g c =
+    sent_good c.args.machine.now c.read_sector.new.self c.args.dev c.args.number c.read_sector.new.buf (g.S.Sink.state c.args.out.now) (g.S.Sink.state c.encode_sector.new.out) (tt {0}) (tt {0})
+    (rw (c.in-Ok-true.is, c.in-Ok-true.field-0-test) at c.read_sector.ensures.read) (rw c.in_ok-encode_sector-in-Ok-true.was at c.encode_sector.ensures.out)
 
-pub returns-in_ok-write_sector-in-Ok-true-clause-added :
-    goal.returns-in_ok-write_sector-in-Ok-true-clause-added
-returns-in_ok-write_sector-in-Ok-true-clause-added g c =
+pub returns-in_ok-encode_sector-in-Ok-true-clause-added :
+    goal.returns-in_ok-encode_sector-in-Ok-true-clause-added
+returns-in_ok-encode_sector-in-Ok-true-clause-added g c =
     let whole : IsSector c.read_sector.new.buf = record { size = search rules; bytes = subst IsBytes c.as_slice.ensures c.recall_bytes.ensures } in
-    added_good c.args.machine.now c.read_sector.new.self c.args.dev c.args.number c.read_sector.new.buf (g.S.Sink.state c.args.out.now) (g.S.Sink.state c.write_sector.new.out) (g.S.Sink.sum c.args.out.now) (g.S.Sink.sum c.write_sector.new.out) (tt {0}) whole
-    (rw (c.in-Ok-true.is, c.in-Ok-true.field-0-test) at c.read_sector.ensures.read) (rw c.in_ok-write_sector-in-Ok-true.was at c.write_sector.ensures.out) c.in_ok-write_sector-in-Ok-true.ensures.taken
+    added_good c.args.machine.now c.read_sector.new.self c.args.dev c.args.number c.read_sector.new.buf (g.S.Sink.state c.args.out.now) (g.S.Sink.state c.encode_sector.new.out) (g.S.Sink.sum c.args.out.now) (g.S.Sink.sum c.encode_sector.new.out) (tt {0}) whole
+    (rw (c.in-Ok-true.is, c.in-Ok-true.field-0-test) at c.read_sector.ensures.read) (rw c.in_ok-encode_sector-in-Ok-true.was at c.encode_sector.ensures.out) c.in_ok-encode_sector-in-Ok-true.ensures.taken
