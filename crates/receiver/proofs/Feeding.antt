@@ -92,14 +92,14 @@ is_refused_one r held room failed none = record {
 }
 
 -- The disks that were lent, as they come back.
-pub same_count : {D : Type 0} (state : D → DiskState) (old new : List D) → sizes_of state new ≡ sizes_of state old → length new ≡ length old
+same_count : {D : Type 0} (state : D → DiskState) (old new : List D) → sizes_of state new ≡ sizes_of state old → length new ≡ length old
 same_count state [] [] e = refl
 same_count state [] (d ∷ new) e = absurd cc
 same_count state (d ∷ old) [] e = absurd cc
 same_count state (d ∷ old) (x ∷ new) e = ap suc (same_count state old new (tail_same e))
 
-pub given_back : {D : Type 0} (old new : List D) (len : ℕ) → length new ≡ length old → length old ≡ len → take len (new ++ drop (length new) old) ≡ new
-given_back old new len same is = take_at new (drop (length new) old) len (same ∙ is)
+pub lent_back : {D : Type 0} (state : D → DiskState) (old lent new : List D) (len : ℕ) → length lent ≡ len → sizes_of state new ≡ sizes_of state lent → take len (new ++ drop (length new) old) ≡ new
+lent_back state old lent new len count sizes = take_at new (drop (length new) old) len (same_count state lent new sizes ∙ count)
 
 pub marks_mapped : {D : Type 0} (state : D → DiskState) (disks : List D) → map (λ d. marks_in (state d)) disks ≡ disk_marks_of state disks
 marks_mapped state [] = refl
