@@ -12,7 +12,7 @@ use Rattle.wire.proofs.HeaderParts.{begins_once}
 use Rattle.wire.proofs.Spelling.{head_same, tail_same, split_same, one_record, number_same}
 use Rattle.wire.proofs.Unique.{cons_same}
 use Rattle.receiver.specs.Good.{AreGood, Follows, IsNextDevice, devices_in}
-use Rattle.receiver.specs.Faults.{IsEarly, Opens, IsBadPage, IsLongZeros, IsBadSector, IsBadRound, IsBadHead, IsBadBody, IsBadDigest, IsTrailing, IsFault, IsFront, IsRecordFault}
+use Rattle.receiver.specs.Faults.{IsEarly, Opens, IsBadPage, IsLongZeros, IsBadSector, IsBadRound, IsBadHead, IsBadBody, IsFault, IsFront, IsRecordFault}
 use Rattle.receiver.specs.declared.ram_terms.RamTerms.{RamTerms}
 use Rattle.receiver.specs.declared.recv_error.RecvError.{RecvError}
 use Rattle.receiver.proofs.Lists.{not_both_ways}
@@ -146,9 +146,6 @@ no_bad_device opening before tail more raw d e next place (inr h) =
     let there : drop d opening.shapes ≡ h.shape ∷ h.others = rw (next.next) h.here in
     let shape : next.shape ≡ h.shape = first_of (sym next.here ∙ there) in
     h.never next.state (rw (sym shape, sym same) next.is)
-
-no_digest : (opening : Opened) (before : List Record) (tail : List ℕ) (tag : ℕ) → tag ≤ 4 → tag ≡ 5 → (place : ℕ) → ¬ (IsBadDigest opening before tail place ⊎ IsTrailing opening before tail place)
-no_digest opening before tail tag few e place h = omega (arith, few, e)
 
 pub no_fault_here : (opening : Opened) (before : List Record) (tail x : List ℕ) (r : Record) → Follows opening before r → tail ≡ spelled_record r ++ x → (k : RecvError) (place : ℕ) → ¬ (IsFault opening before tail k place)
 no_fault_here opening before tail x (page n b) f e =

@@ -1,7 +1,6 @@
 -- A piece more, and the end.
 use Rattle.std.proofs.Common.{◌≡◌, ℕ, ◌<◌, ◌≤◌, ◌⊎◌, inl, inr, Bool, true, false, suc, Some, List, [], ◌∷◌, ◌++◌, length, map, take, drop, refl, sym, ap, subst, ◌∙◌, append_assoc, arith}
 use Rattle.std.specs.Prelude.{Ok, Err, Option, Result}
-use denote.RawPtr.{Ptr}
 use Rattle.std.proofs.lemmas.Bool.{cases_lt}
 use Rattle.std.proofs.lemmas.List.{take_at}
 use Rattle.sha2.specs.declared.Sha256.{Sha256}
@@ -13,10 +12,10 @@ use Rattle.wire.proofs.Spelling.{tail_same}
 use Rattle.machine.specs.First.{marks_in}
 use Rattle.machine.specs.Room.{RoomSeen}
 use Rattle.receiver.specs.Calls.{Feeds, IsNew}
-use Rattle.receiver.specs.Disks.{AreKept, AreRefused, MarksRefused, all_marks_in, disk_marks_of, sizes_in, sizes_of}
+use Rattle.receiver.specs.Disks.{AreKept, all_marks_in, disk_marks_of, sizes_in, sizes_of}
 use Rattle.receiver.specs.Faults.{Fault}
 use Rattle.receiver.specs.Reading.{IsFirst, TakesPiece, place_of}
-use Rattle.receiver.specs.Receiving.{HasBeenFed, IsPastHead, IsKnown, IsReceiver, IsTaken, Knows, NoFault, ReaderSeen, Received, TellsFault, TellsNow, has_failed, place_aside, place_in, received_by, received_with}
+use Rattle.receiver.specs.Receiving.{HasBeenFed, IsPastHead, IsKnown, IsReceiver, IsTaken, Knows, NoFault, ReaderSeen, TellsFault, TellsNow, has_failed, place_aside, place_in, received_with}
 use Rattle.receiver.specs.Waiting.{LacksBytes}
 use Rattle.receiver.specs.declared.stage.Stage.{Stage}
 use Rattle.receiver.specs.declared.stage.Stage.TheVariants as stages
@@ -93,14 +92,14 @@ is_refused_one r held room failed none = record {
 }
 
 -- The disks that were lent, as they come back.
-pub same_count : {D : Type 0} (state : D → DiskState) (old new : List D) → sizes_of state new ≡ sizes_of state old → length new ≡ length old
+same_count : {D : Type 0} (state : D → DiskState) (old new : List D) → sizes_of state new ≡ sizes_of state old → length new ≡ length old
 same_count state [] [] e = refl
 same_count state [] (d ∷ new) e = absurd cc
 same_count state (d ∷ old) [] e = absurd cc
 same_count state (d ∷ old) (x ∷ new) e = ap suc (same_count state old new (tail_same e))
 
-pub given_back : {D : Type 0} (old new : List D) (len : ℕ) → length new ≡ length old → length old ≡ len → take len (new ++ drop (length new) old) ≡ new
-given_back old new len same is = take_at new (drop (length new) old) len (same ∙ is)
+pub lent_back : {D : Type 0} (state : D → DiskState) (old lent new : List D) (len : ℕ) → length lent ≡ len → sizes_of state new ≡ sizes_of state lent → take len (new ++ drop (length new) old) ≡ new
+lent_back state old lent new len count sizes = take_at new (drop (length new) old) len (same_count state lent new sizes ∙ count)
 
 pub marks_mapped : {D : Type 0} (state : D → DiskState) (disks : List D) → map (λ d. marks_in (state d)) disks ≡ disk_marks_of state disks
 marks_mapped state [] = refl

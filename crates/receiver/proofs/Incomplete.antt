@@ -1,6 +1,5 @@
 -- Bytes that wait for a body wait on, while it is incomplete.
-use Rattle.std.proofs.Common.{◌≡◌, ℕ, ◌+◌, ◌<◌, ◌≤◌, inl, inr, Bool, true, false, List, ◌∷◌, ◌++◌, length, drop, refl, sym, ap, ◌∙◌, append_assoc, arith, Option}
-use denote.RawPtr.{Ptr}
+use Rattle.std.proofs.Common.{◌≡◌, ℕ, ◌+◌, ◌<◌, ◌≤◌, inl, inr, Bool, true, false, List, ◌∷◌, ◌++◌, length, drop, refl, sym, ap, ◌∙◌, append_assoc, arith}
 use Rattle.std.specs.Prelude.{Ok}
 use Rattle.std.proofs.lemmas.List.{length-append}
 use Rattle.sha2.specs.Sha256.{sha256}
@@ -29,7 +28,6 @@ use Rattle.receiver.specs.declared.ram_terms.RamTerms.{RamTerms}
 use Rattle.receiver.specs.declared.recv_error.RecvError.{RecvError}
 use Rattle.receiver.specs.declared.recv_error.RecvError.TheVariants as errors
 use Rattle.receiver.proofs.Feeding.{fed_on, is_receiver}
-use Rattle.receiver.proofs.Knowing.{no_fault_known}
 use Rattle.receiver.proofs.Prefixes.{holds_here}
 use Rattle.receiver.proofs.Standing.{second_low}
 use Rattle.receiver.proofs.Working.{kept}

@@ -11,7 +11,7 @@ use Rattle.guestmem.specs.Number.{IsBytes}
 use Rattle.wire.specs.DeviceBody.{body, IsDeviceOf}
 use Rattle.receiver.specs.Opened.{Opened, header, layout_in, said_by}
 use Rattle.wire.specs.Header as told
-use Rattle.wire.specs.Records.{Record, page, sector, round_end, device, commit, spelled_record, zero_page}
+use Rattle.wire.specs.Records.{Record, sector, device, commit, spelled_record}
 use Rattle.wire.specs.Stream.{IsStream, texts, rounds, shapes_in, device_texts, before_commit, last_named, record_in}
 use Rattle.receiver.specs.Taken.{shown}
 use Rattle.guestmem.specs.Item.{Item}

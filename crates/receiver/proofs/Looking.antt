@@ -37,30 +37,17 @@ head_not_past stage e past = subst IsPastHead e past
 pub head_not_failed : (stage : Stage) → stage ≡ stages.Head → has_failed stage ≡ false
 head_not_failed stage e = ap has_failed e
 
--- The header was read before.
-pub opened_before : (r : ReaderSeen) (bytes : List ℕ) → is_head r.stage ≡ false → ReadsHeader r bytes (Ok 0) r
-opened_before r bytes later = record {
+-- The header was read before, or is not whole.
+pub not_opened : (r : ReaderSeen) (bytes : List ℕ) → (r.stage ≡ stages.Head → WaitsHead bytes × (length bytes ≤ 495)) → ReadsHeader r bytes (Ok 0) r
+not_opened r bytes waits = record {
   ram = refl;
   disks = refl;
   within = omega arith;
-  few = λ head. absurd (true_false _ (ap is_head head) later);
+  few = λ head. (waits head).1;
   place = refl;
   later = λ past. (refl, refl);
   failed = λ f. (refl, refl);
-  opened = λ held head k. absurd (true_false _ (ap is_head head) later);
-}
-
--- The header is not whole.
-pub open_waits : (r : ReaderSeen) (bytes : List ℕ) → r.stage ≡ stages.Head → WaitsHead bytes → length bytes ≤ 495 → ReadsHeader r bytes (Ok 0) r
-open_waits r bytes head waits few = record {
-  ram = refl;
-  disks = refl;
-  within = omega arith;
-  few = λ e. few;
-  place = refl;
-  later = λ past. (refl, refl);
-  failed = λ f. (refl, refl);
-  opened = λ held e k. subst (λ (stage : Stage). HeaderAt r bytes (Ok 0) r stage) (sym head) (refl, waits, refl);
+  opened = λ held head k. subst (λ (stage : Stage). HeaderAt r bytes (Ok 0) r stage) (sym head) (refl, (waits head).0, refl);
 }
 
 -- The header is refused. The RAM stands where it stood.

@@ -1,6 +1,6 @@
 -- From one stage to the next.
 use Rattle.std.proofs.Common.{◌≡◌, ◌≢◌, ℕ, ◌+◌, ◌*◌, ◌<◌, ◌≤◌, Bool, true, false, inl, List, [], ◌∷◌, ◌++◌, length, take, drop, map, replicate, refl, sym, ap, subst, ◌∙◌, append_assoc, append-nil, arith}
-use Rattle.std.proofs.lemmas.List.{take_at, length-append, length-drop, length-replicate, take-append-drop, drop-drop}
+use Rattle.std.proofs.lemmas.List.{take_at, length-append, length-drop, length-replicate}
 use Rattle.std.proofs.Math.Seq.{take-add}
 use Rattle.sha2.specs.Sha256.{sha256}
 use Rattle.sha2.specs.declared.Sha256.{Sha256}
@@ -18,8 +18,6 @@ use Rattle.machine.specs.Shapes.{disk_sizes}
 use Rattle.receiver.specs.Disks.{AreRefused, sizes_in}
 use Rattle.receiver.specs.Faults.{IsComplete, IsTrailing, IsHeaderFault, Fault, TellsHead}
 use Rattle.receiver.specs.Fed.{AreWritten, HasCome, HasRead, IsUpTo, Tells, device_records}
-use Rattle.receiver.specs.Receiving.{IsKnown}
-use Rattle.receiver.specs.declared.stage.Stage.{Stage}
 use Rattle.receiver.specs.declared.intake.Intake.{Intake}
 use Rattle.receiver.specs.declared.ram_terms.RamTerms.{RamTerms}
 use Rattle.receiver.specs.declared.recv_error.RecvError.{RecvError}
@@ -87,15 +85,6 @@ header_refused ram ds held e t = (refused_kept ds e (never_disk_head held e t), 
 -- The records after the header, which has `len` bytes.
 headed : (len at : ℕ) (bytes : List ℕ) → take len bytes ++ take at (drop len bytes) ≡ take (len + at) bytes
 headed len at bytes = sym (take-add len at bytes)
-
-pub behind_header : (ram : RamTerms) (ds : List DiskState) (digest : Sha256) (bytes : List ℕ) (len at : ℕ) (stage : Stage) → IsKnown ram ds digest (take len bytes ++ take at (drop len bytes)) (drop at (drop len bytes)) stage
-    → IsKnown ram ds digest (take (len + at) bytes) (drop (len + at) bytes) stage
-behind_header ram ds digest bytes len at stage h =
-    let rest : drop at (drop len bytes) ≡ drop (len + at) bytes = drop-drop at len bytes in
-    rw (← headed len at bytes, ← rest) h
-
-pub refused_behind : (ram : RamTerms) (old ds : List DiskState) (bytes : List ℕ) (len : ℕ) (e : RecvError) → AreRefused old ds e × Tells e ((at : ℕ) × Fault ram (sizes_in old) (take len bytes ++ drop len bytes) e at) → AreRefused old ds e × Tells e ((at : ℕ) × Fault ram (sizes_in old) bytes e at)
-refused_behind ram old ds bytes len e h = rw (take-append-drop len bytes) at h
 
 -- A piece more.
 

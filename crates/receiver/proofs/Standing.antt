@@ -27,7 +27,7 @@ use Rattle.receiver.specs.declared.intake.Intake.{Intake}
 use Rattle.receiver.specs.declared.recv_error.RecvError.{RecvError}
 use Rattle.receiver.specs.declared.recv_error.RecvError.TheVariants as errors
 use Rattle.machine.specs.Shapes.{sector_count}
-use Rattle.receiver.proofs.Lists.{empty, not_both_ways}
+use Rattle.receiver.proofs.Lists.{empty}
 use Rattle.receiver.proofs.Quiet.{quiet}
 use Rattle.receiver.proofs.Working.{fault_refused, kept, refused_kept}
 use Rattle.machine.proofs.Numbering.{either_way, size_grows}
@@ -164,9 +164,6 @@ tag_known opening before tail tag more o b =
 
 pub found_head : (opening : Opened) (before : List Record) (tail : List ℕ) (tag : ℕ) (more : List ℕ) (head : RecordHead) → Opens opening before tail tag more → BeginsHead tail head → OpensHead opening before tail head (drop (length (spelled_head head)) tail)
 found_head opening before tail tag more head o b = record { tag = tag; more = more; opens = o; fits = b.fits; whole = b.whole }
-
-pub opens_head : (opening : Opened) (before : List Record) (tail : List ℕ) (tag : ℕ) (more rest : List ℕ) (head : RecordHead) → Opens opening before tail tag more → FitsHead head → tail ≡ spelled_head head ++ rest → OpensHead opening before tail head rest
-opens_head opening before tail tag more rest head o fits e = record { tag = tag; more = more; opens = o; fits = fits; whole = e }
 
 -- The body, and what is behind it.
 pub cut_behind : {opening : Opened} {before : List Record} {tail behind : List ℕ} {head : RecordHead} (n : ℕ) → OpensHead opening before tail head behind → OpensHead opening before tail head (take n behind ++ drop n behind)

@@ -6,7 +6,7 @@ use Rattle.std.specs.List.{AllByRecursion}
 use Rattle.std.proofs.lemmas.List.{length-append, length-replicate}
 use Rattle.wire.specs.DeviceBody.{body, IsBodyOf, IsDeviceOf}
 use Rattle.receiver.specs.Opened.{header, Opened, layout_in}
-use Rattle.wire.specs.Records.{Record, page, sector, round_end, device, commit, spelled_record, HasSpelling, IsOf, is_zero_page, page_record, zero_page}
+use Rattle.wire.specs.Records.{Record, page, sector, round_end, device, spelled_record, HasSpelling, IsOf, is_zero_page, page_record, zero_page}
 use Rattle.wire.specs.Stream.{IsEntry, AreNumbered, rounds, texts, shapes_in, record_in}
 use Rattle.guestmem.specs.Zeros.{are_zeros}
 use Rattle.guestmem.specs.Item as items

@@ -10,7 +10,7 @@ use Rattle.guestmem.specs.Page.{page_of}
 use Rattle.machine.specs.Layout.{Layout, IsItemIn, item_at, number_of, size_of}
 use Rattle.blk.specs.Sectors.{Sector}
 use Rattle.machine.proofs.Numbering.{item_back, number_below}
-use Rattle.wire.specs.Records.{Record, page, sector, round_end, device, commit, zero_page, page_record}
+use Rattle.wire.specs.Records.{Record, page, sector, round_end, device, zero_page, page_record}
 use Rattle.wire.specs.Stream.{AreNumbered, rounds, or_else, says_of, same_item, last_named, record_in}
 use Rattle.wire.proofs.ItemRecords.{same_if, same_itself, named-snoc, named_nothing}
 use Rattle.receiver.specs.Taken.{shown, AreTaken}

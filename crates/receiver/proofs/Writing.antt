@@ -31,11 +31,6 @@ disk_told state [] k n there = absurd (omega (arith, there))
 disk_told state (d ∷ disks) zero n there = omega arith
 disk_told state (d ∷ disks) (suc k) n there = let h = disk_told state disks k n there in omega (arith, h)
 
-pub size_tells : {D : Type 0} (state : D → DiskState) (disks : List D) (k : ℕ) (x : D) (n : ℕ) → k < length disks → n < length (state (get_or disks k x)).sectors → n < get_or (sizes_of state disks) k 0
-size_tells state [] k x n low there = absurd (omega (arith, low))
-size_tells state (d ∷ disks) zero x n low there = there
-size_tells state (d ∷ disks) (suc k) x n low there = size_tells state disks k x n (omega (arith, low)) there
-
 pub in_range : {A : Type 0} (xs : List A) (k : ℕ) (x d : A) → k < length xs → x ≡ get_or xs k x → x ≡ get_or xs k d
 in_range [] k x d lt e = absurd (omega (arith, lt))
 in_range (y ∷ xs) zero x d lt e = e

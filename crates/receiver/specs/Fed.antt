@@ -96,7 +96,8 @@ After old disks opening before new front tail (Err e) = AreRefused old disks e �
 
 -- The same for all bytes that were taken in before, which have this digest.
 abbrev pub TakesPart : List DiskState → List DiskState → Intake → Intake → Sha256 → List ℕ → Result (Option ℕ) RecvError → Type 0
-TakesPart old disks i new digest bytes result = (front : List ℕ) (opening : Opened) (before : List Record) → Holds256 digest front → HasRead old opening before i front → After old disks opening before new front bytes result
+TakesPart old disks i new digest bytes result = (front : List ℕ) (opening : Opened) (before : List Record) → Holds256 digest front → HasRead old opening before i front
+    → After old disks opening before new front bytes result
 
 -- The intake has taken in the front of the bytes, and waits for more.
 pub record IsOpen (disks : List DiskState) (opening : Opened) (i : Intake) (front tail : List ℕ) : Type 0 where

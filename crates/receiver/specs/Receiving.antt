@@ -127,12 +127,20 @@ pub record Received : Type 0 where
   pub held : List ℕ
   pub place : Option Ptr
 
-abbrev pub received_by : RamTerms → Option Ptr → List DiskState → Stage → Sha256 → List ℕ → Received
-received_by ram place disks stage digest held = record { ram = ram; sizes = sizes_in disks; marks = all_marks_in disks; rounds = rounds_in stage; failed = has_failed stage; disks = disks; stage = stage; digest = digest; held = held; place = place }
-
 -- A receiver with this reader, which holds these bytes.
 abbrev pub received_with : ReaderSeen → List ℕ → Received
-received_with r held = received_by r.ram (place_in r.aside r.stage) r.disks r.stage r.digest held
+received_with r held = record {
+  ram = r.ram;
+  sizes = sizes_in r.disks;
+  marks = all_marks_in r.disks;
+  rounds = rounds_in r.stage;
+  failed = has_failed r.stage;
+  disks = r.disks;
+  stage = r.stage;
+  digest = r.digest;
+  held = held;
+  place = place_in r.aside r.stage;
+}
 
 -- The receiver was fed these bytes, and there was no refusal.
 pub record HasBeenFed (r : Received) (b : List ℕ) : Type 0 where

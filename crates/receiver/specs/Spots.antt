@@ -16,10 +16,6 @@ use Rattle.receiver.specs.Opened.{Opened, layout_in}
 abbrev pub disks_before : List Shape → ℕ → ℕ
 disks_before shapes place = count_by (λ shape. nat_lt 0 (sector_count shape)) (take place shapes)
 
--- The disk has a sector of this number.
-abbrev pub HasSector : List ℕ → ℕ → ℕ → Type 0
-HasSector sizes disk number = number < slice_index_or sizes disk 0
-
 -- The intake has a mark for the sector, and one for the item.
 pub record HasMarks (i : Intake) (number : ℕ) (spot : Spot) : Type 0 where
   pub disk : spot.disk < length i.bad.items

@@ -82,7 +82,8 @@ record_behind head behind = record_with head (take (body_len head) behind)
 
 -- The record that this head and the bytes behind it make, which begins `tail`, was taken in, waits for its body, or was refused.
 abbrev pub Entered : List DiskState → List DiskState → Opened → List Record → Intake → List ℕ → List ℕ → RecordHead → List ℕ → Result Bool RecvError → Type 0
-Entered old disks opening before new front tail head behind (Ok true) = AreKept old disks × HasRead disks opening (before ++ record_behind head behind ∷ []) new (front ++ spelled_record (record_behind head behind))
+Entered old disks opening before new front tail head behind (Ok true) = AreKept old disks
+    × HasRead disks opening (before ++ record_behind head behind ∷ []) new (front ++ spelled_record (record_behind head behind))
 Entered old disks opening before new front tail head behind (Ok false) = AreKept old disks × HasRead disks opening before new front × Waits opening before tail
 Entered old disks opening before new front tail head behind (Err e) = AreRefused old disks e × Tells e ((place : ℕ) × IsFault opening before tail e place)
 

@@ -14,7 +14,7 @@ use Rattle.receiver.proofs.intake.take_good.Goals as goal
 pub write-requires : goal.write-requires
 write-requires g c =
     let there = on_disk (sizes_of g.D.Disk.state c.args.disks.now) c.args.intake.now c.args.dev c.args.number c.in-Some.spot.disk c.requires.sized c.requires.fits c.in-Some.ensures.found.there c.in-Some.ensures.found.disk in
-    size_told g.D.Disk.state c.args.disks.now c.in-Some.spot.disk c.index-disks-spot.result c.args.number there
+    omega (arith, size_told g.D.Disk.state c.args.disks.now c.in-Some.spot.disk c.index-disks-spot.result c.args.number there)
 
 pub bounds-disks-spot : goal.bounds-disks-spot
 bounds-disks-spot g c =
@@ -54,7 +54,7 @@ returns-in-Err-clause-entered g c = λ front tail opening before are h o.
     let was = sym (get_or-map state c.args.disks.now c.in-Some.spot.disk c.index-disks-spot.result (state c.write.new.self) low) in
     let wrote = rw was at c.in-Err.ensures.written in (
       rw (map-set state c.args.disks.now c.in-Some.spot.disk c.write.new.self)
-          (write_failed ds c.in-Some.spot.disk c.args.number c.in-Some-first_chunk.bytes.now _ (state c.write.new.self) (omega (arith, low, length-map c.args.disks.now state)) wrote),
+          (write_failed ds c.in-Some.spot.disk _ _ _ (state c.write.new.self) (omega (arith, low, length-map c.args.disks.now state)) wrote),
       tt,
     )
 
@@ -66,16 +66,6 @@ returns-clause-sizes g c =
     let was = sym (get_or-map state c.args.disks.now c.in-Some.spot.disk c.index-disks-spot.result (state c.write.new.self) low) in
     let wrote = rw was at c.in-Ok.ensures.written in
     rw (map-set state c.args.disks.now c.in-Some.spot.disk c.write.new.self) (sizes_kept (map state c.args.disks.now) c.in-Some.spot.disk (state c.write.new.self) wrote.keeps.size)
-
-pub returns-clause-sized : goal.returns-clause-sized
-returns-clause-sized g c =
-    let i = c.args.intake.now in
-    let spot = c.in-Some.spot in
-    let marked = c.in-Some.ensures.marked in
-    let marks = in_range i.bad.items spot.disk c.index_mut.result.now [] marked.disk c.index_mut.ensures.value in
-    let bad : c.remove.new.self ≡ set (get_or i.bad.items spot.disk []) c.args.number false = c.remove.ensures ∙ ap (λ (m : List Bool). set m c.args.number false) marks in
-    sized_on i _ c.requires.sized refl (ap length c.insert.ensures ∙ length-set i.named spot.item _) refl
-    (marks_long i.bad.items spot.disk c.remove.new.self marked.disk (ap length bad ∙ length-set (get_or i.bad.items spot.disk []) c.args.number false)) refl c.requires.sized.roomy
 
 pub returns-clause-entered : goal.returns-clause-entered
 returns-clause-entered g c = λ front tail opening before are h o.
@@ -112,3 +102,13 @@ returns-clause-calls g c =
     let low = disk_told g.D.Disk.state c.args.disks.now c.in-Some.spot.disk c.args.number there in
     let was = sym (get_or-map calls c.args.disks.now c.in-Some.spot.disk c.index-disks-spot.result 0 low) in
     rw (← c.in-Some.ensures.found.disk) (map-set calls c.args.disks.now c.in-Some.spot.disk c.write.new.self ∙ ap (set (map calls c.args.disks.now) c.in-Some.spot.disk) (rw was at c.in-Ok.ensures.calls))
+
+pub returns-clause-sized : goal.returns-clause-sized
+returns-clause-sized g c =
+    let i = c.args.intake.now in
+    let spot = c.in-Some.spot in
+    let marked = c.in-Some.ensures.marked in
+    let marks = in_range i.bad.items spot.disk c.index_mut.result.now [] marked.disk c.index_mut.ensures.value in
+    let bad : c.remove.new.self ≡ set (get_or i.bad.items spot.disk []) c.args.number false = c.remove.ensures ∙ ap (λ (m : List Bool). set m c.args.number false) marks in
+    sized_on i _ c.requires.sized refl (ap length c.insert.ensures ∙ length-set i.named spot.item _) refl
+    (marks_long i.bad.items spot.disk c.remove.new.self marked.disk (ap length bad ∙ length-set (get_or i.bad.items spot.disk []) c.args.number false)) refl c.requires.sized.roomy

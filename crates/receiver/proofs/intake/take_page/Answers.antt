@@ -17,14 +17,6 @@ put_page-requires-clause-inside c = omega (arith, c.has_page.ensures.0 (search r
 pub insert-requires : goal.insert-requires
 insert-requires c = page_marked c.args.intake.now c.args.number c.requires.sized (c.has_page.ensures.0 (search rules))
 
-pub returns-clause-sized : goal.returns-clause-sized
-returns-clause-sized c =
-    let i = c.args.intake.now in
-    let low = c.has_page.ensures.0 (search rules) in
-    let many : length c.split_at.result.0.now ≡ 4096 = search rules in
-    let ram = c.put_page.ensures.bytes ∙ put_is i.ram.bytes c.split_at.result.0.now c.args.number (PAGE_SIZE * c.args.number) refl many in
-    sized_on i _ c.requires.sized (ap length ram ∙ put_size i.ram.bytes c.split_at.result.0.now c.args.number low many) (ap length c.insert.ensures ∙ length-set i.named c.args.number _) refl refl refl c.requires.sized.roomy
-
 pub returns-then-not-has_page-clause-entered : goal.returns-then-not-has_page-clause-entered
 returns-then-not-has_page-clause-entered c = λ ds front tail opening before are h o.
     let there = page_there c.args.number h in
@@ -56,3 +48,11 @@ returns-clause-entered c = λ ds front tail opening before are h o.
       more_page ds front opening before c.args.intake.now _ c.args.number c.split_at.result.0.now h early (omega (arith, c.ranges.number.fits), many, rw bytes (IsBytes-take 4096 c.args.behind.now (λ k. omega (arith, c.type_inv.behind k)))) has (c.has_page.ensures.0 (search rules))
           (c.put_page.ensures.bytes ∙ put_is c.args.intake.now.ram.bytes c.split_at.result.0.now c.args.number (PAGE_SIZE * c.args.number) refl many) c.insert.ensures refl refl refl refl refl refl,
     )
+
+pub returns-clause-sized : goal.returns-clause-sized
+returns-clause-sized c =
+    let i = c.args.intake.now in
+    let low = c.has_page.ensures.0 (search rules) in
+    let many : length c.split_at.result.0.now ≡ 4096 = search rules in
+    let ram = c.put_page.ensures.bytes ∙ put_is i.ram.bytes c.split_at.result.0.now c.args.number (PAGE_SIZE * c.args.number) refl many in
+    sized_on i _ c.requires.sized (ap length ram ∙ put_size i.ram.bytes c.split_at.result.0.now c.args.number low many) (ap length c.insert.ensures ∙ length-set i.named c.args.number _) refl refl refl c.requires.sized.roomy

@@ -6,16 +6,16 @@ use Rattle.machine.specs.Shapes.{disk_sizes}
 use Rattle.receiver.specs.Disks.{sizes_of}
 use Rattle.receiver.specs.Fed.{IsUpTo}
 use Rattle.receiver.specs.Opened.{opened}
-use Rattle.receiver.specs.Receiving.{place_in}
+use Rattle.receiver.specs.Receiving.{is_head, place_in}
 use Rattle.receiver.specs.declared.recv_error.RecvError.TheVariants as errors
-use Rattle.receiver.proofs.Looking.{head_is, head_not_failed, head_not_past, open_refused, open_waits, opened_before, room_of}
+use Rattle.receiver.proofs.Looking.{head_is, head_not_failed, head_not_past, not_opened, open_refused, room_of}
 use Rattle.receiver.proofs.Feeding.{true_false}
 use Rattle.receiver.proofs.Stages.{head_taken, header_refused, mismatch}
 use Rattle.receiver.proofs.Working.{refused_kept}
 use Rattle.receiver.proofs.reader.Reader.open.Goals as goal
 
 pub returns-then-not-is_head : goal.returns-then-not-is_head
-returns-then-not-is_head g c = rw (← c.self.view_is) (opened_before _ c.args.bytes.now (sym c.is_head.ensures ∙ c.if-not-is_head.true))
+returns-then-not-is_head g c = rw (← c.self.view_is) (not_opened _ c.args.bytes.now (λ head. absurd (true_false _ (ap is_head head) (sym c.is_head.ensures ∙ c.if-not-is_head.true))))
 
 pub returns-in-Err : goal.returns-in-Err
 returns-in-Err g c =
@@ -25,10 +25,9 @@ returns-in-Err g c =
 
 pub returns-in-Ok-None : goal.returns-in-Ok-None
 returns-in-Ok-None g c =
-    let head = head_is c.self.inside.stage (sym c.is_head.ensures ∙ c.if-not-is_head.false) in
     let waits = rw c.in-Ok-None.field-0-is at c.in-Ok-None.ensures.read in
     let few = (rw c.in-Ok-None.field-0-is at c.in-Ok-None.ensures.few) refl in
-    rw (← c.self.view_is) (open_waits _ c.args.bytes.now head waits few)
+    rw (← c.self.view_is) (not_opened _ c.args.bytes.now (λ head. (waits, few)))
 
 pub returns-in-Err-check_fit : goal.returns-in-Err-check_fit
 returns-in-Err-check_fit g c =
