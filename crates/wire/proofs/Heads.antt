@@ -244,20 +244,6 @@ no_mark fields d n m are long e f g high = record {
   never = high;
 }
 
-pub no_tag : (t : ℕ) (rest : List ℕ) → t ≢ 1 → t ≢ 2 → t ≢ 3 → t ≢ 4 → t ≢ 5 → t ≢ 6 → BeginsNoTag (t ∷ rest)
-no_tag t rest a b c d f g = record { tag = t; more = rest; whole = refl; never = λ head x e. no_head head x e }
-  where
-    no_head : (head : RecordHead) (x : List ℕ) → spelled_head head ≢ t ∷ x
-    no_head (Page n) x e = a (sym (head_same e))
-    no_head (Sector i n g) x e = b (sym (head_same e))
-    no_head (RoundEnd n) x e = c (sym (head_same e))
-    no_head (Device i n) x e = d (sym (head_same e))
-    no_head Commit x e = f (sym (head_same e))
-    no_head (ZeroPage n) x e = g (sym (head_same e))
-
-pub commit_read : (rest : List ℕ) → BeginsHead (5 ∷ rest) Commit
-commit_read rest = begins (5 ∷ rest) rest Commit tt refl
-
 -- Heads that are cut. The tag tells the length.
 
 len_of : ℕ → ℕ

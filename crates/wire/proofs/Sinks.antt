@@ -53,12 +53,3 @@ digested a digest h bytes c = h c.first c.holds ∙ ap sha256 (sym (c.whole ∙ 
 -- A sink that never fails.
 pub never_fails : {T E : Type 0} (old new : Bool) (bytes : List ℕ) (e : E) → Appends {T = T} (over_writer None 0 old) bytes (Err e) (over_writer None 0 new) → ⊥
 never_fails old new bytes e appends = let is : zero ≡ suc zero = appends.count in cc
-
--- A digest that takes bytes at once covers exactly the bytes that the hasher holds.
-pub prompt_covers : (a : Sha256) (bytes : List ℕ) → Holds256 a bytes → Covers (prompt a) bytes
-unfolding Digests
-prompt_covers a bytes h = record { first = bytes; holds = h; whole = sym (append-nil bytes) }
-
-pub prompt_holds : (a : Sha256) (bytes : List ℕ) → Covers (prompt a) bytes → Holds256 a bytes
-unfolding Digests
-prompt_holds a bytes c = subst (Holds256 a) (sym (c.whole ∙ append-nil c.first)) c.holds
