@@ -1,7 +1,8 @@
 -- What a host does for a guest that runs, by whether its machine is being migrated.
-use Rattle.std.specs.Prelude.{Result, Ok, Err}
+use Rattle.std.specs.Prelude.{◌≡◌, ℕ, Bool, Result, Ok, Err}
 use Rattle.machine.specs.Applied.{IsApplied}
-use Rattle.machine.specs.Seen.{Seen}
+use Rattle.machine.specs.Seen.{Seen, state_of}
+use Rattle.machine.specs.Unsynced.{FailsFlushIf, makes_flush}
 use Rattle.machine.specs.declared.event.Event.{Event}
 use Rattle.machine.specs.declared.reply.Reply.{Reply}
 use Rattle.sender.specs.Calls.{Serves, guest_reply}
@@ -17,3 +18,9 @@ IsServed old e (Err x) new = ⊥
 -- One that is being migrated refuses once it is stopped, and else exactly the items that the event writes into become dirty.
 abbrev pub IsServedLive : LiveSeen → Event → Result Reply MigError → LiveSeen → Type 0
 IsServedLive old e result new = Serves old (Guest e) (guest_reply result) new
+
+-- A flush that fails in place of its step, of a machine that is not being migrated. The result says whether the step of this pick flushes a
+-- disk. Of one that is being migrated it is `TriesFlush`.
+abbrev pub IsFlushTried : Seen → ℕ → ℕ → Result Bool MigError → Seen → Type 0
+IsFlushTried old dev pick (Ok was) new = (was ≡ makes_flush (state_of old) dev pick) × FailsFlushIf was old dev pick new
+IsFlushTried old dev pick (Err x) new = ⊥

@@ -2,18 +2,19 @@
 
 use crate::live::LiveOver;
 use crate::mig_error::MigError;
-use machine::{Disk, DiskFault, Event, Machine, Reply};
+use machine::{Disk, DiskFault, Event, Machine, Reply, Stepped};
 use wire::Digesting;
 
 /// A machine whose guest runs. Only one that is being migrated refuses: once it is stopped.
 pub trait Guest<D: Disk> {
-    ghost use Rattle.std.specs.Prelude.{◌≡◌, ℕ, Result};
+    ghost use Rattle.std.specs.Prelude.{◌≡◌, ℕ, Bool, Result};
     ghost use Rattle.blk.specs.declared.disk.DiskFault.{DiskFault};
     ghost use Rattle.machine.specs.Seen.{Seen};
     ghost use Rattle.machine.specs.Unsynced.{FlushesDisk};
     ghost use Rattle.machine.specs.declared.event.Event.{Event};
     ghost use Rattle.machine.specs.declared.event.Event.TheVariants as events;
     ghost use Rattle.machine.specs.declared.reply.Reply.{Reply};
+    ghost use Rattle.sender.specs.Calls.{stepped_result};
     ghost use Rattle.sender.specs.declared.mig_error.MigError.{MigError};
 
     /// The machine.
@@ -22,13 +23,48 @@ pub trait Guest<D: Disk> {
     /// What an event of the guest does, by its answer.
     ghost serves: { Self → Event → Result Reply MigError → Self → Type 0 };
 
+    /// What a flush that fails in place of its step does, by the device, the pick and its answer.
+    ghost tries_flush: { Self → ℕ → ℕ → Result Bool MigError → Self → Type 0 };
+
     /// Applies an event of the guest, or a step.
     fn apply(&mut self, event: &Event) -> Result<Reply, MigError>
         ensures { serves self.old event.now result self.new };
 
+    /// The driver reads a register. As `apply` of that event.
+    fn read_register(&mut self, dev: u8, offset: u32, width: u8) -> Result<Reply, MigError>
+        ensures { serves self.old (events.RegRead dev offset width) result self.new };
+
+    /// The driver writes a register. As `apply` of that event.
+    fn write_register(
+        &mut self,
+        dev: u8,
+        offset: u32,
+        width: u8,
+        value: u32,
+    ) -> Result<Reply, MigError>
+        ensures { serves self.old (events.RegWrite dev offset width value) result self.new };
+
+    /// The guest writes bytes into RAM from address `addr` on. As `apply` of that event, whose bytes need not be copied.
+    fn write_ram(&mut self, addr: u64, bytes: &[u8]) -> Result<Reply, MigError>
+        ensures { serves self.old (events.MemWrite addr bytes.now) result self.new };
+
     /// The host puts bytes in. As `apply` of that event, whose bytes need not be copied.
     fn input(&mut self, dev: u8, bytes: &[u8]) -> Result<Reply, MigError>
         ensures { serves self.old (events.Input dev bytes.now) result self.new };
+
+    /// The host sets the size of a console, in characters. As `apply` of that event.
+    fn resize(&mut self, dev: u8, cols: u16, rows: u16) -> Result<Reply, MigError>
+        ensures { serves self.old (events.Resize dev cols rows) result self.new };
+
+    /// A device does one piece of its work, which the pick names. As `apply` of that event; the bytes of a message go into the buffer,
+    /// which is cut or grows to them, and where none is sent it may hold anything.
+    fn step_into(&mut self, dev: u8, pick: u8, sent: &mut Vec<u8>) -> Result<Stepped, MigError>
+        ensures { serves self.old (events.Step dev pick) (stepped_result result sent.new.items) self.new };
+
+    /// In place of a step that flushes a disk: makes it as a step whose disk failed, and calls no disk (`Machine::fail_flush`). The
+    /// result says whether the step with this pick flushes; if not, nothing has changed.
+    fn fail_flush(&mut self, dev: u8, pick: u8) -> Result<bool, MigError>
+        ensures { tries_flush self.old dev pick result self.new };
 
     /// Flushes the disk of a device once, if it has one (`Machine::flush_disk`).
     fn flush_disk(&mut self, dev: u8) -> Result<(), DiskFault>
@@ -40,18 +76,52 @@ pub trait Guest<D: Disk> {
 }
 
 impl<D: Disk> Guest<D> for Machine<D> {
-    ghost use Rattle.sender.specs.Guests.{IsServed};
+    ghost use Rattle.sender.specs.Guests.{IsFlushTried, IsServed};
 
     ghost seen = { λ m. m };
 
     ghost serves = { IsServed };
 
+    ghost tries_flush = { IsFlushTried };
+
     fn apply(&mut self, event: &Event) -> Result<Reply, MigError> {
         Ok(Machine::apply(self, event))
     }
 
+    fn read_register(&mut self, dev: u8, offset: u32, width: u8) -> Result<Reply, MigError> {
+        let answer = Machine::read_register(self, dev, offset, width);
+        Ok(Reply::from_value(answer))
+    }
+
+    fn write_register(
+        &mut self,
+        dev: u8,
+        offset: u32,
+        width: u8,
+        value: u32,
+    ) -> Result<Reply, MigError> {
+        let answer = Machine::write_register(self, dev, offset, width, value);
+        Ok(Reply::from_written(answer))
+    }
+
+    fn write_ram(&mut self, addr: u64, bytes: &[u8]) -> Result<Reply, MigError> {
+        Ok(Reply::from_done(Machine::write_ram(self, addr, bytes)))
+    }
+
     fn input(&mut self, dev: u8, bytes: &[u8]) -> Result<Reply, MigError> {
         Ok(Reply::from_accepted(Machine::input(self, dev, bytes)))
+    }
+
+    fn resize(&mut self, dev: u8, cols: u16, rows: u16) -> Result<Reply, MigError> {
+        Ok(Reply::from_done(Machine::resize(self, dev, cols, rows)))
+    }
+
+    fn step_into(&mut self, dev: u8, pick: u8, sent: &mut Vec<u8>) -> Result<Stepped, MigError> {
+        Ok(Machine::step_into(self, dev, pick, sent))
+    }
+
+    fn fail_flush(&mut self, dev: u8, pick: u8) -> Result<bool, MigError> {
+        Ok(Machine::fail_flush(self, dev, pick))
     }
 
     fn flush_disk(&mut self, dev: u8) -> Result<(), DiskFault> {
@@ -66,17 +136,50 @@ impl<D: Disk> Guest<D> for Machine<D> {
 /// While a machine is being migrated, what an event writes into becomes dirty, and is sent again.
 impl<D: Disk, W: Digesting> Guest<D> for LiveOver<D, W> {
     ghost use Rattle.sender.specs.Guests.{IsServedLive};
+    ghost use Rattle.sender.specs.Unsynced.{TriesFlush};
 
     ghost seen = { λ l. l.machine };
 
     ghost serves = { IsServedLive };
 
+    ghost tries_flush = { TriesFlush };
+
     fn apply(&mut self, event: &Event) -> Result<Reply, MigError> {
         LiveOver::apply(self, event)
     }
 
+    fn read_register(&mut self, dev: u8, offset: u32, width: u8) -> Result<Reply, MigError> {
+        LiveOver::read_register(self, dev, offset, width)
+    }
+
+    fn write_register(
+        &mut self,
+        dev: u8,
+        offset: u32,
+        width: u8,
+        value: u32,
+    ) -> Result<Reply, MigError> {
+        LiveOver::write_register(self, dev, offset, width, value)
+    }
+
+    fn write_ram(&mut self, addr: u64, bytes: &[u8]) -> Result<Reply, MigError> {
+        LiveOver::write_ram(self, addr, bytes)
+    }
+
     fn input(&mut self, dev: u8, bytes: &[u8]) -> Result<Reply, MigError> {
         LiveOver::input(self, dev, bytes)
+    }
+
+    fn resize(&mut self, dev: u8, cols: u16, rows: u16) -> Result<Reply, MigError> {
+        LiveOver::resize(self, dev, cols, rows)
+    }
+
+    fn step_into(&mut self, dev: u8, pick: u8, sent: &mut Vec<u8>) -> Result<Stepped, MigError> {
+        LiveOver::step_into(self, dev, pick, sent)
+    }
+
+    fn fail_flush(&mut self, dev: u8, pick: u8) -> Result<bool, MigError> {
+        LiveOver::fail_flush(self, dev, pick)
     }
 
     fn flush_disk(&mut self, dev: u8) -> Result<(), DiskFault> {
