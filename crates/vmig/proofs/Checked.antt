@@ -8,7 +8,7 @@ use Rattle.wire.specs.Header.{Begins, Opening, header}
 use Rattle.rehearsal.specs.InMemory.{memory_state}
 use Rattle.vmig.proofs.MemoryDisks.{refused_steadily, zeros_sized}
 use Rattle.vmig.proofs.Written.{keeps_same}
-use Rattle.vmig.specs.Checking.{AreSizesOf, HasCome, IsStreamLine, TellsOfChecked, TellsOfStream, zero_disks}
+use Rattle.vmig.specs.Checking.{AreSizesOf, IsStreamLine, IsStreamMachine, TellsOfChecked, TellsOfStream, zero_disks}
 use Rattle.vmig.specs.Faults.{TellsOfOutput}
 use Rattle.vmig.specs.Feeding.{TellsOfRest}
 use Rattle.vmig.specs.Output.{FailsOnFile, Silently}
@@ -49,7 +49,7 @@ told_first named out fault (inl file) = inl (file, keeps_same out)
 told_first named out fault (inr told) = inr (told.0, inl (told.1, keeps_same out))
 
 -- The line of a stream could not be written, or not all of it.
-pub told_of_line : (named : List ℕ) (m : MachineState) (pages devices rounds : ℕ) (old new : Option (List ℕ)) (fault : Fault) → HasCome m rounds → pages ≡ length m.ram / PAGE_SIZE → devices ≡ length m.devices → TellsOfOutput fault
+pub told_of_line : (named : List ℕ) (m : MachineState) (pages devices rounds : ℕ) (old new : Option (List ℕ)) (fault : Fault) → IsStreamMachine m rounds → pages ≡ length m.ram / PAGE_SIZE → devices ≡ length m.devices → TellsOfOutput fault
     → AppendsBeginning old new (checked_line pages devices rounds) → FailsOnFile named TellsOfStream (λ bytes. Silently (IsStreamLine bytes)) old new fault
 told_of_line named m pages devices rounds old new fault come p d told begun = inr (
   come.bytes,

@@ -25,7 +25,7 @@ pub record IsStreamLine (bytes line : List ℕ) : Type 0 where
   pub spelled : line ≡ checked_line (length machine.ram / PAGE_SIZE) (length machine.devices) rounds
 
 -- The machine of some stream, whose RAM begins at the address 0, in which `n` rounds ended. No contract says what the file of a stream holds.
-pub record HasCome (machine : MachineState) (n : ℕ) : Type 0 where
+pub record IsStreamMachine (machine : MachineState) (n : ℕ) : Type 0 where
   pub bytes : List ℕ
   pub received : IsReceived bytes machine n
   pub based : base_of machine.devices ≡ 0

@@ -6,7 +6,7 @@ ghost use Rattle.std.specs.Prelude.{◌≡◌, ◌≤◌, ◌∷◌, ◌++◌, [
 ghost use Rattle.std.specs.Io.KnownBytes.{Appends};
 ghost use Rattle.machine.specs.Seen.{state_of};
 ghost use Rattle.traces.specs.Replies.{checked_line, AppendsBeginning};
-ghost use Rattle.vmig.specs.Checking.{BeginsNot, HasCome, IsStreamLine, TellsOfChecked, TellsOfStream, zero_disks};
+ghost use Rattle.vmig.specs.Checking.{BeginsNot, IsStreamLine, IsStreamMachine, TellsOfChecked, TellsOfStream, zero_disks};
 ghost use Rattle.vmig.specs.Output.{FailsOnFile, HasDoneFile, Silently};
 
 use crate::fault::Fault;
@@ -43,7 +43,7 @@ fn receive_file<'a, R: Files + AllocGlobal>(
     rt: &R,
     name: &'a str,
 ) -> Result<(Machine<MemDisk>, u32), Fault<'a>>
-    ensures received { IfOk result (λ x. HasCome (state_of x.0) x.1) }
+    ensures received { IfOk result (λ x. IsStreamMachine (state_of x.0) x.1) }
     ensures failed { IfErr result (TellsOfChecked name.entry.now) }
 {
     let alloc = rt.alloc();
@@ -64,7 +64,7 @@ fn receive_in_memory<'a, F: Read>(
     count: usize,
 ) -> Result<(Machine<MemDisk>, u32), Fault<'a>>
     requires { count ≤ length piece.old }
-    ensures received { IfOk result (λ x. HasCome (state_of x.0) x.1) }
+    ensures received { IfOk result (λ x. IsStreamMachine (state_of x.0) x.1) }
     ensures failed { IfErr result (TellsOfChecked name.entry.now) }
 {
     match decode_header(alloc, &piece[..count])? {
@@ -79,7 +79,7 @@ fn receive_in_memory<'a, F: Read>(
 /// Refuses bytes that begin with no header, as a receiver without disks does.
 fn receive_headless(alloc: Global, bytes: &[u8]) -> Result<(Machine<MemDisk>, u32), Fault<'static>>
     requires { BeginsNot bytes.now }
-    ensures received { IfOk result (λ x. HasCome (state_of x.0) x.1) }
+    ensures received { IfOk result (λ x. IsStreamMachine (state_of x.0) x.1) }
     ensures failed { IfErr result (TellsOfStream bytes.now) }
 {
     let none: Vec<MemDisk> = Vec::new(alloc);

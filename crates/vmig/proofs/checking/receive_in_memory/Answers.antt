@@ -4,12 +4,12 @@ use Rattle.machine.specs.Seen.{state_of}
 use Rattle.wire.specs.Header.{said}
 use Rattle.vmig.proofs.Checked.{rest_told}
 use Rattle.vmig.proofs.MemoryDisks.{honest_disks}
-use Rattle.vmig.specs.Checking.{HasCome, TellsOfChecked}
+use Rattle.vmig.specs.Checking.{IsStreamMachine, TellsOfChecked}
 use Rattle.vmig.proofs.checking.receive_in_memory.Goals as goal
 
 pub returns-in_ok-disks-in-Some-clause-received : goal.returns-in_ok-disks-in-Some-clause-received
 returns-in_ok-disks-in-Some-clause-received g c =
-    IfOk-weaker c.receive_rest.result _ (λ x. HasCome (state_of x.0) x.1) (λ x h. let r = h (honest_disks c.in_ok-disks-in-Some.disks.items) in record { bytes = _ ++ r.more; received = r.received; based = r.based }) c.receive_rest.ensures.received
+    IfOk-weaker c.receive_rest.result _ (λ x. IsStreamMachine (state_of x.0) x.1) (λ x h. let r = h (honest_disks c.in_ok-disks-in-Some.disks.items) in record { bytes = _ ++ r.more; received = r.received; based = r.based }) c.receive_rest.ensures.received
 
 pub returns-in_ok-disks-in-Some-clause-failed : goal.returns-in_ok-disks-in-Some-clause-failed
 returns-in_ok-disks-in-Some-clause-failed g c =
