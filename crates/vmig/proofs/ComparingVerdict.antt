@@ -15,7 +15,7 @@ use Rattle.traces.specs.Trace.{Contents, IsTrace}
 use Rattle.wire.specs.Stream.{shapes_in}
 use Rattle.vmig.proofs.ComparingFresh.{first_shapes}
 use Rattle.vmig.proofs.ComparingSteady.{answered_stays, dealt_steady, honest_if, never_unsteady, played_stays}
-use Rattle.vmig.specs.Comparing.{AreRehearsedLines, AreSteady, HasCome, IsFresh, LookAlike, TellsOfRehearsing, WerePlayed, ending_of, verdict_line}
+use Rattle.vmig.specs.Comparing.{AreRehearsedLines, AreSteady, HasVerdict, IsFresh, LookAlike, TellsOfRehearsing, WerePlayed, ending_of, verdict_line}
 use Rattle.vmig.specs.Faults.{TellsOfOutput}
 use Rattle.vmig.specs.Output.{Fails}
 use Rattle.vmig.specs.declared.comparing.Verdict.{Verdict}
@@ -45,8 +45,8 @@ only_memory sizes marks machine errors.Trailing fits are why = absurd why
 only_memory sizes marks machine errors.AlreadyFailed fits are why = absurd why
 
 -- The stream was refused.
-pub refused_come : (c : Contents) (machine source : Seen) (marks : List Marks) (replies : List LiveReply) (error : RecvError) → IsFresh c machine → AreSteady marks → IsRefused machine c.events (disk_sizes c.shapes) marks source replies error → HasCome c replies (verdicts.Refused error)
-refused_come c machine source marks replies error fresh steady refused = record {
+pub refused_verdict : (c : Contents) (machine source : Seen) (marks : List Marks) (replies : List LiveReply) (error : RecvError) → IsFresh c machine → AreSteady marks → IsRefused machine c.events (disk_sizes c.shapes) marks source replies error → HasVerdict c replies (verdicts.Refused error)
+refused_verdict c machine source marks replies error fresh steady refused = record {
   machine = machine;
   fresh = fresh;
   verdict_is = record {
@@ -86,7 +86,7 @@ compared c machine source arrived marks replies arrived_replies alike fresh stea
     exact a.played a.rest a.are (a.source_played.each ∙ sym a.arrived_played.each) (source_stays machine source arrived c marks replies arrived_replies fresh.steady a) (arrived_stays machine source arrived c marks replies arrived_replies steady a)
 
 pub arrival_equal : (c : Contents) (machine source arrived : Seen) (marks : List Marks) (replies : List LiveReply) (arrived_replies : List Reply) → IsFresh c machine → AreSteady marks → IsArrival machine c.events (disk_sizes c.shapes) marks source arrived replies arrived_replies
-    → AreCompared source arrived replies arrived_replies true → HasCome c replies verdicts.Equal
+    → AreCompared source arrived replies arrived_replies true → HasVerdict c replies verdicts.Equal
 arrival_equal c machine source arrived marks replies arrived_replies fresh steady a exact =
     let same = (compared c machine source arrived marks replies arrived_replies true fresh steady a exact).0 refl in
     record {
@@ -103,7 +103,7 @@ arrival_equal c machine source arrived marks replies arrived_replies fresh stead
     }
 
 pub arrival_differs : (c : Contents) (machine source arrived : Seen) (marks : List Marks) (replies : List LiveReply) (arrived_replies : List Reply) → IsFresh c machine → AreSteady marks → IsArrival machine c.events (disk_sizes c.shapes) marks source arrived replies arrived_replies
-    → AreCompared source arrived replies arrived_replies false → HasCome c replies verdicts.Differ
+    → AreCompared source arrived replies arrived_replies false → HasVerdict c replies verdicts.Differ
 arrival_differs c machine source arrived marks replies arrived_replies fresh steady a exact =
     let never = (compared c machine source arrived marks replies arrived_replies false fresh steady a exact).1 in
     record {
@@ -122,9 +122,9 @@ arrival_differs c machine source arrived marks replies arrived_replies fresh ste
     }
 
 -- A beginning of what came of it was written.
-pub begun : (text : List ℕ) (c : Contents) (replies : List LiveReply) (verdict : Verdict) (old new : Option (List ℕ)) (fault : Fault) → IsTrace text c → HasCome c replies verdict → WerePlayed c.events replies → TellsOfOutput fault
+pub begun : (text : List ℕ) (c : Contents) (replies : List LiveReply) (verdict : Verdict) (old new : Option (List ℕ)) (fault : Fault) → IsTrace text c → HasVerdict c replies verdict → WerePlayed c.events replies → TellsOfOutput fault
     → AppendsBeginning old new (flat_map live_reply_line replies ++ verdict_line verdict) → Fails (TellsOfRehearsing text) (AreRehearsedLines text) old new fault
-begun text c replies verdict old new fault trace come played output beginning = inr (inl (
+begun text c replies verdict old new fault trace judged played output beginning = inr (inl (
   output,
   record {
     ending = ending_of verdict;
@@ -134,7 +134,7 @@ begun text c replies verdict old new fault trace come played output beginning = 
       trace = trace;
       replies = replies;
       verdict = verdict;
-      come = come;
+      judged = judged;
       played = played;
       spelled = refl;
       ends = refl;

@@ -83,7 +83,7 @@ IsVerdict machine c replies Differ = DoDiffer machine c replies
 IsVerdict machine c replies NoStop = IsUnmoved machine c replies
 IsVerdict machine c replies (Refused error) = IsLost machine c replies error
 
-pub record HasCome (c : Contents) (replies : List LiveReply) (verdict : Verdict) : Type 0 where
+pub record HasVerdict (c : Contents) (replies : List LiveReply) (verdict : Verdict) : Type 0 where
   pub machine : Seen
   pub fresh : IsFresh c machine
   pub verdict_is : IsVerdict machine c replies verdict
@@ -112,7 +112,7 @@ pub record AreRehearsedLines (text : List ℕ) (ending : Option Fault) (lines : 
   pub trace : IsTrace text contents
   pub replies : List LiveReply
   pub verdict : Verdict
-  pub come : HasCome contents replies verdict
+  pub judged : HasVerdict contents replies verdict
   pub played : WerePlayed contents.events replies
   pub spelled : lines ≡ flat_map live_reply_line replies ++ verdict_line verdict
   pub ends : ending ≡ ending_of verdict

@@ -13,7 +13,7 @@ ghost use Rattle.machine.specs.Seen.{Marks, all_marks, marks_at, state_of};
 ghost use Rattle.sender.specs.declared.event.LiveReply.TheVariants.{Guest};
 ghost use Rattle.traces.specs.Replies.{AppendsBeginning, live_reply_line};
 ghost use Rattle.traces.specs.Trace.{Contents, contents_of};
-ghost use Rattle.vmig.specs.Comparing.{AreRehearsedLines, AreSteady, HasCome, IsFresh, IsRehearsed, LookAlike, TellsOfRehearsed, TellsOfRehearsing, WerePlayed, verdict_line};
+ghost use Rattle.vmig.specs.Comparing.{AreRehearsedLines, AreSteady, HasVerdict, IsFresh, IsRehearsed, LookAlike, TellsOfRehearsed, TellsOfRehearsing, WerePlayed, verdict_line};
 ghost use Rattle.vmig.specs.Output.{Fails, FailsOnFile, HasDoneFile, HasWritten};
 
 use crate::checking::disks_of;
@@ -115,7 +115,7 @@ fn fresh_machine(alloc: Global, trace: &Trace) -> Result<Machine<MemDisk>, Fault
 
 /// The replies of the machine that was sent, and the outcome of its move.
 fn judge<D: Disk + Drop, E: Disk + Drop>(rehearsal: Rehearsal<D, E>) -> (Vec<LiveReply>, Verdict)
-    ensures { (c : Contents) → IsRehearsed c rehearsal → HasCome c result.0.items result.1 }
+    ensures { (c : Contents) → IsRehearsed c rehearsal → HasVerdict c result.0.items result.1 }
 {
     match rehearsal {
         Rehearsal::Arrived {

@@ -1,10 +1,10 @@
-use Rattle.vmig.proofs.ComparingVerdict.{arrival_differs, arrival_equal, refused_come}
+use Rattle.vmig.proofs.ComparingVerdict.{arrival_differs, arrival_equal, refused_verdict}
 use Rattle.vmig.proofs.comparing.judge.Goals as goal
 
 pub returns : goal.returns
 returns g c = λ contents rehearsed.
     let h = rw c.in-Refused.is at rehearsed in
-    refused_come contents h.machine c.in-Refused.source h.marks c.in-Refused.replies.items c.in-Refused.error h.fresh h.steady h.is
+    refused_verdict contents h.machine c.in-Refused.source h.marks c.in-Refused.replies.items c.in-Refused.error h.fresh h.steady h.is
 
 pub returns-then-not-are_equal : goal.returns-then-not-are_equal
 returns-then-not-are_equal g c = λ contents rehearsed.
