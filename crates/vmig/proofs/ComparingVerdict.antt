@@ -15,7 +15,7 @@ use Rattle.traces.specs.Trace.{Contents, IsTrace}
 use Rattle.wire.specs.Stream.{shapes_in}
 use Rattle.vmig.proofs.ComparingFresh.{first_shapes}
 use Rattle.vmig.proofs.ComparingSteady.{answered_stays, dealt_steady, honest_if, never_unsteady, played_stays}
-use Rattle.vmig.specs.Comparing.{AreRehearsedLines, AreSteady, HasVerdict, IsFresh, LookAlike, TellsOfRehearsing, WerePlayed, ending_of, verdict_line}
+use Rattle.vmig.specs.Comparing.{AreRehearsedLines, AreSteady, HasVerdict, IsFresh, LookAlike, TellsOfRehearsing, WerePlayed, verdict_ending, verdict_line}
 use Rattle.vmig.specs.Faults.{TellsOfOutput}
 use Rattle.vmig.specs.Output.{Fails}
 use Rattle.vmig.specs.declared.comparing.Verdict.{Verdict}
@@ -127,7 +127,7 @@ pub begun : (text : List ℕ) (c : Contents) (replies : List LiveReply) (verdict
 begun text c replies verdict old new fault trace judged played output beginning = inr (inl (
   output,
   record {
-    ending = ending_of verdict;
+    ending = verdict_ending verdict;
     output = flat_map live_reply_line replies ++ verdict_line verdict;
     asked = record {
       contents = c;

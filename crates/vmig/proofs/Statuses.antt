@@ -10,7 +10,7 @@ use Rattle.traces.specs.Trace.{Contents}
 use Rattle.traces.specs.declared.trace.TraceError.{TraceError}
 use Rattle.traces.specs.declared.trace.TraceError.TheVariants as trace_error
 use Rattle.vmig.specs.Checking.{IsStreamLine, TellsOfStream}
-use Rattle.vmig.specs.Comparing.{AreRehearsedLines, TellsOfRehearsed, TellsOfRehearsing, ending_of as ending_of_verdict}
+use Rattle.vmig.specs.Comparing.{AreRehearsedLines, TellsOfRehearsed, TellsOfRehearsing, verdict_ending}
 use Rattle.vmig.specs.Faults.{TellsOfFile, TellsOfOutput, shape_fault, status_of, stream_fault, trace_fault}
 use Rattle.vmig.specs.Output.{FailsOnFile, Silently}
 use Rattle.vmig.specs.Playing.{AreLinesOver, TellsOfBegin, TellsOfContents, TellsOfOut, TellsOfSending, TellsOfText, TellsOver}
@@ -137,7 +137,7 @@ behind_lines : (image stream : Option (List ℕ)) (text lines : List ℕ) (fault
 behind_lines None stream text lines fault h = told_late (list_any is_fault h.replies) fault h.ends
 behind_lines (Some image) stream text lines fault h = told_late (list_any is_fault h.replies) fault h.ends
 
-told_by : (verdict : Verdict) (fault : Fault) → Some fault ≡ ending_of_verdict verdict → IsOther fault
+told_by : (verdict : Verdict) (fault : Fault) → Some fault ≡ verdict_ending verdict → IsOther fault
 told_by verdicts.Equal fault h = cc
 told_by verdicts.Differ fault h = (let is : fault ≡ faults.NotEqual = cc in as_told fault faults.NotEqual is (λ two. omega (arith, two)))
 told_by verdicts.NoStop fault h = (let is : fault ≡ faults.NotEqual = cc in as_told fault faults.NotEqual is (λ two. omega (arith, two)))

@@ -100,11 +100,11 @@ verdict_line NoStop = codes "no stop" ++ newline
 verdict_line (Refused error) = []
 
 -- The fault that is reported after it: none if the machines are equal.
-abbrev pub ending_of : Verdict → Option Fault
-ending_of Equal = None
-ending_of Differ = Some NotEqual
-ending_of NoStop = Some NotEqual
-ending_of (Refused error) = Some (stream_fault error)
+abbrev pub verdict_ending : Verdict → Option Fault
+verdict_ending Equal = None
+verdict_ending Differ = Some NotEqual
+verdict_ending NoStop = Some NotEqual
+verdict_ending (Refused error) = Some (stream_fault error)
 
 -- The text is a trace, and these are the lines of the replies of its machine, in order, and of the result.
 pub record AreRehearsedLines (text : List ℕ) (ending : Option Fault) (lines : List ℕ) : Type 0 where
@@ -115,7 +115,7 @@ pub record AreRehearsedLines (text : List ℕ) (ending : Option Fault) (lines : 
   pub judged : HasVerdict contents replies verdict
   pub played : WerePlayed contents.events replies
   pub spelled : lines ≡ flat_map live_reply_line replies ++ verdict_line verdict
-  pub ends : ending ≡ ending_of verdict
+  pub ends : ending ≡ verdict_ending verdict
 
 -- What a fault says of a trace before anything is written: there is no such machine, or else memory was refused.
 abbrev pub TellsOfRehearsed : Contents → Fault → Type 0
