@@ -21,7 +21,7 @@ use Rattle.vmig.proofs.ComparingSteady.{IsSteady, dealt_steady, memory_steady}
 use Rattle.rehearsal.specs.InMemory.{memory_state}
 use Rattle.vmig.proofs.MemoryDisks.{sizes_are, zeros_sized}
 use Rattle.vmig.specs.Checking.{zero_disks}
-use Rattle.vmig.specs.Comparing.{AreSteady, IsFresh, IsRehearsed, TellsOfRehearsed}
+use Rattle.vmig.specs.Comparing.{AreSteady, IsFreshMachine, IsRehearsed, TellsOfRehearsed}
 use Rattle.vmig.specs.Faults.{shape_fault}
 use Rattle.vmig.specs.declared.fault.Fault.{Fault}
 use Rattle.vmig.specs.declared.fault.Fault.TheVariants as faults
@@ -114,7 +114,7 @@ each_steady [] = tt
 each_steady (d ∷ ds) = ((refl, refl), each_steady ds)
 
 pub is_fresh : (c : Contents) (machine : Seen) (shapes : List Shape) (disks : List (List (List ℕ))) → shapes ≡ c.shapes → disks ≡ zero_disks shapes → new_refusal c.pages shapes (disk_sizes shapes) ≡ None
-    → state_of machine ≡ first_machine c.pages shapes (map (λ d. map Some d) disks) → all_marks machine ≡ dealt_marks shapes (map (λ d. marks_in (memory_state d)) disks) → IsFresh c machine
+    → state_of machine ≡ first_machine c.pages shapes (map (λ d. map Some d) disks) → all_marks machine ≡ dealt_marks shapes (map (λ d. marks_in (memory_state d)) disks) → IsFreshMachine c machine
 is_fresh c machine shapes disks of are exists state marks = record {
   exists = (let P : List Shape → Type 0 = λ xs. new_refusal c.pages xs (disk_sizes xs) ≡ None in subst P of exists);
   state = state ∙ rw are (ap (λ (xs : List Shape). first_machine c.pages xs (map (λ d. map Some d) (zero_disks xs))) of);
@@ -125,7 +125,7 @@ no_zeros : (shapes : List Shape) → disk_sizes shapes ≡ [] → [] ≡ zero_di
 no_zeros shapes none = sym (ap (map (λ size. replicate size (replicate 512 0))) none)
 
 pub fresh_without : {M : Type 0} (c : Contents) (machine : Seen) (shapes : List Shape) (disks : List (List (List ℕ))) (r : Result M NewError) (m : M) → shapes ≡ c.shapes → disks ≡ [] → r ≡ Ok m → IfSome (new_refusal c.pages shapes (map length disks)) (λ x. r ≡ Err x)
-    → state_of machine ≡ first_machine c.pages shapes (map (λ d. map Some d) disks) → all_marks machine ≡ dealt_marks shapes (map (λ d. marks_in (memory_state d)) disks) → IsFresh c machine
+    → state_of machine ≡ first_machine c.pages shapes (map (λ d. map Some d) disks) → all_marks machine ≡ dealt_marks shapes (map (λ d. marks_in (memory_state d)) disks) → IsFreshMachine c machine
 fresh_without c machine shapes disks r m of none is refused state marks =
     let there : new_refusal c.pages shapes [] ≡ None = (let P : List (List (List ℕ)) → Type 0 = λ xs. new_refusal c.pages shapes (map length xs) ≡ None in subst P none (made_none (new_refusal c.pages shapes (map length disks)) r m is refused)) in
     is_fresh c machine shapes disks of (none ∙ no_zeros shapes (without_disks c.pages shapes there)) (none_with_disks c.pages shapes there) state marks
@@ -147,7 +147,7 @@ first_shapes base ram_len (shape ∷ shapes) =
     ap (λ first. first ∷ map (λ (d : DeviceState). made_as d.kind) (map (first_device base ram_len) shapes)) (first_as shape) ∙ ap (λ xs. shape ∷ xs) (first_shapes base ram_len shapes)
 
 -- A rehearsal of it over such disks.
-pub is_rehearsed : {D E : Type 0} (c : Contents) (machine : Seen) (shapes : List Shape) (events : List LiveEvent) (disks : List (List (List ℕ))) (rehearsal : Rehearsal D E) → IsFresh c machine → shapes ≡ c.shapes → events ≡ c.events → disks ≡ zero_disks shapes
+pub is_rehearsed : {D E : Type 0} (c : Contents) (machine : Seen) (shapes : List Shape) (events : List LiveEvent) (disks : List (List (List ℕ))) (rehearsal : Rehearsal D E) → IsFreshMachine c machine → shapes ≡ c.shapes → events ≡ c.events → disks ≡ zero_disks shapes
     → IsRehearsal machine events (sizes_of memory_state disks) (disk_marks_of memory_state disks) rehearsal → IsRehearsed c rehearsal
 is_rehearsed c machine shapes events disks rehearsal fresh of same are is = record {
   machine = machine;

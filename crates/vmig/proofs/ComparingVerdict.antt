@@ -15,7 +15,7 @@ use Rattle.traces.specs.Trace.{Contents, IsTrace}
 use Rattle.wire.specs.Stream.{shapes_in}
 use Rattle.vmig.proofs.ComparingFresh.{first_shapes}
 use Rattle.vmig.proofs.ComparingSteady.{answered_stays, dealt_steady, honest_if, never_unsteady, played_stays}
-use Rattle.vmig.specs.Comparing.{AreRehearsedLines, AreSteady, HasVerdict, IsFresh, LookAlike, TellsOfRehearsing, WerePlayed, verdict_ending, verdict_line}
+use Rattle.vmig.specs.Comparing.{AreRehearsedLines, AreSteady, HasVerdict, IsFreshMachine, LookAlike, TellsOfRehearsing, WerePlayed, verdict_ending, verdict_line}
 use Rattle.vmig.specs.Faults.{TellsOfOutput}
 use Rattle.vmig.specs.Output.{Fails}
 use Rattle.vmig.specs.declared.comparing.Verdict.{Verdict}
@@ -23,7 +23,7 @@ use Rattle.vmig.specs.declared.fault.Fault.{Fault}
 use Rattle.vmig.specs.declared.comparing.Verdict.TheVariants as verdicts
 
 -- The machine keeps the shapes of its trace, so its disks fit.
-fits_fresh : (c : Contents) (machine : Seen) → IsFresh c machine → DoFit (disk_sizes c.shapes) machine
+fits_fresh : (c : Contents) (machine : Seen) → IsFreshMachine c machine → DoFit (disk_sizes c.shapes) machine
 fits_fresh c machine fresh = sym (ap (λ (m : MachineState). disk_sizes (shapes_in m.devices)) fresh.state ∙ ap disk_sizes (first_shapes _ _ c.shapes))
 
 only_memory : (sizes : List ℕ) (marks : List Marks) (machine : Seen) (e : RecvError) → DoFit sizes machine → AreSteady marks → TellsWhy sizes marks machine e → e ≡ errors.NoMemory
@@ -45,7 +45,7 @@ only_memory sizes marks machine errors.Trailing fits are why = absurd why
 only_memory sizes marks machine errors.AlreadyFailed fits are why = absurd why
 
 -- The stream was refused.
-pub refused_verdict : (c : Contents) (machine source : Seen) (marks : List Marks) (replies : List LiveReply) (error : RecvError) → IsFresh c machine → AreSteady marks → IsRefused machine c.events (disk_sizes c.shapes) marks source replies error → HasVerdict c replies (verdicts.Refused error)
+pub refused_verdict : (c : Contents) (machine source : Seen) (marks : List Marks) (replies : List LiveReply) (error : RecvError) → IsFreshMachine c machine → AreSteady marks → IsRefused machine c.events (disk_sizes c.shapes) marks source replies error → HasVerdict c replies (verdicts.Refused error)
 refused_verdict c machine source marks replies error fresh steady refused = record {
   machine = machine;
   fresh = fresh;
@@ -80,12 +80,12 @@ abbrev pub AreCompared : Seen → Seen → List LiveReply → List Reply → Boo
 AreCompared source arrived replies arrived_replies alike = (played : List LiveReply) (rest : List Reply) → replies ≡ played ++ map Guest rest → length rest ≡ length arrived_replies → AreSteady (all_marks source) → AreSteady (all_marks arrived)
     → IsTrue alike ↔ ((arrived_replies ≡ rest) × LookAlike (state_of source) (state_of arrived))
 
-compared : (c : Contents) (machine source arrived : Seen) (marks : List Marks) (replies : List LiveReply) (arrived_replies : List Reply) (alike : Bool) → IsFresh c machine → AreSteady marks → (a : IsArrival machine c.events (disk_sizes c.shapes) marks source arrived replies arrived_replies)
+compared : (c : Contents) (machine source arrived : Seen) (marks : List Marks) (replies : List LiveReply) (arrived_replies : List Reply) (alike : Bool) → IsFreshMachine c machine → AreSteady marks → (a : IsArrival machine c.events (disk_sizes c.shapes) marks source arrived replies arrived_replies)
     → AreCompared source arrived replies arrived_replies alike → IsTrue alike ↔ ((arrived_replies ≡ a.rest) × LookAlike (state_of source) (state_of arrived))
 compared c machine source arrived marks replies arrived_replies alike fresh steady a exact =
     exact a.played a.rest a.are (a.source_played.each ∙ sym a.arrived_played.each) (source_stays machine source arrived c marks replies arrived_replies fresh.steady a) (arrived_stays machine source arrived c marks replies arrived_replies steady a)
 
-pub arrival_equal : (c : Contents) (machine source arrived : Seen) (marks : List Marks) (replies : List LiveReply) (arrived_replies : List Reply) → IsFresh c machine → AreSteady marks → IsArrival machine c.events (disk_sizes c.shapes) marks source arrived replies arrived_replies
+pub arrival_equal : (c : Contents) (machine source arrived : Seen) (marks : List Marks) (replies : List LiveReply) (arrived_replies : List Reply) → IsFreshMachine c machine → AreSteady marks → IsArrival machine c.events (disk_sizes c.shapes) marks source arrived replies arrived_replies
     → AreCompared source arrived replies arrived_replies true → HasVerdict c replies verdicts.Equal
 arrival_equal c machine source arrived marks replies arrived_replies fresh steady a exact =
     let same = (compared c machine source arrived marks replies arrived_replies true fresh steady a exact).0 refl in
@@ -102,7 +102,7 @@ arrival_equal c machine source arrived marks replies arrived_replies fresh stead
       };
     }
 
-pub arrival_differs : (c : Contents) (machine source arrived : Seen) (marks : List Marks) (replies : List LiveReply) (arrived_replies : List Reply) → IsFresh c machine → AreSteady marks → IsArrival machine c.events (disk_sizes c.shapes) marks source arrived replies arrived_replies
+pub arrival_differs : (c : Contents) (machine source arrived : Seen) (marks : List Marks) (replies : List LiveReply) (arrived_replies : List Reply) → IsFreshMachine c machine → AreSteady marks → IsArrival machine c.events (disk_sizes c.shapes) marks source arrived replies arrived_replies
     → AreCompared source arrived replies arrived_replies false → HasVerdict c replies verdicts.Differ
 arrival_differs c machine source arrived marks replies arrived_replies fresh steady a exact =
     let never = (compared c machine source arrived marks replies arrived_replies false fresh steady a exact).1 in

@@ -29,7 +29,7 @@ abbrev pub AreSteady : List Marks → Type 0
 AreSteady marks = All (λ m. IsTrue m.honest × IsTrue m.steady) marks
 
 -- The fresh machine of a trace, over disks of zeros in memory.
-pub record IsFresh (c : Contents) (machine : Seen) : Type 0 where
+pub record IsFreshMachine (c : Contents) (machine : Seen) : Type 0 where
   pub exists : new_refusal c.pages c.shapes (disk_sizes c.shapes) ≡ None
   pub state : state_of machine ≡ first_machine c.pages c.shapes (map (λ d. map Some d) (zero_disks c.shapes))
   pub steady : AreSteady (all_marks machine)
@@ -85,7 +85,7 @@ IsVerdict machine c replies (Refused error) = IsLost machine c replies error
 
 pub record HasVerdict (c : Contents) (replies : List LiveReply) (verdict : Verdict) : Type 0 where
   pub machine : Seen
-  pub fresh : IsFresh c machine
+  pub fresh : IsFreshMachine c machine
   pub verdict_is : IsVerdict machine c replies verdict
 
 -- There is a reply where there is an event: memory was not refused before the first one.
@@ -128,7 +128,7 @@ TellsOfRehearsing text fault = ((refusal : TraceError) × RefusesText text refus
 -- What follows is for private contracts alone. The rehearsal of a trace, over such disks on both sides.
 pub record IsRehearsed {D E : Type 0} (c : Contents) (rehearsal : Rehearsal D E) : Type 0 where
   pub machine : Seen
-  pub fresh : IsFresh c machine
+  pub fresh : IsFreshMachine c machine
   pub marks : List Marks
   pub steady : AreSteady marks
   pub is : IsRehearsal machine c.events (disk_sizes c.shapes) marks rehearsal

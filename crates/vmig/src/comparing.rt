@@ -13,7 +13,7 @@ ghost use Rattle.machine.specs.Seen.{Marks, all_marks, marks_at, state_of};
 ghost use Rattle.sender.specs.declared.event.LiveReply.TheVariants.{Guest};
 ghost use Rattle.traces.specs.Replies.{AppendsBeginning, live_reply_line};
 ghost use Rattle.traces.specs.Trace.{Contents, contents_of};
-ghost use Rattle.vmig.specs.Comparing.{AreRehearsedLines, AreSteady, HasVerdict, IsFresh, IsRehearsed, LookAlike, TellsOfRehearsed, TellsOfRehearsing, WerePlayed, verdict_line};
+ghost use Rattle.vmig.specs.Comparing.{AreRehearsedLines, AreSteady, HasVerdict, IsFreshMachine, IsRehearsed, LookAlike, TellsOfRehearsed, TellsOfRehearsing, WerePlayed, verdict_line};
 ghost use Rattle.vmig.specs.Output.{Fails, FailsOnFile, HasDoneFile, HasWritten};
 
 use crate::checking::disks_of;
@@ -96,7 +96,7 @@ fn rehearsed(alloc: Global, trace: &Trace) -> Result<Rehearsal<MemDisk, MemDisk>
 /// The fresh machine of a trace, over disks of zeros. Its shape is tested before a disk is made: made without disks, a machine
 /// that needs some is refused because they are missing, and one beyond the limits for its limits.
 fn fresh_machine(alloc: Global, trace: &Trace) -> Result<Machine<MemDisk>, Fault<'static>>
-    ensures fresh { IfOk result (IsFresh (contents_of trace.now)) }
+    ensures fresh { IfOk result (IsFreshMachine (contents_of trace.now)) }
     ensures failed { IfErr result (TellsOfRehearsed (contents_of trace.now)) }
 {
     let shapes = trace.shapes.as_slice();
