@@ -17,7 +17,7 @@ use Rattle.vmig.proofs.ComparingFresh.{first_shapes}
 use Rattle.vmig.proofs.ComparingSteady.{answered_stays, dealt_steady, honest_if, never_unsteady, played_stays}
 use Rattle.vmig.specs.Comparing.{AreRehearsedLines, AreSteady, HasVerdict, IsFreshMachine, LookAlike, TellsOfRehearsing, WerePlayed, verdict_ending, verdict_line}
 use Rattle.vmig.specs.Faults.{TellsOfOutput}
-use Rattle.vmig.specs.Output.{Fails}
+use Rattle.vmig.specs.Output.{RunFails}
 use Rattle.vmig.specs.declared.comparing.Verdict.{Verdict}
 use Rattle.vmig.specs.declared.fault.Fault.{Fault}
 use Rattle.vmig.specs.declared.comparing.Verdict.TheVariants as verdicts
@@ -123,7 +123,7 @@ arrival_differs c machine source arrived marks replies arrived_replies fresh ste
 
 -- A beginning of what came of it was written.
 pub begun : (text : List ℕ) (c : Contents) (replies : List LiveReply) (verdict : Verdict) (old new : Option (List ℕ)) (fault : Fault) → IsTrace text c → HasVerdict c replies verdict → WerePlayed c.events replies → TellsOfOutput fault
-    → AppendsBeginning old new (flat_map live_reply_line replies ++ verdict_line verdict) → Fails (TellsOfRehearsing text) (AreRehearsedLines text) old new fault
+    → AppendsBeginning old new (flat_map live_reply_line replies ++ verdict_line verdict) → RunFails (TellsOfRehearsing text) (AreRehearsedLines text) old new fault
 begun text c replies verdict old new fault trace judged played output beginning = inr (inl (
   output,
   record {

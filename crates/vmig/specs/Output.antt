@@ -30,12 +30,12 @@ Silently IsOutput None output = IsOutput output
 Silently IsOutput (Some fault) output = ⊥
 
 -- It failed: before anything was written, or because standard output failed, or after its whole output.
-abbrev pub Fails : (Fault → Type 0) → (Option Fault → List ℕ → Type 0) → Option (List ℕ) → Option (List ℕ) → Fault → Type 0
-Fails Tells IsOutput old new fault = (Tells fault × Keeps old new) ⊎ (TellsOfOutput fault × HasBegun IsOutput old new) ⊎ HasWritten (IsOutput (Some fault)) old new
+abbrev pub RunFails : (Fault → Type 0) → (Option Fault → List ℕ → Type 0) → Option (List ℕ) → Option (List ℕ) → Fault → Type 0
+RunFails Tells IsOutput old new fault = (Tells fault × Keeps old new) ⊎ (TellsOfOutput fault × HasBegun IsOutput old new) ⊎ HasWritten (IsOutput (Some fault)) old new
 
 -- As above, for the file of this name. No contract says what a file holds, so it is said of some text.
 abbrev pub HasDoneFile : (List ℕ → Option Fault → List ℕ → Type 0) → Option (List ℕ) → Option (List ℕ) → Type 0
 HasDoneFile IsOutput old new = (text : List ℕ) × HasWritten (IsOutput text None) old new
 
 abbrev pub FailsOnFile : List ℕ → (List ℕ → Fault → Type 0) → (List ℕ → Option Fault → List ℕ → Type 0) → Option (List ℕ) → Option (List ℕ) → Fault → Type 0
-FailsOnFile named Tells IsOutput old new fault = (TellsOfFile named fault × Keeps old new) ⊎ ((text : List ℕ) × Fails (Tells text) (IsOutput text) old new fault)
+FailsOnFile named Tells IsOutput old new fault = (TellsOfFile named fault × Keeps old new) ⊎ ((text : List ℕ) × RunFails (Tells text) (IsOutput text) old new fault)

@@ -14,7 +14,7 @@ ghost use Rattle.sender.specs.declared.event.LiveReply.TheVariants.{Guest};
 ghost use Rattle.traces.specs.Replies.{AppendsBeginning, live_reply_line};
 ghost use Rattle.traces.specs.Trace.{Contents, contents_of};
 ghost use Rattle.vmig.specs.Comparing.{AreRehearsedLines, AreSteady, HasVerdict, IsFreshMachine, IsRehearsed, LookAlike, TellsOfRehearsed, TellsOfRehearsing, WerePlayed, verdict_line};
-ghost use Rattle.vmig.specs.Output.{Fails, FailsOnFile, HasDoneFile, HasWritten};
+ghost use Rattle.vmig.specs.Output.{FailsOnFile, HasDoneFile, HasWritten, RunFails};
 
 use crate::checking::disks_of;
 use crate::fault::Fault;
@@ -61,7 +61,7 @@ pub fn rehearse_trace<'a, R: Files + AllocGlobal, O: Write>(
 
 fn rehearse_text<O: Write>(alloc: Global, text: &[u8], out: &mut O) -> Result<(), Fault<'static>>
     ensures done { OnOk result (HasWritten (AreRehearsedLines text.now None) (O.contents out.old) (O.contents out.new)) }
-    ensures failed { IfErr result (Fails (TellsOfRehearsing text.now) (AreRehearsedLines text.now) (O.contents out.old) (O.contents out.new)) }
+    ensures failed { IfErr result (RunFails (TellsOfRehearsing text.now) (AreRehearsedLines text.now) (O.contents out.old) (O.contents out.new)) }
 {
     let trace = parse(alloc, text)?;
     let (replies, verdict) = judge(rehearsed(alloc, &trace)?);

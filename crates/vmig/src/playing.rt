@@ -14,7 +14,7 @@ ghost use Rattle.std.specs.Prelude.{◌≡◌, [], IfOk, IfErr, OnOk, All, IsTru
 ghost use Rattle.std.specs.List.{list_any};
 ghost use Rattle.sender.specs.History.{is_fault};
 ghost use Rattle.traces.specs.Trace.{contents_of};
-ghost use Rattle.vmig.specs.Output.{Fails, FailsOnFile, HasDoneFile, HasWritten, IsOne};
+ghost use Rattle.vmig.specs.Output.{FailsOnFile, HasDoneFile, HasWritten, IsOne, RunFails};
 ghost use Rattle.vmig.specs.Faults.{TellsOfFile};
 ghost use Rattle.vmig.specs.Playing.{AreAnswers, AreAnswersFor, AreAnswersOver, AreLinesOver, ArePlayed, AreReplies, IsOutput, MayPlay, TellsOfBegin, TellsOfSending, TellsOfText, TellsOver};
 ghost use Rattle.wire.specs.Sinks.{SinkState, over_writer};
@@ -58,7 +58,7 @@ fn play_text<'a, R: Files + AllocGlobal, O: Write>(
     out: &mut O,
 ) -> Result<(), Fault<'a>>
     ensures done { OnOk result (HasWritten (AreLinesOver (name_in image.entry) (name_in stream.entry) text.now None) (O.contents out.old) (O.contents out.new)) }
-    ensures failed { IfErr result (Fails (TellsOfText (name_in image.entry) (name_in stream.entry) text.now) (AreLinesOver (name_in image.entry) (name_in stream.entry) text.now) (O.contents out.old) (O.contents out.new)) }
+    ensures failed { IfErr result (RunFails (TellsOfText (name_in image.entry) (name_in stream.entry) text.now) (AreLinesOver (name_in image.entry) (name_in stream.entry) text.now) (O.contents out.old) (O.contents out.new)) }
 {
     let trace = parse(rt.alloc(), text)?;
     has_stream(&trace, stream)?;

@@ -11,7 +11,7 @@ ghost use Rattle.machine.specs.Outcome.{outcome_of};
 ghost use Rattle.machine.specs.Seen.{AreHonest, Seen, all_marks, state_of};
 ghost use Rattle.receiver.specs.Disks.{AreHonestDisks, disk_marks_of, sizes_of};
 ghost use Rattle.wire.specs.Stream.{shapes_in};
-ghost use Rattle.vmig.specs.Output.{Fails, FailsOnFile, HasDoneFile, HasWritten, Silently};
+ghost use Rattle.vmig.specs.Output.{FailsOnFile, HasDoneFile, HasWritten, RunFails, Silently};
 ghost use Rattle.vmig.specs.Resuming.{AreResumed, AreResumedOver, AreResumedOverImage, HasArrived, HasArrivedOver, TellsOfArrival, TellsOfResuming, TellsOfStreamOver};
 ghost use Rattle.machine.specs.State.{MachineState};
 ghost use Rattle.vmig.specs.Words.{name_in};
@@ -51,7 +51,7 @@ fn resume_text<'a, R: Files + AllocGlobal, O: Write>(
     out: &mut O,
 ) -> Result<(), Fault<'a>>
     ensures done { OnOk result (HasWritten (AreResumedOver (name_in image.entry) text.now) (O.contents out.old) (O.contents out.new)) }
-    ensures failed { IfErr result (Fails (TellsOfResuming (name_in image.entry) stream.entry.now text.now) (Silently (AreResumedOver (name_in image.entry) text.now)) (O.contents out.old) (O.contents out.new)) }
+    ensures failed { IfErr result (RunFails (TellsOfResuming (name_in image.entry) stream.entry.now text.now) (Silently (AreResumedOver (name_in image.entry) text.now)) (O.contents out.old) (O.contents out.new)) }
 {
     let events = parse_events(rt.alloc(), text)?;
     let replies = replies_over(rt, stream, events.as_slice(), image)?;
