@@ -21,12 +21,12 @@ use Rattle.sender.specs.declared.event.LiveEvent.{LiveEvent}
 use Rattle.sender.specs.declared.event.LiveReply.{LiveReply}
 use Rattle.wire.specs.Stream.{IsStream, shapes_in}
 use Rattle.wire.proofs.Unique.{one_machine}
-use Rattle.rehearsal.specs.Rehearsing.{DoFit, GoOn, GoesOn, HasPlayed, IsArrival, IsRefused, IsRefusedWith, IsRehearsal, IsSent, TellsWhy, remaining}
+use Rattle.rehearsal.specs.Rehearsing.{DoFit, GoOn, GoesOn, HasPlayed, HasSentStream, IsArrival, IsRefused, IsRefusedWith, IsRehearsal, TellsWhy, remaining}
 use Rattle.rehearsal.specs.declared.rehearsing.Rehearsal.{Rehearsal}
 use Rattle.rehearsal.specs.declared.rehearsing.Rehearsal.TheVariants.{Arrived, NotStopped, Refused}
 
 -- The disks do not fit.
-pub mismatched : (machine source : Seen) (events : List LiveEvent) (sizes : List ℕ) (marks : List Marks) (replies : List LiveReply) (bytes : List ℕ) → IsSent machine events source replies bytes → ¬ (DoFit sizes machine) → IsRefused machine events sizes marks source replies errors.ShapeMismatch
+pub mismatched : (machine source : Seen) (events : List LiveEvent) (sizes : List ℕ) (marks : List Marks) (replies : List LiveReply) (bytes : List ℕ) → HasSentStream machine events source replies bytes → ¬ (DoFit sizes machine) → IsRefused machine events sizes marks source replies errors.ShapeMismatch
 mismatched machine source events sizes marks replies bytes g never = record {
   stops = g.stops;
   answered = g.answered;
@@ -58,7 +58,7 @@ refusal base sizes marks bytes machine source errors.AlreadyFailed fits quiet st
 still_fit : (sizes : List ℕ) (machine source : Seen) → IsSameShape (state_of machine) (state_of source) → DoFit sizes machine → sizes ≡ disk_sizes (shapes_in (state_of source).devices)
 still_fit sizes machine source same fits = fits ∙ ap disk_sizes (sym same.devices)
 
-pub refused : (machine source : Seen) (events : List LiveEvent) (base : ℕ) (sizes : List ℕ) (marks : List Marks) (replies : List LiveReply) (bytes : List ℕ) (e : RecvError) → IsSent machine events source replies bytes → DoFit sizes machine → base ≡ base_of (state_of source).devices → RefusesSlice base sizes marks bytes e → IsRefused machine events sizes marks source replies e
+pub refused : (machine source : Seen) (events : List LiveEvent) (base : ℕ) (sizes : List ℕ) (marks : List Marks) (replies : List LiveReply) (bytes : List ℕ) (e : RecvError) → HasSentStream machine events source replies bytes → DoFit sizes machine → base ≡ base_of (state_of source).devices → RefusesSlice base sizes marks bytes e → IsRefused machine events sizes marks source replies e
 refused machine source events base sizes marks replies bytes e g fits based told = record {
   stops = g.stops;
   answered = g.answered;
@@ -81,7 +81,7 @@ arrives_honest machine marks over honest =
     subst P (sym over) (dealt_all IsHonest refl (shapes_in (state_of machine).devices) marks honest)
 
 -- Both machines went on.
-pub arrival : (machine at_stop source as_arrived arrived : Seen) (events : List LiveEvent) (sizes : List ℕ) (marks : List Marks) (bytes : List ℕ) (played replies : List LiveReply) (arrived_replies : List Reply) → IsSent machine events at_stop played bytes → DoFit sizes machine
+pub arrival : (machine at_stop source as_arrived arrived : Seen) (events : List LiveEvent) (sizes : List ℕ) (marks : List Marks) (bytes : List ℕ) (played replies : List LiveReply) (arrived_replies : List Reply) → HasSentStream machine events at_stop played bytes → DoFit sizes machine
     → (AreHonestDisks marks → IsStream bytes (state_of as_arrived)) → base_of (state_of as_arrived).devices ≡ base_of (state_of at_stop).devices → all_marks as_arrived ≡ dealt_marks (shapes_in (state_of as_arrived).devices) marks
     → GoesOn at_stop (remaining events played) played replies source → HasPlayed as_arrived (remaining events played) arrived_replies arrived
     → IsArrival machine events sizes marks source arrived replies arrived_replies
@@ -123,7 +123,7 @@ refused_with machine source events sizes marks replies error (Refused s rs e) is
 refused_with machine source events sizes marks replies error (Arrived s a rs qs) is g = absurd is
 refused_with machine source events sizes marks replies error (NotStopped s rs) is g = absurd is
 
-pub arrived_with : {D E : Type 0} (machine at_stop as_arrived : Seen) (events : List LiveEvent) (sizes : List ℕ) (marks : List Marks) (bytes : List ℕ) (played : List LiveReply) (result : Rehearsal D E) → IsSent machine events at_stop played bytes → DoFit sizes machine
+pub arrived_with : {D E : Type 0} (machine at_stop as_arrived : Seen) (events : List LiveEvent) (sizes : List ℕ) (marks : List Marks) (bytes : List ℕ) (played : List LiveReply) (result : Rehearsal D E) → HasSentStream machine events at_stop played bytes → DoFit sizes machine
     → (AreHonestDisks marks → IsStream bytes (state_of as_arrived)) → base_of (state_of as_arrived).devices ≡ base_of (state_of at_stop).devices → all_marks as_arrived ≡ dealt_marks (shapes_in (state_of as_arrived).devices) marks
     → GoOn at_stop played as_arrived events result → IsRehearsal machine events sizes marks result
 arrived_with machine at_stop as_arrived events sizes marks bytes played (Arrived s a rs qs) g fits received based over is = arrival machine at_stop s as_arrived a events sizes marks bytes played rs.items qs.items g fits received based over is.0 is.1

@@ -27,7 +27,7 @@ use Rattle.sender.proofs.AsTold.{HasWritten, served_shape, stopped_stream, writt
 use Rattle.sender.proofs.Replaying.{SoFar, ran, ran_none, so_far_first, so_far_more}
 use Rattle.sender.proofs.Steady.{AreAlike, alike_first, keeps_on, no_replies}
 use Rattle.sender.proofs.Whole.{stopped_is_a_stream}
-use Rattle.rehearsal.specs.Rehearsing.{EndsInStop, HasAnswered, IsNotStopped, IsSent, NoneStopped, empty_writer, is_stopped}
+use Rattle.rehearsal.specs.Rehearsing.{EndsInStop, HasAnswered, HasSentStream, IsNotStopped, NoneStopped, empty_writer, is_stopped}
 
 abbrev pub IsNoStop : LiveReply → Type 0
 IsNoStop reply = is_stopped reply ≡ false
@@ -182,7 +182,7 @@ streams machine events replies bytes s sound stopped held g =
     let written : text m h ≡ bytes = sym (g.relates.held whole refl).1 ∙ held in
     subst Q (sym g.relates.follows.machine) (subst P written (stopped_is_a_stream m h g.relates.allowed sound (sym g.relates.follows.phase ∙ stopped)))
 
-pub is_sent : (machine source : Seen) (events : List LiveEvent) (replies : List LiveReply) (bytes : List ℕ) (s : LiveSeen) → IsSound (state_of machine) → source ≡ s.machine → length replies ≤ length events → s.out.held ≡ bytes → IsSending machine events replies true s → IsSent machine events source replies bytes
+pub is_sent : (machine source : Seen) (events : List LiveEvent) (replies : List LiveReply) (bytes : List ℕ) (s : LiveSeen) → IsSound (state_of machine) → source ≡ s.machine → length replies ≤ length events → s.out.held ≡ bytes → IsSending machine events replies true s → HasSentStream machine events source replies bytes
 is_sent machine source events replies bytes s sound same few held g = record {
   stops = g.stops.0;
   few = few;

@@ -141,7 +141,7 @@ IsRehearsal machine events sizes marks (NotStopped source replies) = IsNotStoppe
 IsRehearsal machine events sizes marks (Refused source replies error) = IsRefused machine events sizes marks source replies.items error
 
 -- What follows is for private contracts alone. A stop answered Ok, and these bytes were written.
-pub record IsSent (machine : Seen) (events : List LiveEvent) (source : Seen) (replies : List LiveReply) (bytes : List ℕ) : Type 0 where
+pub record HasSentStream (machine : Seen) (events : List LiveEvent) (source : Seen) (replies : List LiveReply) (bytes : List ℕ) : Type 0 where
   pub stops : EndsInStop replies
   pub few : length replies ≤ length events
   pub answered : HasAnswered machine events replies source

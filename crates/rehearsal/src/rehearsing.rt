@@ -13,7 +13,7 @@ ghost use Rattle.machine.specs.State.{base_of};
 ghost use Rattle.receiver.specs.Disks.{AreHonestDisks, disk_marks_of, sizes_of};
 ghost use Rattle.receiver.specs.Receiving.{RefusesSlice};
 ghost use Rattle.wire.specs.Stream.{IsStream, shapes_in};
-ghost use Rattle.rehearsal.specs.Rehearsing.{GoOn, IsNotStopped, IsRefusedWith, IsRehearsal, IsSent, is_stopped};
+ghost use Rattle.rehearsal.specs.Rehearsing.{GoOn, HasSentStream, IsNotStopped, IsRefusedWith, IsRehearsal, is_stopped};
 
 use machine::{Disk, Machine, Reply, are_disks_of};
 use receiver::{Receiver, RecvError};
@@ -164,7 +164,7 @@ fn send<D: Disk + Drop>(
     machine: Machine<D>,
     events: &[LiveEvent],
 ) -> Result<Sent<D>, Unsent<D>>
-    ensures sent { IfOk result (λ s. IsSent machine events.now s.source s.replies.items s.bytes.items) }
+    ensures sent { IfOk result (λ s. HasSentStream machine events.now s.source s.replies.items s.bytes.items) }
     ensures room { IfOk result (λ s. length events.now ≤ vec_capacity s.replies) }
     ensures arrived_room { IfOk result (λ s. length events.now ≤ vec_capacity s.arrived_replies) }
     ensures arrived_none { IfOk result (λ s. s.arrived_replies.items ≡ []) }
