@@ -21,7 +21,7 @@ use Rattle.sender.specs.declared.event.LiveEvent.{LiveEvent}
 use Rattle.sender.specs.declared.event.LiveReply.{LiveReply}
 use Rattle.wire.specs.Stream.{IsStream, shapes_in}
 use Rattle.wire.proofs.Unique.{one_machine}
-use Rattle.rehearsal.specs.Rehearsing.{DoFit, GoOn, GoesOn, HasPlayed, HasSentStream, IsArrival, IsRefused, IsRefusedWith, IsRehearsal, TellsWhy, remaining}
+use Rattle.rehearsal.specs.Rehearsing.{DoFit, GoOn, HasPlayed, HasSentStream, IsArrival, IsRefused, IsRefusedWith, IsRehearsal, PlaysOn, TellsWhy, remaining}
 use Rattle.rehearsal.specs.declared.rehearsing.Rehearsal.{Rehearsal}
 use Rattle.rehearsal.specs.declared.rehearsing.Rehearsal.TheVariants.{Arrived, NotStopped, Refused}
 
@@ -83,7 +83,7 @@ arrives_honest machine marks over honest =
 -- Both machines went on.
 pub arrival : (machine at_stop source as_arrived arrived : Seen) (events : List LiveEvent) (sizes : List ℕ) (marks : List Marks) (bytes : List ℕ) (played replies : List LiveReply) (arrived_replies : List Reply) → HasSentStream machine events at_stop played bytes → DoFit sizes machine
     → (AreHonestDisks marks → IsStream bytes (state_of as_arrived)) → base_of (state_of as_arrived).devices ≡ base_of (state_of at_stop).devices → all_marks as_arrived ≡ dealt_marks (shapes_in (state_of as_arrived).devices) marks
-    → GoesOn at_stop (remaining events played) played replies source → HasPlayed as_arrived (remaining events played) arrived_replies arrived
+    → PlaysOn at_stop (remaining events played) played replies source → HasPlayed as_arrived (remaining events played) arrived_replies arrived
     → IsArrival machine events sizes marks source arrived replies arrived_replies
 arrival machine at_stop source as_arrived arrived events sizes marks bytes played replies arrived_replies g fits received based over goes p =
     let es = remaining events played in

@@ -13,7 +13,7 @@ use Rattle.sender.specs.declared.event.LiveEvent.TheVariants.{Guest, Begin, Copy
 use Rattle.sender.specs.declared.event.LiveReply.{LiveReply}
 use Rattle.sender.specs.declared.event.LiveReply.TheVariants as r
 use Rattle.receiver.proofs.Lists.{take_all}
-use Rattle.rehearsal.specs.Rehearsing.{GoesOn, HasPlayed, guests_of, remaining}
+use Rattle.rehearsal.specs.Rehearsing.{HasPlayed, PlaysOn, guests_of, remaining}
 
 guests-append : (xs ys : List LiveEvent) → guests_of (xs ++ ys) ≡ guests_of xs ++ guests_of ys
 guests-append [] ys = refl
@@ -55,14 +55,14 @@ played_more old now new es rs e reply p a = record {
       (honest_step now new e reply a (honest_for (all_marks now) e (honest_stays (all_marks old) (all_marks now) es rs p.marks honest)));
 }
 
-pub goes_none : (s : Seen) (replies : List LiveReply) → GoesOn s [] replies replies s
+pub goes_none : (s : Seen) (replies : List LiveReply) → PlaysOn s [] replies replies s
 goes_none s replies = record { rest = []; are = sym (append-nil replies); played = played_none s }
 
 map_more : (rs : List Reply) (reply : Reply) → map r.Guest (rs ++ reply ∷ []) ≡ map r.Guest rs ++ r.Guest reply ∷ []
 map_more [] reply = refl
 map_more (x ∷ rs) reply = ap (λ (l : List LiveReply). r.Guest x ∷ l) (map_more rs reply)
 
-pub goes_more : (old now new : Seen) (es : List Event) (before after : List LiveReply) (e : Event) (reply : Reply) → GoesOn old es before after now → IsApplied now e reply new → GoesOn old (es ++ e ∷ []) before (after ++ r.Guest reply ∷ []) new
+pub goes_more : (old now new : Seen) (es : List Event) (before after : List LiveReply) (e : Event) (reply : Reply) → PlaysOn old es before after now → IsApplied now e reply new → PlaysOn old (es ++ e ∷ []) before (after ++ r.Guest reply ∷ []) new
 goes_more old now new es before after e reply g a = record {
   rest = g.rest ++ reply ∷ [];
   are = ap (λ (l : List LiveReply). l ++ r.Guest reply ∷ []) g.are ∙ append_assoc before (map r.Guest g.rest) (r.Guest reply ∷ []) ∙ ap (λ (l : List LiveReply). before ++ l) (sym (map_more g.rest reply));
@@ -74,9 +74,9 @@ pub behind : (events rest : List LiveEvent) (n m : ℕ) → rest ≡ drop n even
 behind events rest n m is same = let P : ℕ → Type 0 = λ k. rest ≡ drop k events in subst P same is
 
 pub gone_on : (at_stop source as_arrived arrived : Seen) (events rest : List LiveEvent) (i : ℕ) (before after : List LiveReply) (arrived_replies : List Reply) → rest ≡ drop (length before) events → length rest ≤ i
-    → GoesOn at_stop (guests_of (take i rest)) before after source → HasPlayed as_arrived (guests_of (take i rest)) arrived_replies arrived → GoesOn at_stop (remaining events before) before after source × HasPlayed as_arrived (remaining events before) arrived_replies arrived
+    → PlaysOn at_stop (guests_of (take i rest)) before after source → HasPlayed as_arrived (guests_of (take i rest)) arrived_replies arrived → PlaysOn at_stop (remaining events before) before after source × HasPlayed as_arrived (remaining events before) arrived_replies arrived
 gone_on at_stop source as_arrived arrived events rest i before after arrived_replies is all goes played =
     let same : guests_of (take i rest) ≡ remaining events before = ap guests_of (take_all i rest all ∙ is) in
-    let P : List Event → Type 0 = λ es. GoesOn at_stop es before after source in
+    let P : List Event → Type 0 = λ es. PlaysOn at_stop es before after source in
     let Q : List Event → Type 0 = λ es. HasPlayed as_arrived es arrived_replies arrived in
     (subst P same goes, subst Q same played)

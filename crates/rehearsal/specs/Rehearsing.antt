@@ -154,7 +154,7 @@ IsRefusedWith at_stop played refusal (Refused source replies error) = (source �
 IsRefusedWith at_stop played refusal _ = ⊥
 
 -- A machine played events of the guest, and its replies follow those before.
-pub record GoesOn (old : Seen) (events : List Event) (before after : List LiveReply) (new : Seen) : Type 0 where
+pub record PlaysOn (old : Seen) (events : List Event) (before after : List LiveReply) (new : Seen) : Type 0 where
   pub rest : List Reply
   pub are : after ≡ before ++ map r.Guest rest
   pub played : HasPlayed old events rest new
@@ -162,5 +162,5 @@ pub record GoesOn (old : Seen) (events : List Event) (before after : List LiveRe
 -- Both machines played the events of the guest that remained.
 abbrev pub GoOn : {D E : Type 0} → Seen → List LiveReply → Seen → List LiveEvent → Rehearsal D E → Type 0
 GoOn at_stop played as_arrived events (Arrived source arrived replies arrived_replies) =
-    GoesOn at_stop (remaining events played) played replies.items source × HasPlayed as_arrived (remaining events played) arrived_replies.items arrived
+    PlaysOn at_stop (remaining events played) played replies.items source × HasPlayed as_arrived (remaining events played) arrived_replies.items arrived
 GoOn at_stop played as_arrived events _ = ⊥
