@@ -52,7 +52,7 @@ pub record AreResumedLines (text lines : List ℕ) : Type 0 where
   pub spelled : lines ≡ flat_map reply_line replies
 
 -- The text is events, and these are the lines of the replies of a machine that arrived over an image.
-pub record AreLinesOverImage (text lines : List ℕ) : Type 0 where
+pub record AreResumedLinesOverImage (text lines : List ℕ) : Type 0 where
   pub events : List Event
   pub holds : HoldsEvents text events
   pub replies : List Reply
@@ -62,7 +62,7 @@ pub record AreLinesOverImage (text lines : List ℕ) : Type 0 where
 -- What is written for a text, over the image of this name or over no disk.
 abbrev pub AreResumedOver : Option (List ℕ) → List ℕ → List ℕ → Type 0
 AreResumedOver None text lines = AreResumedLines text lines
-AreResumedOver (Some image) text lines = AreLinesOverImage text lines
+AreResumedOver (Some image) text lines = AreResumedLinesOverImage text lines
 
 -- What a fault says of a text of events: the text is refused.
 pub record TellsOfEvents (text : List ℕ) (fault : Fault) : Type 0 where
