@@ -31,7 +31,7 @@ use Rattle.wire.specs.Stream.{IsStream, content_of, device_texts, last_named, or
 use Rattle.wire.proofs.Bodies.{second_has_all}
 use Rattle.wire.proofs.ItemRecords.{named-append, named-snoc}
 use Rattle.wire.proofs.Whole.{each-snoc}
-use Rattle.sender.specs.Calls.{AfterBegin, AfterCopy, AfterRound, AfterStop, AreCleared, Begins, Does, EndsRound, Fails, Guests, IsSent, Serves, Wrote, in_either}
+use Rattle.sender.specs.Calls.{AfterBegin, AfterCopy, AfterRound, AfterStop, AreCleared, BeginsFirstRound, Does, EndsRound, Fails, Guests, IsSent, Serves, Wrote, in_either}
 use Rattle.sender.specs.History.{is_numbered}
 use Rattle.sender.specs.LiveState.{HasPlaces, LiveSeen, chosen, closing, header_of, last_round, now, record_at, records_of, refusal_for}
 use Rattle.sender.specs.Ran.{HasStopped, WroteStream}
@@ -228,7 +228,7 @@ still_telling old new t k same less g = record {
 }
 
 -- The migration begins.
-begins_telling : (old new : LiveSeen) → HasPlaces old → Begins old new → IsTelling new (header_of (now old)) 1
+begins_telling : (old new : LiveSeen) → HasPlaces old → BeginsFirstRound old new → IsTelling new (header_of (now old)) 1
 unfolding texts rounds
 begins_telling old new places b =
     let same : now new ≡ now old = ap state_of b.machine in

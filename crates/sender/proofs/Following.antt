@@ -20,7 +20,7 @@ use Rattle.machine.proofs.Numbering.{either_way, number_back, same_layout}
 use Rattle.machine.proofs.Within.{step_shape}
 use Rattle.wire.specs.Stream.{texts}
 use Rattle.sender.specs.LiveState.{LiveSeen, HasPlaces, now, refusal_for, last_round, item_of}
-use Rattle.sender.specs.Calls.{AreCleared, Begins, Copies, EndsRound, Fails, IsSent, Stops, StopsShort, in_either, with_items}
+use Rattle.sender.specs.Calls.{AreCleared, BeginsFirstRound, Copies, EndsRound, Fails, IsSent, Stops, StopsShort, in_either, with_items}
 use Rattle.sender.specs.History.{History, then_came, machine_after, went, touches, sends, is_stale, is_due, is_begun, phase_of, next_phase, sent, written, NoneBelow, is_numbered}
 use Rattle.sender.specs.Follows.{SetsAgree, AgreesIn, Follows}
 use Rattle.sender.specs.declared.phase.Phase.{Phase}
@@ -214,7 +214,7 @@ still_shape m old new same shape = subst (IsSameShape m) (sym same) shape
 same_size : (m s : MachineState) → IsSameShape m s → size_of (layout_of s) ≡ size_of (layout_of m)
 same_size m s h = ap size_of (same_layout m s h)
 
-pub begin_follows : (m : MachineState) (h : History) (k : ℕ) (c : Effect) (old new : LiveSeen) → Follows m h old → refusal_for old.phase Begin ≡ None → k ≡ 1 → Begins old new → Follows m (then_came h Begin (r.Begun k) c) new
+pub begin_follows : (m : MachineState) (h : History) (k : ℕ) (c : Effect) (old new : LiveSeen) → Follows m h old → refusal_for old.phase Begin ≡ None → k ≡ 1 → BeginsFirstRound old new → Follows m (then_came h Begin (r.Begun k) c) new
 begin_follows m h k c old new f free one b =
     let fresh : phase_of h ≡ phases.Fresh = sym f.phase ∙ fresh_if old.phase free in
     let P : Phase → Type 0 = λ p. AgreesIn p m h old in

@@ -12,7 +12,7 @@ use Rattle.wire.specs.Header.{header, opening_of}
 use Rattle.wire.specs.Records.{commit, spelled_record}
 use Rattle.wire.specs.Sinks.{Appends, Covers, Digested, SinkState, Takes}
 use Rattle.wire.specs.Stream.{device_texts, record_of}
-use Rattle.sender.specs.Calls.{Begins, Serves, Took, Wrote}
+use Rattle.sender.specs.Calls.{BeginsFirstRound, Serves, Took, Wrote}
 use Rattle.sender.specs.LiveState.{LiveSeen, closing, header_of, item_of, now, refusal_for}
 use Rattle.sender.specs.Saving.{AddsItem, NamesItem, Sends}
 use Rattle.sender.specs.Stopping.{RoundFits, SendsItem, SendsOk, phase_after}
@@ -31,7 +31,7 @@ wrote_by old new x y done e appends takes = rw (← e) (record { took = record {
 pub header_told : (m : MachineState) (pages : ℕ) (shapes : List Shape) → pages ≡ pages_of m → shapes ≡ map (λ (d : DeviceState). made_as d.kind) m.devices → header (opening_of pages shapes) ≡ header_of m
 header_told m pages shapes e f = rw (e, f) refl
 
-pub served_begin : (old new : LiveSeen) → refusal_for old.phase events.Begin ≡ None → Begins old new → Serves old events.Begin (r.Begun 1) new
+pub served_begin : (old new : LiveSeen) → refusal_for old.phase events.Begin ≡ None → BeginsFirstRound old new → Serves old events.Begin (r.Begun 1) new
 served_begin old new free begins = rw free (refl, begins)
 
 -- One item.

@@ -4,7 +4,7 @@ use Rattle.std.specs.Prelude.{MatchOption}
 use Rattle.machine.specs.State.{MachineState}
 use Rattle.wire.specs.Stream.{IsStream}
 use Rattle.machine.specs.declared.event.Event.{Event}
-use Rattle.sender.specs.Calls.{AfterBegin, AfterCopy, AfterRound, AfterStop, AreSent, Begins, Copies, CopyFails, Does, EndsRound, Fails, Guests, IsSent, IsUnread, Stops, StopsShort, Took, Wrote}
+use Rattle.sender.specs.Calls.{AfterBegin, AfterCopy, AfterRound, AfterStop, AreSent, BeginsFirstRound, Copies, CopyFails, Does, EndsRound, Fails, Guests, IsSent, IsUnread, Stops, StopsShort, Took, Wrote}
 use Rattle.sender.specs.History.{has_fault, text}
 use Rattle.sender.specs.LiveState.{HasPlaces, LiveSeen, refusal_for}
 use Rattle.sender.specs.Taking.{CallsIgnoreTaken, TakenAreWhole, TakenFollow, untaken}
@@ -41,7 +41,7 @@ module _ (taken : List ℕ) where
   unread : (old : LiveSeen) (dev n : ℕ) (new : LiveSeen) → IsUnread old dev n new → IsUnread (U old) dev n (U new)
   unread old dev n new u = record { memory = u.memory; state = u.state; flushed = u.flushed; marks = u.marks; unsteady = u.unsteady; good = u.good; rest = ap U u.rest }
 
-  begins : (old new : LiveSeen) → Begins old new → Begins (U old) (U new)
+  begins : (old new : LiveSeen) → BeginsFirstRound old new → BeginsFirstRound (U old) (U new)
   begins old new b = record { machine = b.machine; phase = b.phase; due = b.due; dirty = b.dirty; wrote = wrote old new _ b.wrote }
 
   copies : (old : LiveSeen) (item : Item) (new : LiveSeen) → Copies old item new → Copies (U old) item (U new)

@@ -67,7 +67,7 @@ pub record AfterGuest (old : LiveSeen) (e : Event) (reply : Reply) (new : LiveSe
   pub rest : new ≡ record old { machine = new.machine; dirty = new.dirty }
 
 -- The header was written: every item is due, none is dirty.
-pub record Begins (old new : LiveSeen) : Type 0 where
+pub record BeginsFirstRound (old new : LiveSeen) : Type 0 where
   pub machine : new.machine ≡ old.machine
   pub phase : new.phase ≡ phases.Open 1
   pub due : new.due ≡ replicate (size_of (layout_of (now old))) true
@@ -163,7 +163,7 @@ pub record StopsShort (old : LiveSeen) (dev n : ℕ) (new : LiveSeen) : Type 0 w
   pub unread : IsUnread between dev n new
 
 abbrev pub AfterBegin : LiveSeen → LiveReply → LiveSeen → Type 0
-AfterBegin old (r.Begun k) new = (k ≡ 1) × Begins old new
+AfterBegin old (r.Begun k) new = (k ≡ 1) × BeginsFirstRound old new
 AfterBegin old (r.Mig errors.StreamFailed) new = Fails old new
 AfterBegin old _ new = ⊥
 
