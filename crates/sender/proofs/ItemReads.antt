@@ -13,7 +13,7 @@ use Rattle.machine.specs.State.{MachineState}
 use Rattle.sender.specs.Calls.{AreCleared, in_either}
 use Rattle.sender.specs.LiveState.{LiveSeen, chosen, now, refusal_for}
 use Rattle.sender.specs.Reads.{CallsNone, FailedCalls, HasLiveCalled, ReadsBelow, ReadsItem, after_read, after_reads, is_good}
-use Rattle.sender.specs.Stopping.{Closes, SendsItem}
+use Rattle.sender.specs.Stopping.{ClosesStream, SendsItem}
 use Rattle.sender.specs.declared.event.Item.{Item}
 use Rattle.sender.specs.declared.mig_error.MigError.{MigError}
 use Rattle.sender.specs.declared.mig_error.MigError.TheVariants as errors
@@ -88,7 +88,7 @@ pub stop_short_called : (called : ℕ → ℕ) (old new : LiveSeen) (e : MigErro
 stop_short_called called old new e free calls = rw free calls
 
 -- The stream was not closed: all was read.
-all_read : (called : ℕ → ℕ) (old mid new : LiveSeen) (e : MigError) → ReadsBelow called old (size_of (layout_of (now old))) mid → CallsNone mid.machine new.machine → Closes {A = Unit {0}} mid (Err e) new → FailedCalls called old e new
+all_read : (called : ℕ → ℕ) (old mid new : LiveSeen) (e : MigError) → ReadsBelow called old (size_of (layout_of (now old))) mid → CallsNone mid.machine new.machine → ClosesStream {A = Unit {0}} mid (Err e) new → FailedCalls called old e new
 all_read called old mid new errors.StreamFailed reads none c = record { to = size_of (layout_of (now old)); within = omega arith; reads = none ∙ reads }
 all_read called old mid new (errors.DiskFailed dev n) reads none c = absurd c
 all_read called old mid new errors.AlreadyStopped reads none c = absurd c
@@ -96,6 +96,6 @@ all_read called old mid new errors.NotBegun reads none c = absurd c
 all_read called old mid new errors.AlreadyBegun reads none c = absurd c
 all_read called old mid new errors.RoundsEnded reads none c = absurd c
 
-pub stop_failed_called : (called : ℕ → ℕ) (old mid new : LiveSeen) (e : MigError) → refusal_for old.phase events.Stop ≡ None → ReadsBelow called old (size_of (layout_of (now old))) mid → CallsNone mid.machine new.machine → Closes {A = Unit {0}} mid (Err e) new
+pub stop_failed_called : (called : ℕ → ℕ) (old mid new : LiveSeen) (e : MigError) → refusal_for old.phase events.Stop ≡ None → ReadsBelow called old (size_of (layout_of (now old))) mid → CallsNone mid.machine new.machine → ClosesStream {A = Unit {0}} mid (Err e) new
     → HasLiveCalled called old events.Stop (r.Mig e) new
 stop_failed_called called old mid new e free reads none c = rw free (all_read called old mid new e reads none c)

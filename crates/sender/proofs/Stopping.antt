@@ -12,7 +12,7 @@ use Rattle.wire.specs.Records.{Record, spelled_record}
 use Rattle.wire.specs.Sinks.{Covers}
 use Rattle.sender.specs.Calls.{AreCleared, AreSent, Fails, IsSameButCalls, IsSent, Serves, Took, Wrote, in_either}
 use Rattle.sender.specs.LiveState.{HasPlaces, LiveSeen, chosen, closing, how_many, now, pages_among, refusal_for, sectors_among}
-use Rattle.sender.specs.Stopping.{AllSent, Closes, IsClosed, SendsAll, SendsItem, SendsOk, one_more}
+use Rattle.sender.specs.Stopping.{AllSent, ClosesStream, IsClosed, SendsAll, SendsItem, SendsOk, one_more}
 use Rattle.sender.specs.Told.{IsTold}
 use Rattle.sender.specs.declared.event.Item.{Item}
 use Rattle.sender.specs.declared.event.Stopped.{Stopped}
@@ -259,7 +259,7 @@ stop_short old new errors.NotBegun free s = absurd s
 stop_short old new errors.AlreadyBegun free s = absurd s
 stop_short old new errors.RoundsEnded free s = absurd s
 
-pub stop_failed : (old mid new : LiveSeen) (pages sectors : ℕ) (e : MigError) → refusal_for old.phase events.Stop ≡ None → AllSent old pages sectors mid → Closes {A = Unit {0}} mid (Err e) new → Serves old events.Stop (r.Mig e) new
+pub stop_failed : (old mid new : LiveSeen) (pages sectors : ℕ) (e : MigError) → refusal_for old.phase events.Stop ≡ None → AllSent old pages sectors mid → ClosesStream {A = Unit {0}} mid (Err e) new → Serves old events.Stop (r.Mig e) new
 stop_failed old mid new pages sectors errors.StreamFailed free s c = rw free (fails_after old mid new (size_of (layout_of (now old))) s.are_sent c)
 stop_failed old mid new pages sectors (errors.DiskFailed dev n) free s c = absurd c
 stop_failed old mid new pages sectors errors.AlreadyStopped free s c = absurd c

@@ -88,10 +88,10 @@ pub record IsClosed (old new : LiveSeen) : Type 0 where
   pub flushed : new.out.is_flushed ≡ true
   pub took : (b : List ℕ) → Covers old.digest b → Took old new (closing (now old) b)
 
-abbrev pub Closes : {A : Type 0} → LiveSeen → Result A MigError → LiveSeen → Type 0
-Closes old (Ok x) new = IsClosed old new
-Closes old (Err errors.StreamFailed) new = Fails old new
-Closes old (Err _) new = ⊥
+abbrev pub ClosesStream : {A : Type 0} → LiveSeen → Result A MigError → LiveSeen → Type 0
+ClosesStream old (Ok x) new = IsClosed old new
+ClosesStream old (Err errors.StreamFailed) new = Fails old new
+ClosesStream old (Err _) new = ⊥
 
 abbrev pub one_more : Stopped → Bool → Stopped
 one_more s is_page = if is_page then record { pages = s.pages + 1; sectors = s.sectors } else record { pages = s.pages; sectors = s.sectors + 1 }

@@ -17,7 +17,7 @@ ghost use Rattle.sender.specs.Calls.{Serves, begun_reply, copied_reply, ended_re
 ghost use Rattle.sender.specs.Parked.{IsLiveParked};
 ghost use Rattle.sender.specs.Reads.{CallsNone, HasLiveCalled, ReadsItem, SendCalls};
 ghost use Rattle.sender.specs.Unsynced.{FlushesLiveDisk, TriesFlush};
-ghost use Rattle.sender.specs.Stopping.{Closes, HasNoneUpTo, IsLive, SendsAll, SendsItem, lesser, one_more, phase_after};
+ghost use Rattle.sender.specs.Stopping.{ClosesStream, HasNoneUpTo, IsLive, SendsAll, SendsItem, lesser, one_more, phase_after};
 
 use crate::dirty::Dirty;
 use crate::event::{CopyAnswer, End, Item, LiveEvent, LiveReply, Remaining, Stopped};
@@ -506,7 +506,7 @@ impl<D: Disk, W: Digesting> LiveOver<D, W> {
 
     /// Closes the stream.
     fn close(&mut self) -> Result<(), MigError>
-        ensures closed { Closes self.old result self.new }
+        ensures closed { ClosesStream self.old result self.new }
         ensures calls { CallsNone self.old.machine self.new.machine }
     {
         if let Err(_) = write_devices(&self.machine, &mut self.writer) {
