@@ -11,7 +11,7 @@ use Rattle.wire.proofs.Bodies.{body_is_short}
 use Rattle.wire.proofs.HeaderParts.{begins_once}
 use Rattle.wire.proofs.Spelling.{head_same, tail_same, split_same, one_record, number_same}
 use Rattle.wire.proofs.Unique.{cons_same}
-use Rattle.receiver.specs.Good.{AreGood, Follows, IsNextDevice, devices_in}
+use Rattle.receiver.specs.Good.{AreGood, IsNextDevice, IsNextRecord, devices_in}
 use Rattle.receiver.specs.Faults.{IsEarly, Opens, IsBadPage, IsLongZeros, IsBadSector, IsBadRound, IsBadHead, IsBadBody, IsFault, IsFront, IsRecordFault}
 use Rattle.receiver.specs.declared.ram_terms.RamTerms.{RamTerms}
 use Rattle.receiver.specs.declared.recv_error.RecvError.{RecvError}
@@ -47,7 +47,7 @@ good_spell opening acc [] h = tt
 good_spell opening acc (r ∷ rs) h = (h.0.spells, good_spell opening (acc ++ r ∷ []) rs h.1)
 
 -- The record behind the first ones may stand there.
-pub next_good : (opening : Opened) (acc rs more : List Record) (r : Record) → AreGood opening acc (rs ++ r ∷ more) → Follows opening (acc ++ rs) r
+pub next_good : (opening : Opened) (acc rs more : List Record) (r : Record) → AreGood opening acc (rs ++ r ∷ more) → IsNextRecord opening (acc ++ rs) r
 unfolding AreGood
 next_good opening acc [] more r h = rw (append-nil acc) h.0
 next_good opening acc (s ∷ rs) more r h =
@@ -147,7 +147,7 @@ no_bad_device opening before tail more raw d e next place (inr h) =
     let shape : next.shape ≡ h.shape = first_of (sym next.here ∙ there) in
     h.never next.state (rw (sym shape, sym same) next.is)
 
-pub no_fault_here : (opening : Opened) (before : List Record) (tail x : List ℕ) (r : Record) → Follows opening before r → tail ≡ spelled_record r ++ x → (k : RecvError) (place : ℕ) → ¬ (IsFault opening before tail k place)
+pub no_fault_here : (opening : Opened) (before : List Record) (tail x : List ℕ) (r : Record) → IsNextRecord opening before r → tail ≡ spelled_record r ++ x → (k : RecvError) (place : ℕ) → ¬ (IsFault opening before tail k place)
 no_fault_here opening before tail x (page n b) f e =
     let t = e ∙ page_tail n b x in
     quiet opening before tail 1 _ (opens_early opening before tail 1 _ t (omega arith) (omega arith) f.may.1)
@@ -186,7 +186,7 @@ no_fault_here opening before tail x (zero_page n) f e =
     (λ z. absurd (omega (arith, z))) (λ z. absurd (omega (arith, z))) (λ z. absurd (omega (arith, z))) (λ z. absurd (omega (arith, z)))
 
 longer_on : (opening : Opened) (before others : List Record) (tail rest : List ℕ) → AreGood opening [] others
-    → ((r : Record) (y : List ℕ) → Follows opening before r → ¬ (tail ≡ spelled_record r ++ y)) → ((k : RecvError) (place : ℕ) → ¬ (IsFault opening before tail k place))
+    → ((r : Record) (y : List ℕ) → IsNextRecord opening before r → ¬ (tail ≡ spelled_record r ++ y)) → ((k : RecvError) (place : ℕ) → ¬ (IsFault opening before tail k place))
     → (more : List Record) → others ≡ before ++ more → tail ≡ texts more ++ rest → (k : RecvError) (place : ℕ) → ¬ (IsFault opening others rest k place)
 unfolding texts
 longer_on opening before others tail rest goods none quiets [] all left k place f =
@@ -206,7 +206,7 @@ longer_off opening before others tail rest good quiets (r ∷ more) all left k p
 
 -- No record fault stands in bytes whose good records end where neither a good record nor a fault stands.
 led_fault : (opening : Opened) (before others : List Record) (tail rest : List ℕ) → AreGood opening [] before → AreGood opening [] others
-    → ((r : Record) (y : List ℕ) → Follows opening before r → ¬ (tail ≡ spelled_record r ++ y)) → ((k : RecvError) (place : ℕ) → ¬ (IsFault opening before tail k place))
+    → ((r : Record) (y : List ℕ) → IsNextRecord opening before r → ¬ (tail ≡ spelled_record r ++ y)) → ((k : RecvError) (place : ℕ) → ¬ (IsFault opening before tail k place))
     → LongerRecords before others tail rest ⊎ LongerRecords others before rest tail → (k : RecvError) (place : ℕ) → ¬ (IsFault opening others rest k place)
 unfolding texts
 led_fault opening before others tail rest good goods none quiets (inl l) k place f = longer_on opening before others tail rest goods none quiets l.more l.all l.left k place f
@@ -220,7 +220,7 @@ one_opening bytes o p x y based a b =
     (same, t.1)
 
 pub no_record_fault : (ram : RamTerms) (sizes bytes : List ℕ) (opening : Opened) (before : List Record) (tail : List ℕ) → IsFront ram sizes bytes opening before tail
-    → ((r : Record) (y : List ℕ) → Follows opening before r → ¬ (tail ≡ spelled_record r ++ y)) → ((k : RecvError) (place : ℕ) → ¬ (IsFault opening before tail k place))
+    → ((r : Record) (y : List ℕ) → IsNextRecord opening before r → ¬ (tail ≡ spelled_record r ++ y)) → ((k : RecvError) (place : ℕ) → ¬ (IsFault opening before tail k place))
     → (k : RecvError) (at : ℕ) → ¬ (IsRecordFault ram sizes bytes k at)
 no_record_fault ram sizes bytes opening before tail front none quiets k at h =
     let t = one_opening bytes h.opening opening (texts h.before ++ h.tail) (texts before ++ tail) (h.front.based ∙ sym front.based) h.front.begins front.begins in

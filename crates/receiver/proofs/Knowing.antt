@@ -29,7 +29,7 @@ use Rattle.receiver.proofs.Lists.{take_all}
 use Rattle.wire.proofs.Spelling.{tail_same, split_same}
 use Rattle.receiver.specs.Disks.{AreHonestDisks, all_marks_in, sizes_in}
 use Rattle.receiver.proofs.Sectors.{dealt_bad, marked_bad, marked_sizes, marked_whole, marks_count, written_sizes}
-use Rattle.receiver.specs.Good.{Follows, devices_in}
+use Rattle.receiver.specs.Good.{IsNextRecord, devices_in}
 use Rattle.receiver.specs.Faults.{IsComplete, IsBadDigest, IsTrailing, IsFault, IsFront, WaitsHead}
 use Rattle.receiver.specs.Fed.{HasCome, HasRead, IsEnded, IsKnownIn, IsReading, device_records}
 use Rattle.receiver.specs.Receiving.{IsArrived, IsKnown, IsTaken, IsWholeFor, NoFault}
@@ -50,7 +50,7 @@ nothing_known = waits_head [] (head_short [] (omega arith) (λ at h. omega (arit
 
 -- The digest is no other record, and has no fault.
 
-pub no_other : (opening : Opened) (before : List Record) (digest : List ℕ) (r : Record) (y : List ℕ) → Follows opening before r → ¬ (5 ∷ digest ≡ spelled_record r ++ y)
+pub no_other : (opening : Opened) (before : List Record) (digest : List ℕ) (r : Record) (y : List ℕ) → IsNextRecord opening before r → ¬ (5 ∷ digest ≡ spelled_record r ++ y)
 unfolding spelled_record
 no_other opening before digest (sector d n (Some b)) y f e = cc
 no_other opening before digest (commit b) y f e = f.may
@@ -77,7 +77,7 @@ end_quiet opening before digest complete is =
     (λ five. digest_quiet opening before digest is)
 
 pub quiet_front : (ram : RamTerms) (sizes bytes : List ℕ) (opening : Opened) (before : List Record) (tail : List ℕ) → IsFront ram sizes bytes opening before tail
-    → ((r : Record) (y : List ℕ) → Follows opening before r → ¬ (tail ≡ spelled_record r ++ y)) → ((k : RecvError) (place : ℕ) → ¬ (IsFault opening before tail k place))
+    → ((r : Record) (y : List ℕ) → IsNextRecord opening before r → ¬ (tail ≡ spelled_record r ++ y)) → ((k : RecvError) (place : ℕ) → ¬ (IsFault opening before tail k place))
     → NoFault ram sizes bytes
 quiet_front ram sizes bytes opening before tail front none quiets k at (inl h) = no_header_fault ram sizes bytes (said_by opening) (texts before ++ tail) front.begins front.fits front.suits k at h
 quiet_front ram sizes bytes opening before tail front none quiets k at (inr h) = no_record_fault ram sizes bytes opening before tail front none quiets k at h

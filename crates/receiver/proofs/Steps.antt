@@ -27,13 +27,13 @@ use Rattle.machine.specs.declared.shape.Shape.{Shape}
 use Rattle.receiver.proofs.Takings.{Names, names_page, names_sector, names_zeros, put_page, taken_device, taken_item, taken_page, taken_round, rounds_page, rounds_round, rounds_sector, rounds_zeros, numbered_round}
 use Rattle.wire.proofs.Whole.{texts-snoc, each-snoc, numbered_page, numbered_zeros}
 use Rattle.wire.proofs.PageRecords.{as_page, as_zeros}
-use Rattle.receiver.specs.Good.{AreGood, AreNamed, Follows, devices_in}
+use Rattle.receiver.specs.Good.{AreGood, AreNamed, IsNextRecord, devices_in}
 use Rattle.receiver.specs.Faults.{MayTag}
 use Rattle.receiver.specs.Fed.{AreWritten, HasRead, device_records}
 use Rattle.receiver.specs.declared.intake.Intake.{Intake}
 use Rattle.receiver.specs.declared.intake.Terms.{Terms}
 
-pub good-snoc : (opening : Opened) (acc rs : List Record) (r : Record) → AreGood opening acc rs → Follows opening (acc ++ rs) r → AreGood opening acc (rs ++ r ∷ [])
+pub good-snoc : (opening : Opened) (acc rs : List Record) (r : Record) → AreGood opening acc rs → IsNextRecord opening (acc ++ rs) r → AreGood opening acc (rs ++ r ∷ [])
 unfolding AreGood
 good-snoc opening acc [] r h f = (rw (append-nil acc) at f, tt)
 good-snoc opening acc (s ∷ rs) r h f =
@@ -84,7 +84,7 @@ record IsSame (i j : Intake) : Type 0 where
   firsts : j.firsts.items ≡ i.firsts.items
   devices : j.devices.items ≡ i.devices.items
 
-more_entry : (ds ds2 : List DiskState) (front : List ℕ) (opening : Opened) (before : List Record) (i j : Intake) (r : Record) (sectors : List (List Sector)) → HasRead ds opening before i front → devices_in before ≡ 0 → Follows opening before r → IsEntry opening.version (layout_in opening) r
+more_entry : (ds ds2 : List DiskState) (front : List ℕ) (opening : Opened) (before : List Record) (i j : Intake) (r : Record) (sectors : List (List Sector)) → HasRead ds opening before i front → devices_in before ≡ 0 → IsNextRecord opening before r → IsEntry opening.version (layout_in opening) r
     → (AreNumbered 1 before → AreNumbered 1 (before ++ r ∷ [])) → j.rounds ≡ rounds (before ++ r ∷ [])
     → AreTaken opening.version j.ram.bytes (dealt_sectors opening.shapes sectors) j.named (layout_in opening) (before ++ r ∷ []) → sizes_in ds2 ≡ sizes_in ds → AreWritten ds2 j.bad.items sectors → IsSame i j
     → HasRead ds2 opening (before ++ r ∷ []) j (front ++ spelled_record r)
@@ -115,7 +115,7 @@ more_entry ds ds2 front opening before i j r sectors h none follows entry number
     }
 
 more_page_as : (ds : List DiskState) (front : List ℕ) (opening : Opened) (before : List Record) (i j : Intake) (n : ℕ) (b : List ℕ) (r : Record) → HasRead ds opening before i front → devices_in before ≡ 0
-    → (n < opening.pages → Follows opening before r) → (n < opening.pages → IsEntry opening.version (layout_in opening) r) → (AreNumbered 1 before → AreNumbered 1 (before ++ r ∷ [])) → rounds (before ++ r ∷ []) ≡ rounds before
+    → (n < opening.pages → IsNextRecord opening before r) → (n < opening.pages → IsEntry opening.version (layout_in opening) r) → (AreNumbered 1 before → AreNumbered 1 (before ++ r ∷ [])) → rounds (before ++ r ∷ []) ≡ rounds before
     → Names r (items.page n) → page_record opening.version n b ≡ r → length b ≡ 4096
     → 4096 * n + 4096 ≤ length i.ram.bytes → j.ram.bytes ≡ put_page i.ram.bytes n b → j.named ≡ set i.named n true → j.rounds ≡ i.rounds → j.terms ≡ i.terms → j.shapes.items ≡ i.shapes.items → j.devices.items ≡ i.devices.items → j.firsts.items ≡ i.firsts.items → j.bad.items ≡ i.bad.items
     → HasRead ds opening (before ++ r ∷ []) j (front ++ spelled_record r)

@@ -40,7 +40,7 @@ MayFollow opening before (device d body) = IsNextDevice opening before d body
 MayFollow opening before (commit digest) = ⊥
 MayFollow opening before (zero_page n) = IsItemIn (layout_in opening) (items.page n) × (devices_in before ≡ 0)
 
-pub record Follows (opening : Opened) (before : List Record) (r : Record) : Type 0 where
+pub record IsNextRecord (opening : Opened) (before : List Record) (r : Record) : Type 0 where
   pub spells : HasSpelling r
   pub has : IsOf opening.version r
   pub may : MayFollow opening before r
@@ -48,4 +48,4 @@ pub record Follows (opening : Opened) (before : List Record) (r : Record) : Type
 -- Each record may follow those before it.
 unfoldable pub AreGood : Opened → List Record → List Record → Type 0
 AreGood opening before [] = Unit {0}
-AreGood opening before (r ∷ rs) = Follows opening before r × AreGood opening (before ++ r ∷ []) rs
+AreGood opening before (r ∷ rs) = IsNextRecord opening before r × AreGood opening (before ++ r ∷ []) rs

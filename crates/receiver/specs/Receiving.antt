@@ -16,7 +16,7 @@ use Rattle.machine.specs.Seen.{Marks}
 use Rattle.machine.specs.State.{MachineState}
 use Rattle.receiver.specs.Disks.{IsUnsteady, all_marks_in, sizes_in}
 use Rattle.receiver.specs.Opened.{Opened, header, ram_at}
-use Rattle.receiver.specs.Good.{Follows}
+use Rattle.receiver.specs.Good.{IsNextRecord}
 use Rattle.receiver.specs.Faults.{Fault, IsComplete, IsFront, WaitsHead}
 use Rattle.receiver.specs.Fed.{IsKnownIn, Tells}
 use Rattle.receiver.specs.Waiting.{LacksBytes}
@@ -196,7 +196,7 @@ RefusesSlice base sizes marks bytes e = (at : ℕ) × Fault (ram_at base) sizes 
 
 -- The bytes do not continue with a whole record that may follow the good ones.
 abbrev pub NoNext : Opened → List Record → List ℕ → Type 0
-NoNext opening before tail = (r : Record) (y : List ℕ) → Follows opening before r → ¬ (tail ≡ spelled_record r ++ y)
+NoNext opening before tail = (r : Record) (y : List ℕ) → IsNextRecord opening before r → ¬ (tail ≡ spelled_record r ++ y)
 
 -- `n` rounds ended among the whole good records of the bytes, and none if the header is not whole.
 pub record HasRounds (ram : RamTerms) (sizes b : List ℕ) (n : ℕ) : Type 0 where
