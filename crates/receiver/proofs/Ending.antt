@@ -19,7 +19,7 @@ use Rattle.receiver.specs.Calls.{EndsWith, FinishesOrBack}
 use Rattle.receiver.specs.Disks.{all_marks_in}
 use Rattle.receiver.specs.declared.recv_error.RecvError.{RecvError}
 use Rattle.receiver.specs.declared.recv_error.RecvError.TheVariants.{AlreadyFailed, Truncated}
-use Rattle.receiver.specs.Fed.{HasCome, IsKnownIn, IsReading}
+use Rattle.receiver.specs.Fed.{IsKnownIn, IsReadWhole, IsReading}
 use Rattle.receiver.specs.Receiving.{HasBeenFed, IsFinish, IsGivenUp, IsKnown, IsReceiver, ReaderSeen, Received, end_error, place_in, received_with, IsTaken, IsWholeFor, NoNext, has_ended, has_failed}
 use Rattle.receiver.specs.declared.intake.Intake.{Intake}
 use Rattle.receiver.specs.declared.stage.Stage.{Stage}
@@ -81,7 +81,7 @@ pub given_back_as : (r : ReaderSeen) (held : List ℕ) (new : Received) → new.
 given_back_as r held new failed ram disks sizes marks place = record { failed = failed; ram = ram; disks = disks; sizes = sizes; marks = marks; place = place }
 
 -- A receiver that has read the digest has come to the end of a whole stream.
-pub has_come : (r : ReaderSeen) (held : List ℕ) (room lacking : ℕ) (i : Intake) → IsReceiver r held room lacking → r.stage ≡ stages.Records i → i.ended ≡ true → (front : List ℕ) × HasCome r.ram r.disks front i
+pub has_come : (r : ReaderSeen) (held : List ℕ) (room lacking : ℕ) (i : Intake) → IsReceiver r held room lacking → r.stage ≡ stages.Records i → i.ended ≡ true → (front : List ℕ) × IsReadWhole r.ram r.disks front i
 has_come r held room lacking i kept is done =
     let some = kept.known (ap has_failed is) in
     let known : IsKnownIn i.ended r.ram r.disks r.digest some.0 held i = subst (λ (stage : Stage). IsKnown r.ram r.disks r.digest some.0 held stage) is some.1 in

@@ -31,7 +31,7 @@ use Rattle.receiver.specs.Disks.{AreHonestDisks, all_marks_in, sizes_in}
 use Rattle.receiver.proofs.Sectors.{dealt_bad, marked_bad, marked_sizes, marked_whole, marks_count, written_sizes}
 use Rattle.receiver.specs.Good.{IsNextRecord, devices_in}
 use Rattle.receiver.specs.Faults.{IsComplete, IsBadDigest, IsTrailing, IsFault, IsFront, WaitsHead}
-use Rattle.receiver.specs.Fed.{HasCome, HasRead, IsEnded, IsKnownIn, IsReading, device_records}
+use Rattle.receiver.specs.Fed.{HasRead, IsEnded, IsKnownIn, IsReadWhole, IsReading, device_records}
 use Rattle.receiver.specs.Receiving.{IsArrived, IsKnown, IsTaken, IsWholeFor, NoFault}
 use Rattle.receiver.specs.declared.intake.Intake.{Intake}
 use Rattle.receiver.specs.declared.stage.Stage.{Stage}
@@ -91,7 +91,7 @@ no_fault_reading ram ds front held i r =
     let o = r.open_at in
     quiet_front ram (sizes_in ds) (front ++ held) r.opening o.before held (front_at r.based (front_of (front ++ held) held o.read refl)) (λ s y f e. o.waits.no_record s y f.spells f.has e) o.waits.no_fault
 
-no_fault_come : (ram : RamTerms) (ds : List DiskState) (bytes : List ℕ) (i : Intake) → HasCome ram ds bytes i → NoFault ram (sizes_in ds) bytes
+no_fault_come : (ram : RamTerms) (ds : List DiskState) (bytes : List ℕ) (i : Intake) → IsReadWhole ram ds bytes i → NoFault ram (sizes_in ds) bytes
 no_fault_come ram ds bytes i h =
     let w = h.ended in
     let whole : bytes ≡ w.front ++ (5 ∷ sha256 w.front) = w.whole ∙ ap (λ (x : List ℕ). w.front ++ x) (commit_text (sha256 w.front)) in
@@ -115,7 +115,7 @@ pub no_fault_known : (ram : RamTerms) (ds : List DiskState) (digest : Sha256) (b
 no_fault_known ram ds digest bytes held stage t = rw (t.whole) (no_fault_in_stage ram ds digest t.front held stage t.known)
 
 -- All bytes of a stream that has ended.
-pub come_of : (ram : RamTerms) (ds : List DiskState) (digest : Sha256) (bytes held : List ℕ) (i : Intake) → i.ended ≡ true → IsTaken ram ds digest bytes held (stages.Records i) → HasCome ram ds bytes i
+pub come_of : (ram : RamTerms) (ds : List DiskState) (digest : Sha256) (bytes held : List ℕ) (i : Intake) → i.ended ≡ true → IsTaken ram ds digest bytes held (stages.Records i) → IsReadWhole ram ds bytes i
 come_of ram ds digest bytes held i done t =
     let known : IsKnownIn true ram ds digest t.front held i = subst (λ (b : Bool). IsKnownIn b ram ds digest t.front held i) done t.known in
     rw (t.whole ∙ none_held t.front held known.0) known.1
@@ -254,5 +254,5 @@ whole_for ds held opening i w = record {
   complete = w.complete;
 }
 
-pub whole_come : (ram : RamTerms) (ds : List DiskState) (held : List ℕ) (i : Intake) → HasCome ram ds held i → IsWholeFor ram (sizes_in ds) held
+pub whole_come : (ram : RamTerms) (ds : List DiskState) (held : List ℕ) (i : Intake) → IsReadWhole ram ds held i → IsWholeFor ram (sizes_in ds) held
 whole_come ram ds held i h = subst (λ (r : RamTerms). IsWholeFor r (sizes_in ds) held) h.based (whole_for ds held h.opening i h.ended)

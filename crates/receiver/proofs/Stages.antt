@@ -17,7 +17,7 @@ use Rattle.receiver.specs.Good.{AreGood}
 use Rattle.machine.specs.Shapes.{disk_sizes}
 use Rattle.receiver.specs.Disks.{AreRefused, sizes_in}
 use Rattle.receiver.specs.Faults.{IsComplete, IsTrailing, IsHeaderFault, Fault, TellsHead}
-use Rattle.receiver.specs.Fed.{AreWritten, HasCome, HasRead, IsUpTo, Tells, device_records}
+use Rattle.receiver.specs.Fed.{AreWritten, HasRead, IsReadWhole, IsUpTo, Tells, device_records}
 use Rattle.receiver.specs.declared.intake.Intake.{Intake}
 use Rattle.receiver.specs.declared.ram_terms.RamTerms.{RamTerms}
 use Rattle.receiver.specs.declared.recv_error.RecvError.{RecvError}
@@ -102,7 +102,7 @@ trailing_of opening before digest front (byte ∷ more) complete e some same = r
   there = refl;
 }
 
-pub trailing_piece : (ram : RamTerms) (ds : List DiskState) (old piece : List ℕ) (i : Intake) → HasCome ram ds old i → 0 < length piece → AreRefused ds ds errors.Trailing × ((k : ℕ) × Fault ram (sizes_in ds) (old ++ piece) errors.Trailing k)
+pub trailing_piece : (ram : RamTerms) (ds : List DiskState) (old piece : List ℕ) (i : Intake) → IsReadWhole ram ds old i → 0 < length piece → AreRefused ds ds errors.Trailing × ((k : ℕ) × Fault ram (sizes_in ds) (old ++ piece) errors.Trailing k)
 trailing_piece ram ds old piece i h some =
     let w = h.ended in
     let text : old ≡ w.front ++ (5 ∷ sha256 w.front) = w.whole ∙ ap (λ (x : List ℕ). w.front ++ x) (commit_text (sha256 w.front)) in
@@ -114,7 +114,7 @@ trailing_piece ram ds old piece i h some =
 pub trailing_in : (ram : RamTerms) (old ds : List DiskState) (i : Intake) (digest : Sha256) (front bytes : List ℕ) (at : ℕ) → i.ended ≡ true → at < length bytes → SoFar ram old ds i digest (front ++ take at bytes)
     → AreRefused old ds errors.Trailing × ((k : ℕ) × Fault ram (sizes_in old) (front ++ bytes) errors.Trailing k)
 trailing_in ram old ds i digest front bytes at done more s =
-    let come : HasCome ram ds (front ++ take at bytes) i = subst (λ (b : Bool). IsUpTo b ram ds digest (front ++ take at bytes) i) done s.known in
+    let come : IsReadWhole ram ds (front ++ take at bytes) i = subst (λ (b : Bool). IsUpTo b ram ds digest (front ++ take at bytes) i) done s.known in
     let t = trailing_piece ram ds (front ++ take at bytes) (drop at bytes) i come (omega (arith, more, length-drop at bytes)) in
     let parts : (front ++ take at bytes) ++ drop at bytes ≡ front ++ bytes = sym (cut front bytes at) in (
       then_refused old ds ds errors.Trailing s.same t.0,

@@ -127,7 +127,7 @@ pub record IsReading (ram : RamTerms) (disks : List DiskState) (front held : Lis
   pub open_at : IsOpen disks opening i front held
 
 -- The intake has taken in a whole stream.
-pub record HasCome (ram : RamTerms) (disks : List DiskState) (bytes : List ℕ) (i : Intake) : Type 0 where
+pub record IsReadWhole (ram : RamTerms) (disks : List DiskState) (bytes : List ℕ) (i : Intake) : Type 0 where
   pub opening : Opened
   pub based : opening.ram ≡ ram
   pub ended : IsEnded disks opening i bytes
@@ -135,12 +135,12 @@ pub record HasCome (ram : RamTerms) (disks : List DiskState) (bytes : List ℕ) 
 -- These bytes were taken in, and have this digest; or, with the digest that ends them, they are a whole stream.
 abbrev pub IsUpTo : Bool → RamTerms → List DiskState → Sha256 → List ℕ → Intake → Type 0
 IsUpTo false ram disks digest front i = Holds256 digest front × IsRead ram disks front i
-IsUpTo true ram disks digest front i = HasCome ram disks front i
+IsUpTo true ram disks digest front i = IsReadWhole ram disks front i
 
 -- What is known of the bytes of which those of `front` were taken in and those after it are held.
 abbrev pub IsKnownIn : Bool → RamTerms → List DiskState → Sha256 → List ℕ → List ℕ → Intake → Type 0
 IsKnownIn false ram disks digest front held i = Holds256 digest front × IsReading ram disks front held i
-IsKnownIn true ram disks digest front held i = (held ≡ []) × HasCome ram disks front i
+IsKnownIn true ram disks digest front held i = (held ≡ []) × IsReadWhole ram disks front i
 
 -- The disks, the digest and the intake, after it worked through these bytes, which follow those of `front`, up to `at`.
 abbrev pub Worked : RamTerms → List DiskState → List DiskState → Intake → Sha256 → List ℕ → List ℕ → Result ℕ RecvError → Type 0
