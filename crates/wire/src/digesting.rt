@@ -49,7 +49,7 @@ impl<S: Sink> Eager<S> {
         }
     }
 
-    /// Puts another sink in the place of the one that it has, and returns that. The digest goes on.
+    /// Replaces the sink, and returns the old one. The digest continues.
     pub fn replace(&mut self, sink: S) -> S
         ensures old { S.state result ≡ ⟦<Eager<S> as Sink>⟧.state self.old }
         ensures new { ⟦<Eager<S> as Sink>⟧.state self.new ≡ S.state sink }

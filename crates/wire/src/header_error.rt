@@ -6,7 +6,7 @@ ghost use Rattle.std.specs.Prelude.{◌≡◌};
 use std::alloc::AllocError;
 use thiserror::Error;
 
-/// Why the header of a stream is not read: its first fault, which is reported at the byte that shows it, or want of memory.
+/// Why the header of a stream is not read: its first fault, which is reported at the byte that shows it, or memory was refused.
 #[derive(Clone, Copy, Debug, Drop, PartialEq, Eq, Error)]
 pub enum HeaderError {
     /// The bytes do not begin with "VMIG". Reported at the fourth byte.

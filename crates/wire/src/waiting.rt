@@ -1,6 +1,6 @@
 //! A sink whose bytes wait until they are taken, and are digested no sooner than they must.
 //!
-//! A full buffer of whoever takes them fails nothing, and the only failure is want of memory. Taking n bytes costs O(n), amortized;
+//! A slow reader makes no call fail: a put fails only if memory is refused. Taking n bytes costs O(n), amortized;
 //! the memory can hold up to twice what waits.
 //!
 //! Bytes are taken by a copy, and not lent: no clause can say which bytes lie behind a pointer that is handed out while the sink
