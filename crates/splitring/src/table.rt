@@ -57,23 +57,24 @@ pub(crate) fn find(
     let mut last = NO_DESCRIPTOR;
     let is_named = walk(core, ram, decoder, table, first, chain, &mut last)?;
     if is_named {
-        return follow(core, decoder, ram, &mut last, chain);
+        return follow(core, decoder, ram, &last, chain);
     }
     ended(chain)
 }
 
 /// Continues in the table that `last`, the last descriptor of the list, names, after those before it. A driver makes such a table
-/// anew for each chain, so none of its descriptors is kept.
+/// anew for each chain, so none of its descriptors is kept. `last` is only read here: were it written, each walk would have to keep
+/// its descriptors in memory, also where none names a table.
 fn follow(
     core: &RingCore,
     decoder: &mut Decoder,
     ram: &Ram,
-    last: &mut Descriptor,
+    last: &Descriptor,
     chain: &mut Chain,
 ) -> Result<(), NoChain>
     requires room { segment_count chain.old < core.now.size }
     requires fits { Fits decoder.old ram.now }
-    ensures gives { (front : List Descriptor) → AreHeld core.now.base (length ram.now.bytes) front chain.old → FollowGives core.now.base ram.now.bytes (has core.now.features INDIRECT_DESC) core.now.size front last.old chain.new result }
+    ensures gives { (front : List Descriptor) → AreHeld core.now.base (length ram.now.bytes) front chain.old → FollowGives core.now.base ram.now.bytes (has core.now.features INDIRECT_DESC) core.now.size front last.now chain.new result }
     ensures decoded { HasDecoded decoder.old decoder.new ram.now (core.now.size - segment_count chain.old) }
     ensures apart { decoder.new.kept ≡ decoder.old.kept }
 {
@@ -87,7 +88,8 @@ fn follow(
         entries: last.len / DESCRIPTOR_SIZE as u32,
         is_own: false,
     };
-    let is_nested = walk(core, ram, decoder, table, 0, chain, last)?;
+    let mut nested = NO_DESCRIPTOR;
+    let is_nested = walk(core, ram, decoder, table, 0, chain, &mut nested)?;
     // INDIRECT inside the table.
     if is_nested {
         return Err(NoChain::Malformed);
