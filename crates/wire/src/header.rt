@@ -136,16 +136,13 @@ fn read_shapes(
     let mut shapes = Vec::new(alloc);
     let mut rest = bytes;
     for _ in 0..count {
-        match first_shape(rest) {
-            Err(error) => return Err(error),
-            Ok(None) => return Ok(None),
-            Ok(Some((shape, after))) => {
-                let Ok(()) = shapes.push(shape) else {
-                    return Err(HeaderError::NoMemory);
-                };
-                rest = after;
-            }
-        }
+        let Some((shape, after)) = first_shape(rest)? else {
+            return Ok(None);
+        };
+        let Ok(()) = shapes.push(shape) else {
+            return Err(HeaderError::NoMemory);
+        };
+        rest = after;
     }
     Ok(Some((shapes, rest)))
 }
