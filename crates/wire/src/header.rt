@@ -89,19 +89,16 @@ pub fn read_header(alloc: Global, bytes: &[u8]) -> Result<Option<Header>, Header
         return Err(HeaderError::BadShape);
     }
     let (_, rest) = bytes.split_at(FRONT_LEN);
-    match read_shapes(alloc, count, rest) {
-        Err(error) => Err(error),
-        Ok(None) => Ok(None),
-        Ok(Some((shapes, rest))) => {
-            let len = bytes.len() - rest.len();
-            Ok(Some(Header {
-                version,
-                pages,
-                shapes,
-                len,
-            }))
-        }
-    }
+    let Some((shapes, rest)) = read_shapes(alloc, count, rest)? else {
+        return Ok(None);
+    };
+    let len = bytes.len() - rest.len();
+    Ok(Some(Header {
+        version,
+        pages,
+        shapes,
+        len,
+    }))
 }
 
 /// The shape at the front of the bytes, if it is complete, and the bytes after it.
