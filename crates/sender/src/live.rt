@@ -152,7 +152,9 @@ impl<D: Disk> LiveOver<D, Waiting> {
 impl<D: Disk, W: Digesting> LiveOver<D, W> {
     /// A machine of which nothing is sent yet, with the sets that `make_room` made for it. The writer has begun its digest.
     fn fresh(machine: Machine<D>, writer: W, due: BitSet, dirty: Dirty) -> LiveOver<D, W>
-        requires { IsLive machine Phase.Fresh due dirty.set dirty.firsts.items 0 }
+        requires empty { HasNone due × HasNone dirty.set }
+        requires live { IsLive machine Phase.Fresh due dirty.set dirty.firsts.items 0 }
+        ensures empty { HasNone result.due × HasNone result.dirty }
         ensures live { result ≡ record { machine = machine; phase = Phase.Fresh; due = due; dirty = dirty.set; digest = W.sum writer; out = W.state writer } }
         ensures places { HasPlaces result }
     {
