@@ -18,7 +18,7 @@ use Rattle.receiver.specs.declared.recv_error.RecvError.{RecvError}
 use Rattle.receiver.proofs.Lists.{not_both_ways}
 use Rattle.receiver.proofs.Quiet.{no_page, quiet}
 use Rattle.wire.specs.Header.{Opening}
-use Rattle.receiver.specs.Opened.{Begins, Opened, layout_in, opened, said_by}
+use Rattle.receiver.specs.Opened.{BeginsOpened, Opened, opened_layout, opened, said_by}
 
 -- One list of records is the beginning of the other.
 pub record LongerRecords (rs ss : List Record) (x y : List ℕ) : Type 0 where
@@ -125,7 +125,7 @@ no_bad_round : (opening : Opened) (before : List Record) (tail more : List ℕ) 
 no_bad_round opening before tail more n e fits next place h =
     let same = (number_same 4 n h.number more h.more fits h.fits (tail_same (sym e ∙ h.opens.whole))).0 in h.never (sym same ∙ next)
 
-no_bad_sector : (opening : Opened) (before : List Record) (tail more : List ℕ) (d n mark : ℕ) → tail ≡ 2 ∷ (d ∷ (digits 4 n ++ (mark ∷ more))) → n < 2 ^ 32 → IsItemIn (layout_in opening) (items.sector d n) → mark ≤ 1 → (place : ℕ) → ¬ (IsBadSector opening before tail place)
+no_bad_sector : (opening : Opened) (before : List Record) (tail more : List ℕ) (d n mark : ℕ) → tail ≡ 2 ∷ (d ∷ (digits 4 n ++ (mark ∷ more))) → n < 2 ^ 32 → IsItemIn (opened_layout opening) (items.sector d n) → mark ≤ 1 → (place : ℕ) → ¬ (IsBadSector opening before tail place)
 no_bad_sector opening before tail more d n mark e fits below few place h =
     let t = tail_same (sym e ∙ h.opens.whole) in
     let s = number_same 4 n h.number (mark ∷ more) (h.mark ∷ h.more) fits h.fits (tail_same t) in
@@ -213,7 +213,7 @@ led_fault opening before others tail rest good goods none quiets (inl l) k place
 led_fault opening before others tail rest good goods none quiets (inr l) k place f = longer_off opening before others tail rest good quiets l.more l.all l.left k place f
 
 -- Two headers of the same bytes, of machines whose RAM begins at one address.
-pub one_opening : (bytes : List ℕ) (o p : Opened) (x y : List ℕ) → o.ram ≡ p.ram → Begins bytes o x → Begins bytes p y → (o ≡ p) × (x ≡ y)
+pub one_opening : (bytes : List ℕ) (o p : Opened) (x y : List ℕ) → o.ram ≡ p.ram → BeginsOpened bytes o x → BeginsOpened bytes p y → (o ≡ p) × (x ≡ y)
 one_opening bytes o p x y based a b =
     let t = begins_once {o = said_by o} {p = said_by p} a b in
     let same : opened o.ram (said_by o) ≡ opened p.ram (said_by p) = ap (λ (r : RamTerms). opened r (said_by o)) based ∙ ap (λ (h : Opening). opened p.ram h) t.0 in

@@ -10,7 +10,7 @@ use Rattle.guestmem.specs.Number.{IsBytes}
 use Rattle.wire.specs.Records.{Record, commit, spelled_record}
 use Rattle.wire.specs.Stream.{texts}
 use Rattle.receiver.specs.Disks.{sizes_in}
-use Rattle.receiver.specs.Opened.{header, said_by}
+use Rattle.receiver.specs.Opened.{opened_header, said_by}
 use Rattle.receiver.specs.Faults.{WaitsHead}
 use Rattle.guestmem.specs.Memory.{Memory}
 use Rattle.machine.specs.Room.{RoomSeen}
@@ -33,13 +33,13 @@ use Rattle.receiver.proofs.Working.{commit_text, front_at, front_of}
 
 -- Bytes of which no whole header was read.
 pub not_whole_head : (ram : RamTerms) (sizes held : List ℕ) → WaitsHead held → ¬ (IsWholeFor ram sizes held)
-not_whole_head ram sizes held w h = w.no_header (said_by h.opening) (texts h.before ++ spelled_record (commit (sha256 (header h.opening ++ texts h.before)))) h.front.begins
+not_whole_head ram sizes held w h = w.no_header (said_by h.opening) (texts h.before ++ spelled_record (commit (sha256 (opened_header h.opening ++ texts h.before)))) h.front.begins
 
 -- Bytes that go on after the last whole record. Were they whole, their last record would be a whole one that follows.
 pub not_whole_reading : (ram : RamTerms) (ds : List DiskState) (read tail bytes : List ℕ) (i : Intake) → IsBytes bytes → bytes ≡ read ++ tail → IsReading ram ds read tail i → ¬ (IsWholeFor ram (sizes_in ds) bytes)
 not_whole_reading ram ds read tail bytes i are parts r h =
     let o = r.open_at in
-    let sum = sha256 (header h.opening ++ texts h.before) in
+    let sum = sha256 (opened_header h.opening ++ texts h.before) in
     let end = spelled_record (commit sum) in
     let f = front_at r.based (front_of bytes tail o.read parts) in
     let none : NoNext r.opening o.before tail = λ s y g e. o.waits.no_record s y g.spells g.has e in
@@ -48,9 +48,9 @@ not_whole_reading ram ds read tail bytes i are parts r h =
     let records : h.before ≡ o.before = same_records ram (sizes_in ds) bytes r.opening h.opening o.before h.before tail end f none h.front nothing in
     let left : texts o.before ++ end ≡ texts o.before ++ tail = ap (λ (x : List Record). texts x ++ end) (sym records) ∙ t.1 in
     let same : end ≡ tail = append_cancel_left (texts o.before) end tail left in
-    let whole : bytes ≡ (header h.opening ++ texts h.before) ++ (5 ∷ sum) =
-    h.front.begins.whole ∙ sym (append_assoc (header h.opening) (texts h.before) end) ∙ ap (λ (x : List ℕ). (header h.opening ++ texts h.before) ++ x) (commit_text sum) in
-    o.waits.no_record (commit sum) [] (length-sha256 (header h.opening ++ texts h.before), digest_bytes (header h.opening ++ texts h.before) sum bytes are whole) tt (sym same ∙ sym (append-nil end))
+    let whole : bytes ≡ (opened_header h.opening ++ texts h.before) ++ (5 ∷ sum) =
+    h.front.begins.whole ∙ sym (append_assoc (opened_header h.opening) (texts h.before) end) ∙ ap (λ (x : List ℕ). (opened_header h.opening ++ texts h.before) ++ x) (commit_text sum) in
+    o.waits.no_record (commit sum) [] (length-sha256 (opened_header h.opening ++ texts h.before), digest_bytes (opened_header h.opening ++ texts h.before) sum bytes are whole) tt (sym same ∙ sym (append-nil end))
 
 -- A receiver that has not read the digest was fed no whole stream, and one that has was.
 pub not_whole_taken : (ram : RamTerms) (ds : List DiskState) (digest : Sha256) (bytes held : List ℕ) (stage : Stage) → IsBytes bytes → has_ended stage ≡ false → IsTaken ram ds digest bytes held stage → ¬ (IsWholeFor ram (sizes_in ds) bytes)

@@ -8,7 +8,7 @@ use Rattle.sha2.proofs.Facts256.{length-sha256}
 use Rattle.blk.specs.Disk.{DiskState}
 use Rattle.guestmem.specs.Number.{IsBytes}
 use Rattle.guestmem.proofs.ByteLaws.{IsBytes-append}
-use Rattle.receiver.specs.Opened.{header, Opened}
+use Rattle.receiver.specs.Opened.{opened_header, Opened}
 use Rattle.wire.specs.RecordHeads.{BeginsHead, body_len, spelled_head}
 use Rattle.wire.specs.Records.{Record}
 use Rattle.wire.specs.Stream.{texts}
@@ -84,10 +84,10 @@ within opening before held piece head are b long short errors.BadDigest place h 
     absurd (omega (arith, short_body held piece head b short, ap body_len t.0, ap length t.1, length-append h.digest h.more, h.long))
 within opening before held piece head are b long short errors.Missing place h = omega (arith, long, h.there)
 within opening before held piece head are b long short errors.Trailing place h =
-    let sum = sha256 (header opening ++ texts before) in
+    let sum = sha256 (opened_header opening ++ texts before) in
     let rest = drop (length (spelled_head head)) held ++ piece in
     let t = one_head head heads.Commit rest (sum ++ (h.byte ∷ h.more)) b.fits tt (sym (behind_head held piece head b) ∙ h.opens.whole) in
-    absurd (omega (arith, short_body held piece head b short, ap body_len t.0, ap length t.1, length-append sum (h.byte ∷ h.more), length-sha256 (header opening ++ texts before)))
+    absurd (omega (arith, short_body held piece head b short, ap body_len t.0, ap length t.1, length-append sum (h.byte ∷ h.more), length-sha256 (opened_header opening ++ texts before)))
 within opening before held piece head are b long short _ place h = absurd h
 
 waits_on : (opening : Opened) (before : List Record) (stage : Stage) (held piece : List ℕ) → IsWithinBody stage held piece → Waits opening before held → Waits opening before (held ++ piece)

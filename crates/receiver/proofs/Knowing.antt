@@ -9,7 +9,7 @@ use Rattle.sha2.specs.declared.Sha256.{Sha256}
 use Rattle.sha2.proofs.Facts256.{length-sha256}
 use Rattle.guestmem.specs.Number.{IsBytes}
 use Rattle.wire.specs.DeviceBody.{body, IsDeviceOf}
-use Rattle.receiver.specs.Opened.{Opened, header, layout_in, said_by}
+use Rattle.receiver.specs.Opened.{Opened, opened_header, opened_layout, said_by}
 use Rattle.wire.specs.Header as told
 use Rattle.wire.specs.Records.{Record, sector, device, commit, spelled_record}
 use Rattle.wire.specs.Stream.{IsStream, texts, rounds, shapes_in, device_texts, before_commit, last_named, record_in}
@@ -56,17 +56,17 @@ no_other opening before digest (sector d n (Some b)) y f e = cc
 no_other opening before digest (commit b) y f e = f.may
 no_other opening before digest _ y f e = cc
 
-digest_quiet : (opening : Opened) (before : List Record) (digest : List ℕ) → digest ≡ sha256 (header opening ++ texts before) → (place : ℕ)
+digest_quiet : (opening : Opened) (before : List Record) (digest : List ℕ) → digest ≡ sha256 (opened_header opening ++ texts before) → (place : ℕ)
     → ¬ (IsBadDigest opening before (5 ∷ digest) place ⊎ IsTrailing opening before (5 ∷ digest) place)
 digest_quiet opening before digest is place (inl h) =
-    let size : length digest ≡ 32 = ap length is ∙ length-sha256 (header opening ++ texts before) in
+    let size : length digest ≡ 32 = ap length is ∙ length-sha256 (opened_header opening ++ texts before) in
     let t : digest ++ [] ≡ h.digest ++ h.more = append-nil digest ∙ tail_same h.opens.whole in
     h.never (sym (split_same digest h.digest [] h.more (size ∙ sym h.long) t).0 ∙ is)
 digest_quiet opening before digest is place (inr h) =
-    let size : length digest ≡ 32 = ap length is ∙ length-sha256 (header opening ++ texts before) in
-    omega (arith, size, ap length (tail_same h.opens.whole), length-append (sha256 (header opening ++ texts before)) (h.byte ∷ h.more), length-sha256 (header opening ++ texts before))
+    let size : length digest ≡ 32 = ap length is ∙ length-sha256 (opened_header opening ++ texts before) in
+    omega (arith, size, ap length (tail_same h.opens.whole), length-append (sha256 (opened_header opening ++ texts before)) (h.byte ∷ h.more), length-sha256 (opened_header opening ++ texts before))
 
-pub end_quiet : (opening : Opened) (before : List Record) (digest : List ℕ) → IsComplete opening before 5 → digest ≡ sha256 (header opening ++ texts before) → (k : RecvError) (place : ℕ) → ¬ (IsFault opening before (5 ∷ digest) k place)
+pub end_quiet : (opening : Opened) (before : List Record) (digest : List ℕ) → IsComplete opening before 5 → digest ≡ sha256 (opened_header opening ++ texts before) → (k : RecvError) (place : ℕ) → ¬ (IsFault opening before (5 ∷ digest) k place)
 end_quiet opening before digest complete is =
     quiet opening before (5 ∷ digest) 5 digest (record {
       whole = refl;
@@ -196,7 +196,7 @@ sent_sound {ds = ds} {i = i} h all are = read_sound h.sectors h all are (written
 
 -- Its layout is that of the header.
 pub read_layout : {ds : List DiskState} {front : List ℕ} {opening : Opened} {before : List Record} {i : Intake} (h : HasRead ds opening before i front) → devices_in before ≡ length opening.shapes → IsSound (read_machine i h.sectors)
-    → layout_of (read_machine i h.sectors) ≡ layout_in opening
+    → layout_of (read_machine i h.sectors) ≡ opened_layout opening
 read_layout {opening = opening} {i = i} h all sound =
     let size : length i.ram.bytes / 4096 ≡ opening.pages = omega (arith, h.taken.ram_size) in
     sound_layout (read_machine i h.sectors) sound ∙ rw (size, whole_shapes h all) refl
@@ -208,10 +208,10 @@ sent_stream ds held opening i w are =
     let same : texts w.before ≡ texts h.entries ++ device_texts 0 i.devices.items =
     ap texts h.split ∙ texts-append h.entries (device_records 0 i.devices.items) ∙ ap (λ (x : List ℕ). texts h.entries ++ x) (texts_devices 0 i.devices.items) in
     let front : w.front ≡ before_commit opening.version opening.pages h.entries i.devices.items =
-    h.whole ∙ ap (λ (x : List ℕ). header opening ++ x) same ∙ ap (λ (x : List Shape). told.header (record { version = opening.version; pages = opening.pages; shapes = x }) ++ (texts h.entries ++ device_texts 0 i.devices.items)) (sym (whole_shapes h all)) in
+    h.whole ∙ ap (λ (x : List ℕ). opened_header opening ++ x) same ∙ ap (λ (x : List Shape). told.header (record { version = opening.version; pages = opening.pages; shapes = x }) ++ (texts h.entries ++ device_texts 0 i.devices.items)) (sym (whole_shapes h all)) in
     let m : MachineState = read_machine i h.sectors in
     let sound = sent_sound h all are in
-    let layout : layout_of m ≡ layout_in opening = read_layout h all sound in
+    let layout : layout_of m ≡ opened_layout opening = read_layout h all sound in
     let size : pages_of m ≡ opening.pages = omega (arith, h.taken.ram_size) in
     let disks : m.disks ≡ dealt_sectors opening.shapes h.sectors = ap (λ (x : List Shape). dealt_sectors x h.sectors) (whole_shapes h all) in
     record {
@@ -222,9 +222,9 @@ sent_stream ds held opening i w are =
         each = rw layout h.each;
         numbered = h.numbered;
         last = λ item has.
-            let here : IsItemIn (layout_in opening) item = rw layout at has in
+            let here : IsItemIn (opened_layout opening) item = rw layout at has in
             sym (ap (last_named item) h.split ∙ last_entries item 0 h.entries i.devices.items)
-            ∙ rw disks (some_shown (get_or i.named (number_of (layout_in opening) item) false) (record_in opening.version i.ram.bytes (dealt_sectors opening.shapes h.sectors) item) (last_named item w.before) (h.taken.last item here) (w.complete.items item here));
+            ∙ rw disks (some_shown (get_or i.named (number_of (opened_layout opening) item) false) (record_in opening.version i.ram.bytes (dealt_sectors opening.shapes h.sectors) item) (last_named item w.before) (h.taken.last item here) (w.complete.items item here));
         sound = sound;
         devices = All-from_recursion (IsDeviceOf opening.version) i.devices.items h.has;
         whole = rw size (w.whole ∙ ap (λ (x : List ℕ). x ++ spelled_record (commit (sha256 x))) front);
@@ -250,7 +250,7 @@ pub whole_for : (ds : List DiskState) (held : List ℕ) (opening : Opened) (i : 
 whole_for ds held opening i w = record {
   opening = opening;
   before = w.before;
-  front = front_of held (spelled_record (commit (sha256 (header opening ++ texts w.before)))) w.read (w.whole ∙ ap (λ (x : List ℕ). w.front ++ spelled_record (commit (sha256 x))) w.read.whole);
+  front = front_of held (spelled_record (commit (sha256 (opened_header opening ++ texts w.before)))) w.read (w.whole ∙ ap (λ (x : List ℕ). w.front ++ spelled_record (commit (sha256 x))) w.read.whole);
   complete = w.complete;
 }
 

@@ -6,7 +6,7 @@ use Rattle.std.specs.List.{AllByRecursion}
 use Rattle.sha2.specs.Sha256.{sha256}
 use Rattle.sha2.proofs.Facts256.{length-sha256}
 use Rattle.wire.specs.Header.{spelled_shapes}
-use Rattle.receiver.specs.Opened.{Opened, header, ram_at, said_by}
+use Rattle.receiver.specs.Opened.{Opened, opened_header, ram_at, said_by}
 use Rattle.wire.specs.Header as told
 use Rattle.wire.specs.Records.{Record, spelled_record}
 use Rattle.wire.specs.Stream.{texts}
@@ -88,8 +88,8 @@ body_body opening before tail p q f h =
 
 digest_trailing : (opening : Opened) (before : List Record) (tail : List ℕ) (p q : ℕ) → IsBadDigest opening before tail p → IsTrailing opening before tail q → ⊥
 digest_trailing opening before tail p q f h =
-    let t : f.digest ++ f.more ≡ sha256 (header opening ++ texts before) ++ (h.byte ∷ h.more) = tail_same (sym f.opens.whole ∙ h.opens.whole) in
-    f.never (split_same f.digest (sha256 (header opening ++ texts before)) f.more (h.byte ∷ h.more) (f.long ∙ sym (length-sha256 (header opening ++ texts before))) t).0
+    let t : f.digest ++ f.more ≡ sha256 (opened_header opening ++ texts before) ++ (h.byte ∷ h.more) = tail_same (sym f.opens.whole ∙ h.opens.whole) in
+    f.never (split_same f.digest (sha256 (opened_header opening ++ texts before)) f.more (h.byte ∷ h.more) (f.long ∙ sym (length-sha256 (opened_header opening ++ texts before))) t).0
 
 page_not : (tag : ℕ) → IsPageTag tag → (t : ℕ) → 2 ≤ t → t ≤ 5 → tag ≡ t → ⊥
 page_not tag names t low high e = no_page t low high (subst IsPageTag e names)
@@ -143,8 +143,8 @@ one_record_fault ram sizes bytes k j at bt f h =
     let fault : IsFault f.opening h.before h.tail j h.place = rw t.0 at h.fault in
     let one = led_one f.opening f.before h.before f.tail h.tail k j f.place h.place f.front.good goods f.fault fault
     (records_led f.before h.before f.tail h.tail (good_spell f.opening [] f.before f.front.good) (good_spell f.opening [] h.before goods) (sym t.1)) in
-    let heads : length (header h.opening) ≡ length (header f.opening) = ap (λ (o : Opened). length (header o)) t.0 in
-    (one.0, omega (arith, one.1, heads, f.there, h.there, length-append (header f.opening) (texts f.before), length-append (header h.opening) (texts h.before)))
+    let heads : length (opened_header h.opening) ≡ length (opened_header f.opening) = ap (λ (o : Opened). length (opened_header o)) t.0 in
+    (one.0, omega (arith, one.1, heads, f.there, h.there, length-append (opened_header f.opening) (texts f.before), length-append (opened_header h.opening) (texts h.before)))
 
 -- Headers.
 

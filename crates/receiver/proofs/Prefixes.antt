@@ -4,7 +4,7 @@ use Rattle.std.proofs.lemmas.List.{length-append, length-drop, drop-append-le}
 use Rattle.sha2.specs.Sha256.{sha256}
 use Rattle.sha2.proofs.Facts256.{length-sha256}
 use Rattle.wire.specs.Header.{spelled_shapes, IsVersion}
-use Rattle.receiver.specs.Opened.{Opened, header}
+use Rattle.receiver.specs.Opened.{Opened, opened_header}
 use Rattle.wire.specs.Header as told
 use Rattle.wire.specs.Numbers.{digits}
 use Rattle.wire.specs.Records.{Record}
@@ -49,7 +49,7 @@ stays_here opening before tail c errors.BadDevice p (inl h) = inl (record { numb
 stays_here opening before tail c errors.BadDevice p (inr h) = inr (record { body = h.body; more = h.more ++ c; shape = h.shape; others = h.others; opens = opens_on opening before tail c 4 _ _ h.opens (ap (λ (x : List ℕ). devices_in before ∷ x) (append_assoc (digits 4 (length h.body)) (h.body ++ h.more) c ∙ ap (λ (x : List ℕ). digits 4 (length h.body) ++ x) (append_assoc h.body h.more c))); few = h.few; here = h.here; never = h.never; there = h.there })
 stays_here opening before tail c errors.BadDigest p h = record { digest = h.digest; more = h.more ++ c; opens = opens_on opening before tail c 5 _ _ h.opens (append_assoc h.digest h.more c); long = h.long; never = h.never; there = h.there }
 stays_here opening before tail c errors.Missing p h = record { tag = h.tag; more = h.more ++ c; whole = ap (λ (x : List ℕ). x ++ c) h.whole; may = h.may; late = h.late; never = h.never; there = h.there }
-stays_here opening before tail c errors.Trailing p h = record { byte = h.byte; more = h.more ++ c; opens = opens_on opening before tail c 5 _ _ h.opens (append_assoc (sha256 (header opening ++ texts before)) (h.byte ∷ h.more) c); there = h.there }
+stays_here opening before tail c errors.Trailing p h = record { byte = h.byte; more = h.more ++ c; opens = opens_on opening before tail c 5 _ _ h.opens (append_assoc (sha256 (opened_header opening ++ texts before)) (h.byte ∷ h.more) c); there = h.there }
 stays_here opening before tail c _ p h = absurd h
 
 pub holds_here : (opening : Opened) (before : List Record) (tail c : List ℕ) (k : RecvError) (p : ℕ) → p ≤ length tail → IsFault opening before (tail ++ c) k p → IsFault opening before tail k p
@@ -81,8 +81,8 @@ holds_here opening before tail c errors.Missing p le h =
     let b = behind tail c (h.tag ∷ []) h.more h.whole (omega (arith, le, h.there)) in
     record { tag = h.tag; more = b.w; whole = b.left; may = h.may; late = h.late; never = h.never; there = h.there }
 holds_here opening before tail c errors.Trailing p le h =
-    let b = behind tail c (5 ∷ (sha256 (header opening ++ texts before) ++ (h.byte ∷ []))) h.more (h.opens.whole ∙ ap (λ (x : List ℕ). 5 ∷ x) (sym (append_assoc (sha256 (header opening ++ texts before)) (h.byte ∷ []) h.more))) (omega (arith, le, h.there, length-append (sha256 (header opening ++ texts before)) (h.byte ∷ []), length-sha256 (header opening ++ texts before))) in
-    record { byte = h.byte; more = b.w; opens = opens_at opening before (tail ++ c) tail 5 _ _ h.opens (b.left ∙ ap (λ (x : List ℕ). 5 ∷ x) (append_assoc (sha256 (header opening ++ texts before)) (h.byte ∷ []) b.w)); there = h.there }
+    let b = behind tail c (5 ∷ (sha256 (opened_header opening ++ texts before) ++ (h.byte ∷ []))) h.more (h.opens.whole ∙ ap (λ (x : List ℕ). 5 ∷ x) (sym (append_assoc (sha256 (opened_header opening ++ texts before)) (h.byte ∷ []) h.more))) (omega (arith, le, h.there, length-append (sha256 (opened_header opening ++ texts before)) (h.byte ∷ []), length-sha256 (opened_header opening ++ texts before))) in
+    record { byte = h.byte; more = b.w; opens = opens_at opening before (tail ++ c) tail 5 _ _ h.opens (b.left ∙ ap (λ (x : List ℕ). 5 ∷ x) (append_assoc (sha256 (opened_header opening ++ texts before)) (h.byte ∷ []) b.w)); there = h.there }
 holds_here opening before tail c _ p le h = absurd h
 
 says_on : (b c : List ℕ) (pages count : ℕ) → Says b pages count → Says (b ++ c) pages count
@@ -133,7 +133,7 @@ record_stays ram sizes b c k at h = record {
   front = record {
     begins = record {
       good = h.front.begins.good;
-      whole = ap (λ (x : List ℕ). x ++ c) h.front.begins.whole ∙ append_assoc (header h.opening) (texts h.before ++ h.tail) c ∙ ap (λ (x : List ℕ). header h.opening ++ x) (append_assoc (texts h.before) h.tail c);
+      whole = ap (λ (x : List ℕ). x ++ c) h.front.begins.whole ∙ append_assoc (opened_header h.opening) (texts h.before ++ h.tail) c ∙ ap (λ (x : List ℕ). opened_header h.opening ++ x) (append_assoc (texts h.before) h.tail c);
     };
     based = h.front.based;
     fits = h.front.fits;
@@ -146,15 +146,15 @@ record_stays ram sizes b c k at h = record {
 
 record_holds : (ram : RamTerms) (sizes b c : List ℕ) (k : RecvError) (at : ℕ) → at ≤ length b → IsRecordFault ram sizes (b ++ c) k at → IsRecordFault ram sizes b k at
 record_holds ram sizes b c k at le h =
-    let front = header h.opening ++ texts h.before in
-    let d = behind b c front h.tail (h.front.begins.whole ∙ sym (append_assoc (header h.opening) (texts h.before) h.tail)) (omega (arith, le, h.there)) in
+    let front = opened_header h.opening ++ texts h.before in
+    let d = behind b c front h.tail (h.front.begins.whole ∙ sym (append_assoc (opened_header h.opening) (texts h.before) h.tail)) (omega (arith, le, h.there)) in
     let fault : IsFault h.opening h.before (d.w ++ c) k h.place = rw d.right at h.fault in
     record {
       opening = h.opening;
       before = h.before;
       tail = d.w;
       place = h.place;
-      front = record { begins = record { good = h.front.begins.good; whole = d.left ∙ append_assoc (header h.opening) (texts h.before) d.w }; based = h.front.based; fits = h.front.fits; suits = h.front.suits; good = h.front.good };
+      front = record { begins = record { good = h.front.begins.good; whole = d.left ∙ append_assoc (opened_header h.opening) (texts h.before) d.w }; based = h.front.based; fits = h.front.fits; suits = h.front.suits; good = h.front.good };
       fault = holds_here h.opening h.before d.w c k h.place (omega (arith, le, h.there, ap length d.left, length-append front d.w)) fault;
       there = h.there;
     }

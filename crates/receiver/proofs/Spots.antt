@@ -14,7 +14,7 @@ use Rattle.receiver.specs.Standing.{IsSized}
 use Rattle.receiver.specs.declared.intake.Intake.{Intake}
 use Rattle.receiver.specs.declared.intake.Spot.{Spot}
 use Rattle.receiver.proofs.Sectors.{disk_at}
-use Rattle.receiver.specs.Opened.{Opened, layout_in}
+use Rattle.receiver.specs.Opened.{Opened, opened_layout}
 
 length-firsts : (first : ℕ) (sizes : List ℕ) → length (firsts_from first sizes) ≡ length sizes
 length-firsts first [] = refl
@@ -66,7 +66,7 @@ spot_of dev n spot h at = record {
 }
 
 -- A sector that the intake has not is none by the header.
-pub no_spot : {ds : List DiskState} {opening : Opened} {before : List Record} {i : Intake} {front : List ℕ} (dev n : ℕ) → HasRead ds opening before i front → ¬ (n < get_or (map sector_count i.shapes.items) dev 0) → ¬ (IsItemIn (layout_in opening) (items.sector dev n))
+pub no_spot : {ds : List DiskState} {opening : Opened} {before : List Record} {i : Intake} {front : List ℕ} (dev n : ℕ) → HasRead ds opening before i front → ¬ (n < get_or (map sector_count i.shapes.items) dev 0) → ¬ (IsItemIn (opened_layout opening) (items.sector dev n))
 no_spot dev n h never has = never (rw (← h.shapes_are) at has)
 
 pub has_sector : (shapes : List Shape) (dev n : ℕ) (shape : Shape) → dev < length shapes → shape ≡ get_or shapes dev shape → n < sector_count shape → n < get_or (map sector_count shapes) dev 0

@@ -4,7 +4,7 @@ use Rattle.std.proofs.lemmas.List.{take_at, length-append, length-drop, length-r
 use Rattle.std.proofs.Math.Seq.{take-add}
 use Rattle.sha2.specs.Sha256.{sha256}
 use Rattle.sha2.specs.declared.Sha256.{Sha256}
-use Rattle.receiver.specs.Opened.{Begins, HasPages, Opened, header, layout_in, ram_at, said_by}
+use Rattle.receiver.specs.Opened.{BeginsOpened, HasPages, Opened, opened_header, opened_layout, ram_at, said_by}
 use Rattle.wire.specs.Records.{Record}
 use Rattle.wire.specs.Stream.{texts, rounds}
 use Rattle.blk.specs.Disk.{AreSectors, DiskState}
@@ -37,15 +37,15 @@ new_written ds bad whole is =
     let marks : AreMarksOf ds bad = rw is (new_marks_fit (sizes_in ds)) in
     record { marks = marks; whole = marked_whole ds bad whole; bad_are = marked_bad ds bad marks; held = λ honest. refl }
 
-pub new_read : (ds : List DiskState) (bytes rest : List ℕ) (opening : Opened) (i : Intake) → Begins bytes opening rest → sizes_in ds ≡ disk_sizes opening.shapes → HasPages opening.ram opening.pages → length i.ram.bytes ≡ 4096 * opening.pages → i.named ≡ replicate (size_of (layout_in opening)) false → i.rounds ≡ 0
-    → i.terms.version ≡ opening.version → i.terms.ram ≡ opening.ram → i.shapes.items ≡ opening.shapes → i.devices.items ≡ [] → i.firsts.items ≡ firsts_of (layout_in opening) → i.bad.items ≡ map (λ n. replicate n false) (sizes_in ds) → All (λ (d : DiskState). AreSectors d.sectors) ds → HasRead ds opening [] i (header opening)
+pub new_read : (ds : List DiskState) (bytes rest : List ℕ) (opening : Opened) (i : Intake) → BeginsOpened bytes opening rest → sizes_in ds ≡ disk_sizes opening.shapes → HasPages opening.ram opening.pages → length i.ram.bytes ≡ 4096 * opening.pages → i.named ≡ replicate (size_of (opened_layout opening)) false → i.rounds ≡ 0
+    → i.terms.version ≡ opening.version → i.terms.ram ≡ opening.ram → i.shapes.items ≡ opening.shapes → i.devices.items ≡ [] → i.firsts.items ≡ firsts_of (opened_layout opening) → i.bad.items ≡ map (λ n. replicate n false) (sizes_in ds) → All (λ (d : DiskState). AreSectors d.sectors) ds → HasRead ds opening [] i (opened_header opening)
 unfolding AreGood texts rounds device_records
 new_read ds bytes rest opening i b fits suits size marks ends version based same none firsts bad whole = record {
   head = b.good;
   fits = fits;
   suits = suits;
   good = tt;
-  whole = sym (append-nil (header opening));
+  whole = sym (append-nil (opened_header opening));
   version_is = version;
   ram_is = based;
   shapes_are = same;
@@ -57,19 +57,19 @@ new_read ds bytes rest opening i b fits suits size marks ends version based same
   each = tt;
   numbered = tt;
   rounds_are = ends;
-  taken = new_taken opening.version i.ram.bytes (dealt_sectors opening.shapes (marked_sectors ds i.bad.items)) i.named (layout_in opening) size marks;
+  taken = new_taken opening.version i.ram.bytes (dealt_sectors opening.shapes (marked_sectors ds i.bad.items)) i.named (opened_layout opening) size marks;
   devices_are = rw none refl;
   sound = rw none tt;
   has = rw none tt;
 }
 
-pub head_taken : (held : List ℕ) (opening : Opened) (len : ℕ) → len ≤ length held → Begins held opening (drop len held) → take len held ≡ header opening
+pub head_taken : (held : List ℕ) (opening : Opened) (len : ℕ) → len ≤ length held → BeginsOpened held opening (drop len held) → take len held ≡ opened_header opening
 head_taken held opening len le b =
-    let size : length (header opening) ≡ len = omega (arith, le, ap length b.whole, length-append (header opening) (drop len held), length-drop len held) in
-    ap (take len) b.whole ∙ take_at (header opening) (drop len held) len size
+    let size : length (opened_header opening) ≡ len = omega (arith, le, ap length b.whole, length-append (opened_header opening) (drop len held), length-drop len held) in
+    ap (take len) b.whole ∙ take_at (opened_header opening) (drop len held) len size
 
-pub mismatch : (ram : RamTerms) (sizes held rest : List ℕ) (opening : Opened) → Begins held opening rest → ¬ ((sizes ≡ disk_sizes opening.shapes) × HasPages ram opening.pages) → (at : ℕ) × Fault ram sizes held errors.ShapeMismatch at
-mismatch ram sizes held rest opening b never = (length (header opening), inl (record { opening = said_by opening; more = rest; begins = b; never = never; there = refl }))
+pub mismatch : (ram : RamTerms) (sizes held rest : List ℕ) (opening : Opened) → BeginsOpened held opening rest → ¬ ((sizes ≡ disk_sizes opening.shapes) × HasPages ram opening.pages) → (at : ℕ) × Fault ram sizes held errors.ShapeMismatch at
+mismatch ram sizes held rest opening b never = (length (opened_header opening), inl (record { opening = said_by opening; more = rest; begins = b; never = never; there = refl }))
 
 header_told : (ram : RamTerms) (sizes held : List ℕ) (e : RecvError) → TellsHead e ((ram : RamTerms) (sizes : List ℕ) → (at : ℕ) × IsHeaderFault ram sizes held e at) → Tells e ((at : ℕ) × Fault ram sizes held e at)
 header_told ram sizes held errors.DiskFailed f = tt
@@ -88,7 +88,7 @@ headed len at bytes = sym (take-add len at bytes)
 
 -- A piece more.
 
-trailing_of : (opening : Opened) (before : List Record) (digest front piece : List ℕ) → IsComplete opening before 5 → front ≡ header opening ++ texts before → 0 < length piece → digest ≡ sha256 front
+trailing_of : (opening : Opened) (before : List Record) (digest front piece : List ℕ) → IsComplete opening before 5 → front ≡ opened_header opening ++ texts before → 0 < length piece → digest ≡ sha256 front
     → IsTrailing opening before ((5 ∷ digest) ++ piece) 34
 trailing_of opening before digest front [] complete e some same = absurd (omega (arith, some))
 trailing_of opening before digest front (byte ∷ more) complete e some same = record {

@@ -8,7 +8,7 @@ use Rattle.sha2.specs.Sha256.{sha256}
 use Rattle.sha2.specs.declared.Sha256.{Sha256}
 use Rattle.sha2.proofs.Facts256.{length-sha256}
 use Rattle.guestmem.specs.Number.{IsBytes}
-use Rattle.receiver.specs.Opened.{header, Opened}
+use Rattle.receiver.specs.Opened.{opened_header, Opened}
 use Rattle.wire.specs.Numbers.{digits, flag}
 use Rattle.wire.specs.RecordHeads.{BeginsHead, BeginsNoMark, BeginsNoTag, FitsHead, IsHeadCut, body_len, spelled_head}
 use Rattle.wire.specs.Records.{Record, is_zero_page, record_with, spelled_record}
@@ -56,7 +56,7 @@ cut_device opening before tail len are c place (inr h) = c.none (heads.Device (d
 
 cut_digest : (opening : Opened) (before : List Record) (tail : List ℕ) (len : ℕ) → IsHeadCut tail len → (place : ℕ) → ¬ (IsBadDigest opening before tail place ⊎ IsTrailing opening before tail place)
 cut_digest opening before tail len c place (inl h) = c.none heads.Commit (h.digest ++ h.more) tt h.opens.whole
-cut_digest opening before tail len c place (inr h) = c.none heads.Commit (sha256 (header opening ++ texts before) ++ (h.byte ∷ h.more)) tt h.opens.whole
+cut_digest opening before tail len c place (inr h) = c.none heads.Commit (sha256 (opened_header opening ++ texts before) ++ (h.byte ∷ h.more)) tt h.opens.whole
 
 cut_page : (opening : Opened) (before : List Record) (tail : List ℕ) (len : ℕ) → IsHeadCut tail len → (place : ℕ) → ¬ (IsBadPage opening before tail place ⊎ IsLongZeros opening before tail place)
 cut_page opening before tail len c place (inl h) = cut_named h.names h.opens.whole
@@ -94,9 +94,9 @@ waits_digest opening before tail rest head o short place (inl h) =
     let t = one_head head heads.Commit rest (h.digest ++ h.more) o.fits tt (sym o.whole ∙ h.opens.whole) in
     omega (arith, short, ap body_len t.0, ap length t.1, length-append h.digest h.more, h.long)
 waits_digest opening before tail rest head o short place (inr h) =
-    let sum = sha256 (header opening ++ texts before) in
+    let sum = sha256 (opened_header opening ++ texts before) in
     let t = one_head head heads.Commit rest (sum ++ (h.byte ∷ h.more)) o.fits tt (sym o.whole ∙ h.opens.whole) in
-    omega (arith, short, ap body_len t.0, ap length t.1, length-append sum (h.byte ∷ h.more), length-sha256 (header opening ++ texts before))
+    omega (arith, short, ap body_len t.0, ap length t.1, length-append sum (h.byte ∷ h.more), length-sha256 (opened_header opening ++ texts before))
 
 -- A page that is there, by either of its heads.
 page_is_there : (opening : Opened) (before : List Record) (tail rest more : List ℕ) (head : RecordHead) (tag n : ℕ) → FitsHead head → tail ≡ spelled_head head ++ rest → MayHead opening before head → n < 2 ^ 32 → IsPageTag tag → tail ≡ tag ∷ (digits 4 n ++ more) → n < opening.pages
@@ -298,16 +298,16 @@ device_tag tail more tag (heads.Device d len) is e b = head_same (sym e ∙ b.wh
 device_tag tail more tag _ is e b = absurd is
 
 -- The digest that comes.
-pub digest_refused : (opening : Opened) (before : List Record) (tail behind : List ℕ) → OpensHead opening before tail heads.Commit behind → length (take 32 behind) ≡ 32 → take 32 behind ≢ sha256 (header opening ++ texts before)
+pub digest_refused : (opening : Opened) (before : List Record) (tail behind : List ℕ) → OpensHead opening before tail heads.Commit behind → length (take 32 behind) ≡ 32 → take 32 behind ≢ sha256 (opened_header opening ++ texts before)
     → (place : ℕ) × IsFault opening before tail errors.BadDigest place
 digest_refused opening before tail behind o many never =
     let parts = cut_behind 32 o in
     (33, record { digest = take 32 behind; more = drop 32 behind; opens = opens_at 5 (take 32 behind ++ drop 32 behind) parts.opens parts.whole; long = many; never = never; there = refl })
 
-pub digest_there : (opening : Opened) (before : List Record) (tail behind : List ℕ) → OpensHead opening before tail heads.Commit behind → take 32 behind ≡ sha256 (header opening ++ texts before) → Ends opening before tail
+pub digest_there : (opening : Opened) (before : List Record) (tail behind : List ℕ) → OpensHead opening before tail heads.Commit behind → take 32 behind ≡ sha256 (opened_header opening ++ texts before) → Ends opening before tail
 digest_there opening before tail behind o same =
     let parts = cut_behind 32 o in
-    record { more = drop 32 behind; opens = opens_at 5 (sha256 (header opening ++ texts before) ++ drop 32 behind) parts.opens (parts.whole ∙ ap (λ (x : List ℕ). 5 ∷ (x ++ drop 32 behind)) same) }
+    record { more = drop 32 behind; opens = opens_at 5 (sha256 (opened_header opening ++ texts before) ++ drop 32 behind) parts.opens (parts.whole ∙ ap (λ (x : List ℕ). 5 ∷ (x ++ drop 32 behind)) same) }
 
 -- Whether it has ended is nothing of what was read.
 pub ended_on : (ds : List DiskState) (opening : Opened) (before : List Record) (i : Intake) (ended : Bool) (front : List ℕ) → HasRead ds opening before i front → HasRead ds opening before (record i { ended = ended }) front

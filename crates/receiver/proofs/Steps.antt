@@ -5,7 +5,7 @@ use Rattle.std.proofs.lemmas.List.Elements.{All-get_or, All-from_get_or}
 use Rattle.std.specs.List.{AllByRecursion}
 use Rattle.std.proofs.lemmas.List.{length-append, length-replicate}
 use Rattle.wire.specs.DeviceBody.{body, IsBodyOf, IsDeviceOf}
-use Rattle.receiver.specs.Opened.{header, Opened, layout_in}
+use Rattle.receiver.specs.Opened.{opened_header, Opened, opened_layout}
 use Rattle.wire.specs.Records.{Record, page, sector, round_end, device, spelled_record, HasSpelling, IsOf, is_zero_page, page_record, zero_page}
 use Rattle.wire.specs.Stream.{IsEntry, AreNumbered, rounds, texts, shapes_in, record_in}
 use Rattle.guestmem.specs.Zeros.{are_zeros}
@@ -52,7 +52,7 @@ count_all v l k (device d b ∷ es) ds h = absurd h.0.stands
 count_all v l k (_ ∷ es) ds h = count_all v l k es ds h.1
 
 pub devices_are : {ds : List DiskState} {front : List ℕ} {opening : Opened} {before : List Record} {i : Intake} → HasRead ds opening before i front → devices_in before ≡ length i.devices.items
-devices_are {opening = opening} {before = before} {i = i} h = ap devices_in h.split ∙ count_all opening.version (layout_in opening) 0 h.entries i.devices.items h.each
+devices_are {opening = opening} {before = before} {i = i} h = ap devices_in h.split ∙ count_all opening.version (opened_layout opening) 0 h.entries i.devices.items h.each
 
 -- Behind no device all records are entries.
 record AreEntries (v : ℕ) (l : Layout) (before : List Record) : Type 0 where
@@ -64,7 +64,7 @@ unfolding device_records
 no_devices entries before [] e n = e ∙ append-nil entries
 no_devices entries before (d ∷ ds) e n = absurd (omega (arith, n))
 
-are_entries : {ds : List DiskState} {front : List ℕ} {opening : Opened} {before : List Record} {i : Intake} → HasRead ds opening before i front → devices_in before ≡ 0 → AreEntries opening.version (layout_in opening) before
+are_entries : {ds : List DiskState} {front : List ℕ} {opening : Opened} {before : List Record} {i : Intake} → HasRead ds opening before i front → devices_in before ≡ 0 → AreEntries opening.version (opened_layout opening) before
 are_entries {before = before} {i = i} h none =
     let same : before ≡ h.entries = no_devices h.entries before i.devices.items h.split (sym (devices_are h) ∙ none) in
     rw same (record { each = h.each; numbered = h.numbered })
@@ -84,9 +84,9 @@ record IsSame (i j : Intake) : Type 0 where
   firsts : j.firsts.items ≡ i.firsts.items
   devices : j.devices.items ≡ i.devices.items
 
-more_entry : (ds ds2 : List DiskState) (front : List ℕ) (opening : Opened) (before : List Record) (i j : Intake) (r : Record) (sectors : List (List Sector)) → HasRead ds opening before i front → devices_in before ≡ 0 → IsNextRecord opening before r → IsEntry opening.version (layout_in opening) r
+more_entry : (ds ds2 : List DiskState) (front : List ℕ) (opening : Opened) (before : List Record) (i j : Intake) (r : Record) (sectors : List (List Sector)) → HasRead ds opening before i front → devices_in before ≡ 0 → IsNextRecord opening before r → IsEntry opening.version (opened_layout opening) r
     → (AreNumbered 1 before → AreNumbered 1 (before ++ r ∷ [])) → j.rounds ≡ rounds (before ++ r ∷ [])
-    → AreTaken opening.version j.ram.bytes (dealt_sectors opening.shapes sectors) j.named (layout_in opening) (before ++ r ∷ []) → sizes_in ds2 ≡ sizes_in ds → AreWritten ds2 j.bad.items sectors → IsSame i j
+    → AreTaken opening.version j.ram.bytes (dealt_sectors opening.shapes sectors) j.named (opened_layout opening) (before ++ r ∷ []) → sizes_in ds2 ≡ sizes_in ds → AreWritten ds2 j.bad.items sectors → IsSame i j
     → HasRead ds2 opening (before ++ r ∷ []) j (front ++ spelled_record r)
 more_entry ds ds2 front opening before i j r sectors h none follows entry numbers ends taken sizes written same =
     let are = are_entries h none in
@@ -96,7 +96,7 @@ more_entry ds ds2 front opening before i j r sectors h none follows entry number
       fits = sizes ∙ h.fits;
       suits = h.suits;
       good = good-snoc opening [] before r h.good follows;
-      whole = texts_more front (header opening) before r h.whole;
+      whole = texts_more front (opened_header opening) before r h.whole;
       version_is = ap (λ (x : Terms). x.version) same.terms ∙ h.version_is;
       ram_is = ap (λ (x : Terms). x.ram) same.terms ∙ h.ram_is;
       shapes_are = same.shapes ∙ h.shapes_are;
@@ -105,7 +105,7 @@ more_entry ds ds2 front opening before i j r sectors h none follows entry number
       written = written;
       entries = before ++ r ∷ [];
       split = no_records (before ++ r ∷ []) j.devices.items count;
-      each = each-snoc opening.version (layout_in opening) before r are.each entry;
+      each = each-snoc opening.version (opened_layout opening) before r are.each entry;
       numbered = numbers are.numbered;
       rounds_are = ends;
       taken = taken;
@@ -115,7 +115,7 @@ more_entry ds ds2 front opening before i j r sectors h none follows entry number
     }
 
 more_page_as : (ds : List DiskState) (front : List ℕ) (opening : Opened) (before : List Record) (i j : Intake) (n : ℕ) (b : List ℕ) (r : Record) → HasRead ds opening before i front → devices_in before ≡ 0
-    → (n < opening.pages → IsNextRecord opening before r) → (n < opening.pages → IsEntry opening.version (layout_in opening) r) → (AreNumbered 1 before → AreNumbered 1 (before ++ r ∷ [])) → rounds (before ++ r ∷ []) ≡ rounds before
+    → (n < opening.pages → IsNextRecord opening before r) → (n < opening.pages → IsEntry opening.version (opened_layout opening) r) → (AreNumbered 1 before → AreNumbered 1 (before ++ r ∷ [])) → rounds (before ++ r ∷ []) ≡ rounds before
     → Names r (items.page n) → page_record opening.version n b ≡ r → length b ≡ 4096
     → 4096 * n + 4096 ≤ length i.ram.bytes → j.ram.bytes ≡ put_page i.ram.bytes n b → j.named ≡ set i.named n true → j.rounds ≡ i.rounds → j.terms ≡ i.terms → j.shapes.items ≡ i.shapes.items → j.devices.items ≡ i.devices.items → j.firsts.items ≡ i.firsts.items → j.bad.items ≡ i.bad.items
     → HasRead ds opening (before ++ r ∷ []) j (front ++ spelled_record r)
@@ -123,7 +123,7 @@ more_page_as ds front opening before i j n b r h none follows entry numbers coun
     let low : n < opening.pages = omega (arith, le, h.taken.ram_size) in
     more_entry ds ds front opening before i j r h.sectors h none (follows low) (entry low)
     numbers (ends ∙ h.rounds_are ∙ sym counts)
-    (rw (ram, named) (taken_page opening.version i.ram.bytes b (dealt_sectors opening.shapes h.sectors) i.named (layout_in opening) n before r h.taken low le long names is)) refl (rw same_bad h.written)
+    (rw (ram, named) (taken_page opening.version i.ram.bytes b (dealt_sectors opening.shapes h.sectors) i.named (opened_layout opening) n before r h.taken low le long names is)) refl (rw same_bad h.written)
     (record { terms = same_terms; shapes = same_shapes; firsts = same_firsts; devices = same_devices })
 
 pub more_page : (ds : List DiskState) (front : List ℕ) (opening : Opened) (before : List Record) (i j : Intake) (n : ℕ) (b : List ℕ) → HasRead ds opening before i front → devices_in before ≡ 0 → HasSpelling (page n b) → IsOf opening.version (page n b)
@@ -155,7 +155,7 @@ more_round ds front opening before i j n h none fits next ram named ends same_te
     let is : n ≡ rounds before + 1 = next ∙ ap (λ (x : ℕ). x + 1) h.rounds_are in
     more_entry ds ds front opening before i j (round_end n) h.sectors h none (record { spells = fits; has = tt; may = (is, none) }) (record { spells = fits; has = tt; stands = tt })
     (λ k. numbered_round 1 before n k (omega (arith, is))) (ends ∙ is ∙ sym (rounds_round before n))
-    (rw (ram, named) (taken_round opening.version i.ram.bytes (dealt_sectors opening.shapes h.sectors) i.named (layout_in opening) n before h.taken)) refl (rw same_bad h.written) (record { terms = same_terms; shapes = same_shapes; firsts = same_firsts; devices = same_devices })
+    (rw (ram, named) (taken_round opening.version i.ram.bytes (dealt_sectors opening.shapes h.sectors) i.named (opened_layout opening) n before h.taken)) refl (rw same_bad h.written) (record { terms = same_terms; shapes = same_shapes; firsts = same_firsts; devices = same_devices })
 
 -- A sector, whose disk keeps what it is.
 numbered_sector : (k : ℕ) (es : List Record) (dev n : ℕ) (o : Sector) → AreNumbered k es → AreNumbered k (es ++ sector dev n o ∷ [])
@@ -169,11 +169,11 @@ spelled_whole dev n (Some b) s = record { size = s.2; bytes = s.3 }
 spelled_whole dev n None s = tt
 
 pub more_sector : (ds : List DiskState) (d : DiskState) (front : List ℕ) (opening : Opened) (before : List Record) (i j : Intake) (dev n : ℕ) (o : Sector) → HasRead ds opening before i front → devices_in before ≡ 0
-    → HasSpelling (sector dev n o) → IsItemIn (layout_in opening) (items.sector dev n)
+    → HasSpelling (sector dev n o) → IsItemIn (opened_layout opening) (items.sector dev n)
     → marks_in d ≡ marks_in (get_or ds (disks_before opening.shapes dev) d) → length d.sectors ≡ length (get_or ds (disks_before opening.shapes dev) d).sectors
     → (IsTrue (get_or ds (disks_before opening.shapes dev) d).honest
     → sectors_of d.sectors (set (get_or i.bad.items (disks_before opening.shapes dev) []) n (is_bad o)) ≡ set (sectors_of (get_or ds (disks_before opening.shapes dev) d).sectors (get_or i.bad.items (disks_before opening.shapes dev) [])) n o)
-    → j.bad.items ≡ set i.bad.items (disks_before opening.shapes dev) (set (get_or i.bad.items (disks_before opening.shapes dev) []) n (is_bad o)) → j.named ≡ set i.named (number_of (layout_in opening) (items.sector dev n)) true
+    → j.bad.items ≡ set i.bad.items (disks_before opening.shapes dev) (set (get_or i.bad.items (disks_before opening.shapes dev) []) n (is_bad o)) → j.named ≡ set i.named (number_of (opened_layout opening) (items.sector dev n)) true
     → j.ram.bytes ≡ i.ram.bytes → j.rounds ≡ i.rounds → j.terms ≡ i.terms → j.shapes.items ≡ i.shapes.items → j.devices.items ≡ i.devices.items → j.firsts.items ≡ i.firsts.items
     → HasRead (set ds (disks_before opening.shapes dev) d) opening (before ++ sector dev n o ∷ []) j (front ++ spelled_record (sector dev n o))
 more_sector ds d front opening before i j dev n o h none spells there marks long content bad named ram ends same_terms same_shapes same_devices same_firsts =
@@ -183,11 +183,11 @@ more_sector ds d front opening before i j dev n o h none spells there marks long
     let held = dealt_sectors opening.shapes h.sectors in
     let change = changed opening.shapes h.sectors dev n o h.head.sound (written_sizes ds i.bad.items h.sectors h.written ∙ h.fits) there in
     let is : record_in v i.ram.bytes (dealt_sectors opening.shapes sectors) (items.sector dev n) ≡ sector dev n o = ap (λ x. record_in v i.ram.bytes x (items.sector dev n)) change.now ∙ record_here v i.ram.bytes held dev n o change.within in
-    let others : (x : Item) → IsItemIn (layout_in opening) x → x ≢ items.sector dev n → record_in v i.ram.bytes (dealt_sectors opening.shapes sectors) x ≡ record_in v i.ram.bytes held x =
+    let others : (x : Item) → IsItemIn (opened_layout opening) x → x ≢ items.sector dev n → record_in v i.ram.bytes (dealt_sectors opening.shapes sectors) x ≡ record_in v i.ram.bytes held x =
     λ x has other. ap (λ y. record_in v i.ram.bytes y x) change.now ∙ record_there v i.ram.bytes held dev n o x other in
     more_entry ds (set ds k d) front opening before i j (sector dev n o) sectors h none (record { spells = spells; has = tt; may = (there, none) }) (record { spells = spells; has = tt; stands = there })
     (numbered_sector 1 before dev n o) (ends ∙ h.rounds_are ∙ sym (rounds_sector before dev n o))
-    (rw (ram, named) (taken_item v i.ram.bytes i.ram.bytes held (dealt_sectors opening.shapes sectors) i.named (layout_in opening) before (sector dev n o) (items.sector dev n) h.taken (names_sector dev n o) there refl is others))
+    (rw (ram, named) (taken_item v i.ram.bytes i.ram.bytes held (dealt_sectors opening.shapes sectors) i.named (opened_layout opening) before (sector dev n o) (items.sector dev n) h.taken (names_sector dev n o) there refl is others))
     (sizes_kept ds k d long) (rw bad (more_written ds i.bad.items h.sectors k n d o h.written (disk_below opening.shapes ds dev n h.head.sound h.fits there) (spelled_whole dev n o spells) marks long content))
     (record { terms = same_terms; shapes = same_shapes; firsts = same_firsts; devices = same_devices })
 
@@ -225,7 +225,7 @@ next_shape (s ∷ shapes) (suc n) shape others e =
     rw m (ap (λ (x : List Shape). s ∷ x) (next_shape shapes n shape others e))
 
 pub more_device : (ds : List DiskState) (front : List ℕ) (opening : Opened) (others : List Shape) (shape : Shape) (before : List Record) (i j : Intake) (n : ℕ) (raw : List ℕ) (d : DeviceState) → HasRead ds opening before i front
-    → AreNamed (layout_in opening) before → HasSpelling (device n raw) → n ≡ devices_in before → drop n opening.shapes ≡ shape ∷ others → IsBodyOf opening.version shape opening.ram.base (4096 * opening.pages) raw d
+    → AreNamed (opened_layout opening) before → HasSpelling (device n raw) → n ≡ devices_in before → drop n opening.shapes ≡ shape ∷ others → IsBodyOf opening.version shape opening.ram.base (4096 * opening.pages) raw d
     → j.ram.bytes ≡ i.ram.bytes → j.named ≡ i.named → j.rounds ≡ i.rounds → j.terms ≡ i.terms → j.shapes.items ≡ i.shapes.items → j.firsts.items ≡ i.firsts.items → j.bad.items ≡ i.bad.items → j.devices.items ≡ i.devices.items ++ d ∷ []
     → HasRead ds opening (before ++ device n raw ∷ []) j (front ++ spelled_record (device n raw))
 more_device ds front opening others shape before i j n raw d h named spells next here is ram marks ends same_terms same_shapes same_firsts same_bad more =
@@ -243,7 +243,7 @@ more_device ds front opening others shape before i j n raw d h named spells next
       fits = h.fits;
       suits = h.suits;
       good = good-snoc opening [] before r h.good (record { spells = spells; has = tt; may = record { named = named; next = next; shape = shape; others = others; here = here; state = d; is = is } });
-      whole = texts_more front (header opening) before r h.whole;
+      whole = texts_more front (opened_header opening) before r h.whole;
       version_is = ap (λ (x : Terms). x.version) same_terms ∙ h.version_is;
       ram_is = ap (λ (x : Terms). x.ram) same_terms ∙ h.ram_is;
       shapes_are = same_shapes ∙ h.shapes_are;
@@ -255,7 +255,7 @@ more_device ds front opening others shape before i j n raw d h named spells next
       each = h.each;
       numbered = h.numbered;
       rounds_are = ends ∙ h.rounds_are ∙ sym (rounds_device before n raw);
-      taken = rw (ram, marks) (taken_device opening.version i.ram.bytes (dealt_sectors opening.shapes h.sectors) i.named (layout_in opening) n raw before h.taken);
+      taken = rw (ram, marks) (taken_device opening.version i.ram.bytes (dealt_sectors opening.shapes h.sectors) i.named (opened_layout opening) n raw before h.taken);
       devices_are = rw more (shown ∙ ap (λ (k : ℕ). take k opening.shapes) (sym size));
       sound = rw more (all-snoc (IsSoundDevice opening.ram.base (4096 * opening.pages)) i.devices.items d h.sound is.sound);
       has = rw more (all-snoc (IsDeviceOf opening.version) i.devices.items d h.has is.has);
@@ -277,15 +277,15 @@ tag_there a b tag h e f m =
     let devices = devices_are h in
     record { least = m.least; most = m.most; early = λ low. omega (arith, f, devices, m.early low); missing = λ four. omega (arith, e, f, count, devices, m.missing four); since = λ six. h.version_is ∙ m.since six }
 
-pub named_all : {ds : List DiskState} {front : List ℕ} {opening : Opened} {before : List Record} {i : Intake} → HasRead ds opening before i front → All (λ (b : Bool). b ≡ true) i.named → AreNamed (layout_in opening) before
+pub named_all : {ds : List DiskState} {front : List ℕ} {opening : Opened} {before : List Record} {i : Intake} → HasRead ds opening before i front → All (λ (b : Bool). b ≡ true) i.named → AreNamed (opened_layout opening) before
 named_all {opening = opening} {i = i} h all item has =
-    let l = layout_in opening in
+    let l = opened_layout opening in
     let low = number_below l item has in
     h.taken.marks item has ∙ All-get_or (λ (x : Bool). x ≡ true) i.named (number_of l item) false (omega (arith, low, h.taken.named_size)) all
 
-pub all_named : {ds : List DiskState} {front : List ℕ} {opening : Opened} {before : List Record} {i : Intake} → HasRead ds opening before i front → AreNamed (layout_in opening) before → All (λ (b : Bool). b ≡ true) i.named
+pub all_named : {ds : List DiskState} {front : List ℕ} {opening : Opened} {before : List Record} {i : Intake} → HasRead ds opening before i front → AreNamed (opened_layout opening) before → All (λ (b : Bool). b ≡ true) i.named
 all_named {opening = opening} {i = i} h named =
-    let l = layout_in opening in
+    let l = opened_layout opening in
     All-from_get_or (λ (b : Bool). b ≡ true) i.named false
     (λ n lt.
     let low : n < size_of l = omega (arith, lt, h.taken.named_size) in

@@ -6,7 +6,7 @@ use Rattle.std.proofs.lemmas.List.{length-append, length-take, take-append-drop}
 use Rattle.sha2.specs.declared.Sha256.{Sha256}
 use Rattle.blk.specs.Disk.{DiskState}
 use Rattle.wire.specs.Header.{Begins, Opening}
-use Rattle.receiver.specs.Opened.{Opened, header}
+use Rattle.receiver.specs.Opened.{Opened, opened_header}
 use Rattle.wire.specs.RecordHeads.{spelled_head}
 use Rattle.wire.specs.Records.{Record, device, spelled_record}
 use Rattle.wire.specs.Stream.{texts}
@@ -65,7 +65,7 @@ device_here {opening = opening} {before = before} {front = front} bytes tail fro
 pub device_on : (ram : RamTerms) (sizes b c all : List ℕ) (low from : ℕ) → HasDevice ram sizes b from → all ≡ b ++ c → low ≤ from → HasDevice ram sizes all low
 device_on ram sizes b c all low from h e le =
     let text = spelled_record (device h.number h.body) in
-    let head = header h.opening in
+    let head = opened_header h.opening in
     let parts : all ≡ head ++ (texts h.before ++ (text ++ (h.more ++ c))) =
     e ∙ ap (λ (x : List ℕ). x ++ c) h.front.begins.whole ∙ append_assoc head (texts h.before ++ (text ++ h.more)) c
     ∙ ap (λ (x : List ℕ). head ++ x) (append_assoc (texts h.before) (text ++ h.more) c ∙ ap (λ (x : List ℕ). texts h.before ++ x) (append_assoc text h.more c)) in

@@ -6,7 +6,7 @@ use Rattle.std.proofs.lemmas.List.Elements.{recursion_from_All}
 use Rattle.std.specs.List.{AllByRecursion}
 use Rattle.sha2.specs.Sha256.{sha256}
 use Rattle.wire.specs.DeviceBody.{body, IsDeviceOf}
-use Rattle.receiver.specs.Opened.{HasPages, Opened, header, layout_in, opened}
+use Rattle.receiver.specs.Opened.{HasPages, Opened, opened_header, opened_layout, opened}
 use Rattle.wire.specs.Records.{Record, page, sector, round_end, device, commit, zero_page}
 use Rattle.wire.specs.Stream.{IsStream, IsEntry, AreNumbered, texts, rounds, shapes_in, device_texts, before_commit, opening_in}
 use Rattle.machine.specs.Layout.{Layout, layout_of, pages_of}
@@ -52,7 +52,7 @@ one_in_device : (d : ℕ) (b : List ℕ) → devices_in (device d b ∷ []) ≡ 
 unfolding devices_in
 one_in_device d b = refl
 
-entries_good : (opening : Opened) (acc es : List Record) → AllByRecursion (IsEntry opening.version (layout_in opening)) es → AreNumbered (rounds acc + 1) es → devices_in acc ≡ 0 → AreGood opening acc es
+entries_good : (opening : Opened) (acc es : List Record) → AllByRecursion (IsEntry opening.version (opened_layout opening)) es → AreNumbered (rounds acc + 1) es → devices_in acc ≡ 0 → AreGood opening acc es
 unfolding AreGood
 entries_good opening acc [] h k none = tt
 entries_good opening acc (page n b ∷ es) h k none = (
@@ -74,7 +74,7 @@ entries_good opening acc (zero_page n ∷ es) h k none = (
   entries_good opening (acc ++ zero_page n ∷ []) es h.1 (rw (rounds_zeros acc n) k) (omega (arith, none, devices_in-append acc (zero_page n ∷ []), none_in_zeros n)),
 )
 
-devices_good : (opening : Opened) (k : ℕ) (acc : List Record) (ds : List DeviceState) → AreNamed (layout_in opening) acc → devices_in acc ≡ k → k + length ds ≤ 256 → drop k opening.shapes ≡ shapes_in ds → AllByRecursion (IsSoundDevice opening.ram.base (4096 * opening.pages)) ds
+devices_good : (opening : Opened) (k : ℕ) (acc : List Record) (ds : List DeviceState) → AreNamed (opened_layout opening) acc → devices_in acc ≡ k → k + length ds ≤ 256 → drop k opening.shapes ≡ shapes_in ds → AllByRecursion (IsSoundDevice opening.ram.base (4096 * opening.pages)) ds
     → AllByRecursion (IsDeviceOf opening.version) ds → AreGood opening acc (device_records k ds)
 unfolding AreGood device_records
 devices_good opening k acc [] named count low here h has = tt
@@ -118,7 +118,7 @@ record StreamFront (ram : RamTerms) (sizes bytes : List ℕ) (m : MachineState) 
   digest : List ℕ
   front : IsFront ram sizes bytes (opens_with ram s) (s.entries ++ device_records 0 m.devices) (5 ∷ digest)
   complete : IsComplete (opens_with ram s) (s.entries ++ device_records 0 m.devices) 5
-  digest_is : digest ≡ sha256 (header (opens_with ram s) ++ texts (s.entries ++ device_records 0 m.devices))
+  digest_is : digest ≡ sha256 (opened_header (opens_with ram s) ++ texts (s.entries ++ device_records 0 m.devices))
 
 stream_front : (ram : RamTerms) (sizes bytes : List ℕ) (m : MachineState) (s : IsStream bytes m) → base_of m.devices ≡ ram.base → HasPages ram (pages_of m) → sizes ≡ disk_sizes (shapes_in m.devices) → StreamFront ram sizes bytes m s
 stream_front ram sizes bytes m s based suits fits =
@@ -128,11 +128,11 @@ stream_front ram sizes bytes m s based suits fits =
     let before_all = before_commit s.version (pages_of m) s.entries m.devices in
     let digest = sha256 before_all in
     let text : texts all ≡ texts s.entries ++ device_texts 0 m.devices = texts-append s.entries devices ∙ ap (λ (x : List ℕ). texts s.entries ++ x) (texts_devices 0 m.devices) in
-    let front : header opening ++ texts all ≡ before_all = ap (λ (x : List ℕ). header opening ++ x) text in
+    let front : opened_header opening ++ texts all ≡ before_all = ap (λ (x : List ℕ). opened_header opening ++ x) text in
     let b = stream_begins s.by in
-    let layout : layout_of m ≡ layout_in opening = sound_layout m s.by.sound in
-    let named : AreNamed (layout_in opening) s.entries = λ item has. ap is_some (s.by.last item (rw layout has)) in
-    let named_all : AreNamed (layout_in opening) all = λ item has. ap is_some (last_entries item 0 s.entries m.devices) ∙ named item has in
+    let layout : layout_of m ≡ opened_layout opening = sound_layout m s.by.sound in
+    let named : AreNamed (opened_layout opening) s.entries = λ item has. ap is_some (s.by.last item (rw layout has)) in
+    let named_all : AreNamed (opened_layout opening) all = λ item has. ap is_some (last_entries item 0 s.entries m.devices) ∙ named item has in
     let sound : AllByRecursion (IsSoundDevice ram.base (4096 * (pages_of m))) m.devices = rw (s.by.sound.whole_pages, based) at (recursion_from_All (IsSoundDevice (base_of m.devices) (length m.ram)) m.devices s.by.sound.devices) in
     let has : AllByRecursion (IsDeviceOf s.version) m.devices = recursion_from_All (IsDeviceOf s.version) m.devices s.by.devices in
     let goods : AreGood opening [] s.entries = entries_good opening [] s.entries (rw layout at s.by.each) (rw none_ended s.by.numbered) none_yet in
@@ -140,8 +140,8 @@ stream_front ram sizes bytes m s based suits fits =
     let entries_count : devices_in s.entries ≡ 0 = ap devices_in (sym (append-nil s.entries)) ∙ count_none s.version (layout_of m) s.entries s.by.each in
     let good : AreGood opening [] all = good-append opening [] s.entries devices goods (devices_good opening 0 s.entries m.devices named entries_count few refl sound has) in
     let complete : IsComplete opening all 5 = record { items = named_all; devices = λ five. count_all s.version (layout_of m) 0 s.entries m.devices s.by.each ∙ sym (length_shapes m.devices) } in
-    let whole : bytes ≡ header opening ++ (texts all ++ (5 ∷ digest)) =
-    s.by.whole ∙ ap (λ (x : List ℕ). before_all ++ x) (commit_text digest) ∙ ap (λ (x : List ℕ). x ++ (5 ∷ digest)) (sym front) ∙ append_assoc (header opening) (texts all) (5 ∷ digest) in
+    let whole : bytes ≡ opened_header opening ++ (texts all ++ (5 ∷ digest)) =
+    s.by.whole ∙ ap (λ (x : List ℕ). before_all ++ x) (commit_text digest) ∙ ap (λ (x : List ℕ). x ++ (5 ∷ digest)) (sym front) ∙ append_assoc (opened_header opening) (texts all) (5 ∷ digest) in
     record {
       digest = digest;
       front = record { begins = record { good = b.good; whole = whole }; based = refl; fits = fits; suits = suits; good = good };

@@ -6,7 +6,7 @@ use Rattle.sha2.specs.Hashers.{Holds256}
 use Rattle.sha2.specs.Sha256.{sha256}
 use Rattle.sha2.specs.declared.Sha256.{Sha256}
 use Rattle.sha2.proofs.Facts256.{length-sha256}
-use Rattle.receiver.specs.Opened.{header, Opened}
+use Rattle.receiver.specs.Opened.{opened_header, Opened}
 use Rattle.wire.specs.Records.{Record, commit, spelled_record}
 use Rattle.wire.specs.Stream.{texts}
 use Rattle.blk.specs.Disk.{DiskState}
@@ -72,7 +72,7 @@ more_taken front bytes at len = append_assoc front (take at bytes) (take len (dr
 
 pub front_of : {ds : List DiskState} {opening : Opened} {before : List Record} {i : Intake} {front : List ℕ} (bytes tail : List ℕ) → HasRead ds opening before i front → bytes ≡ front ++ tail → IsFront opening.ram (sizes_in ds) bytes opening before tail
 front_of {opening = opening} {before = before} bytes tail h e = record {
-  begins = record { good = h.head; whole = e ∙ ap (λ (x : List ℕ). x ++ tail) h.whole ∙ append_assoc (header opening) (texts before) tail };
+  begins = record { good = h.head; whole = e ∙ ap (λ (x : List ℕ). x ++ tail) h.whole ∙ append_assoc (opened_header opening) (texts before) tail };
   based = refl;
   fits = h.fits;
   suits = h.suits;
@@ -85,7 +85,7 @@ front_at {ram} {sizes} {bytes} {opening} {before} {tail} based front = subst (λ
 pub fault_here : {ds : List DiskState} {opening : Opened} {before : List Record} {i : Intake} {front : List ℕ} (bytes tail : List ℕ) (e : RecvError) → HasRead ds opening before i front → bytes ≡ front ++ tail
     → (place : ℕ) × IsFault opening before tail e place → (at : ℕ) × Fault opening.ram (sizes_in ds) bytes e at
 fault_here {opening = opening} {before = before} bytes tail e h is f =
-    (length (header opening ++ texts before) + f.0, inr (record { opening = opening; before = before; tail = tail; place = f.0; front = front_of bytes tail h is; fault = f.1; there = refl }))
+    (length (opened_header opening ++ texts before) + f.0, inr (record { opening = opening; before = before; tail = tail; place = f.0; front = front_of bytes tail h is; fault = f.1; there = refl }))
 
 pub cut : (front bytes : List ℕ) (at : ℕ) → front ++ bytes ≡ (front ++ take at bytes) ++ drop at bytes
 cut front bytes at = ap (λ (x : List ℕ). front ++ x) (sym (take-append-drop at bytes)) ∙ sym (append_assoc front (take at bytes) (drop at bytes))
@@ -114,10 +114,10 @@ pub at_end : (ram : RamTerms) (old ds : List DiskState) (i : Intake) (digest : S
     → AreKept old ds × IsKnownIn i.ended ram ds digest (front ++ take at bytes) (drop at bytes) i
 at_end ram old ds i digest front bytes at h le = (h.same, left_in i.ended ram ds digest (front ++ take at bytes) (drop at bytes) i (empty (drop at bytes) (omega (arith, le, length-drop at bytes))) h.known)
 
-ended_by : (opening : Opened) (before : List Record) (tail more : List ℕ) → Opens opening before tail 5 (sha256 (header opening ++ texts before) ++ more) → take 33 tail ≡ 5 ∷ sha256 (header opening ++ texts before)
+ended_by : (opening : Opened) (before : List Record) (tail more : List ℕ) → Opens opening before tail 5 (sha256 (opened_header opening ++ texts before) ++ more) → take 33 tail ≡ 5 ∷ sha256 (opened_header opening ++ texts before)
 ended_by opening before tail more o =
-    let sum = sha256 (header opening ++ texts before) in
-    ap (take 33) o.whole ∙ take_at (5 ∷ sum) more 33 (omega (arith, length-sha256 (header opening ++ texts before)))
+    let sum = sha256 (opened_header opening ++ texts before) in
+    ap (take 33) o.whole ∙ take_at (5 ∷ sum) more 33 (omega (arith, length-sha256 (opened_header opening ++ texts before)))
 
 pub commit_text : (digest : List ℕ) → spelled_record (commit digest) ≡ 5 ∷ digest
 unfolding spelled_record

@@ -15,7 +15,7 @@ use Rattle.machine.specs.Layout.{IsItemIn}
 use Rattle.machine.specs.Shapes.{disk_sizes}
 use Rattle.machine.specs.State.{DeviceState}
 use Rattle.machine.specs.declared.shape.Shape.{Shape}
-use Rattle.receiver.specs.Opened.{HasPages, Opened, Begins, header, layout_in}
+use Rattle.receiver.specs.Opened.{HasPages, Opened, BeginsOpened, opened_header, opened_layout}
 use Rattle.receiver.specs.Good.{AreGood, AreNamed, devices_in}
 use Rattle.receiver.specs.declared.ram_terms.RamTerms.{RamTerms}
 use Rattle.receiver.specs.declared.recv_error.RecvError.{RecvError}
@@ -44,7 +44,7 @@ pub record MayTag (version count devices tag : ℕ) : Type 0 where
 
 -- What must come before a device (tag 4) or the digest (tag 5): each item, and before the digest each device.
 pub record IsComplete (opening : Opened) (before : List Record) (tag : ℕ) : Type 0 where
-  pub items : AreNamed (layout_in opening) before
+  pub items : AreNamed (opened_layout opening) before
   pub devices : tag ≡ 5 → devices_in before ≡ length opening.shapes
 
 -- The bytes begin with a tag, and a record of this tag may come here.
@@ -102,7 +102,7 @@ pub record IsBadSector (opening : Opened) (before : List Record) (tail : List �
   pub more : List ℕ
   pub opens : Opens opening before tail 2 (disk ∷ (digits 4 number ++ (mark ∷ more)))
   pub fits : number < 2 ^ 32
-  pub never : ¬ (IsItemIn (layout_in opening) (items.sector disk number) × (mark ≤ 1))
+  pub never : ¬ (IsItemIn (opened_layout opening) (items.sector disk number) × (mark ≤ 1))
   pub there : place ≡ 7
 
 -- BadRound (8), found at the end of the number.
@@ -148,14 +148,14 @@ pub record IsBadDigest (opening : Opened) (before : List Record) (tail : List �
   pub more : List ℕ
   pub opens : Opens opening before tail 5 (digest ++ more)
   pub long : length digest ≡ 32
-  pub never : digest ≢ sha256 (header opening ++ texts before)
+  pub never : digest ≢ sha256 (opened_header opening ++ texts before)
   pub there : place ≡ 33
 
 -- Trailing (12), found at the first byte after the digest.
 pub record IsTrailing (opening : Opened) (before : List Record) (tail : List ℕ) (place : ℕ) : Type 0 where
   pub byte : ℕ
   pub more : List ℕ
-  pub opens : Opens opening before tail 5 (sha256 (header opening ++ texts before) ++ (byte ∷ more))
+  pub opens : Opens opening before tail 5 (sha256 (opened_header opening ++ texts before) ++ (byte ∷ more))
   pub there : place ≡ 34
 
 -- The bytes after whole good records begin with this fault. `place` is the number of these bytes up to and including the one at
@@ -209,7 +209,7 @@ pub record WaitsHead (bytes : List ℕ) : Type 0 where
 -- The bytes begin with a header of a machine with disks of these sizes, and of as many pages as the RAM that was handed in, then come
 -- whole good records, then `tail`.
 pub record IsFront (ram : RamTerms) (sizes bytes : List ℕ) (opening : Opened) (before : List Record) (tail : List ℕ) : Type 0 where
-  pub begins : Begins bytes opening (texts before ++ tail)
+  pub begins : BeginsOpened bytes opening (texts before ++ tail)
   pub based : opening.ram ≡ ram
   pub fits : sizes ≡ disk_sizes opening.shapes
   pub suits : HasPages ram opening.pages
@@ -222,7 +222,7 @@ pub record IsRecordFault (ram : RamTerms) (sizes bytes : List ℕ) (k : RecvErro
   pub place : ℕ
   pub front : IsFront ram sizes bytes opening before tail
   pub fault : IsFault opening before tail k place
-  pub there : at ≡ length (header opening ++ texts before) + place
+  pub there : at ≡ length (opened_header opening ++ texts before) + place
 
 -- For what is said of RAM and disks of these sizes the bytes have this fault, found at this place.
 abbrev pub Fault : RamTerms → List ℕ → List ℕ → RecvError → ℕ → Type 0

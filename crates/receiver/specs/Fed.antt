@@ -5,7 +5,7 @@ use Rattle.sha2.specs.Hashers.{Holds256}
 use Rattle.sha2.specs.Sha256.{sha256}
 use Rattle.sha2.specs.declared.Sha256.{Sha256}
 use Rattle.wire.specs.DeviceBody.{body, IsDeviceOf}
-use Rattle.receiver.specs.Opened.{HasPages, header, IsHeader, Opened, layout_in}
+use Rattle.receiver.specs.Opened.{HasPages, opened_header, IsOpenedHeader, Opened, opened_layout}
 use Rattle.blk.specs.Disk.{DiskState}
 use Rattle.wire.specs.Records.{Record, device, commit, spelled_record, BeginsNoRecord}
 use Rattle.wire.specs.Stream.{IsEntry, AreNumbered, rounds, shapes_in, texts}
@@ -41,23 +41,23 @@ pub record AreWritten (disks : List DiskState) (bad : List (List Bool)) (written
 -- The intake has taken in these bytes, a header and these whole good records. The disks have the sizes of those of the devices, and
 -- RAM that was handed in has the machine's pages.
 pub record HasRead (disks : List DiskState) (opening : Opened) (before : List Record) (i : Intake) (front : List ℕ) : Type 0 where
-  pub head : IsHeader opening
+  pub head : IsOpenedHeader opening
   pub fits : sizes_in disks ≡ disk_sizes opening.shapes
   pub suits : HasPages opening.ram opening.pages
   pub good : AreGood opening [] before
-  pub whole : front ≡ header opening ++ texts before
+  pub whole : front ≡ opened_header opening ++ texts before
   pub version_is : i.terms.version ≡ opening.version
   pub ram_is : i.terms.ram ≡ opening.ram
   pub shapes_are : i.shapes.items ≡ opening.shapes
-  pub firsts_are : i.firsts.items ≡ firsts_of (layout_in opening)
+  pub firsts_are : i.firsts.items ≡ firsts_of (opened_layout opening)
   pub sectors : List (List Sector)
   pub written : AreWritten disks i.bad.items sectors
   pub entries : List Record
   pub split : before ≡ entries ++ device_records 0 i.devices.items
-  pub each : AllByRecursion (IsEntry opening.version (layout_in opening)) entries
+  pub each : AllByRecursion (IsEntry opening.version (opened_layout opening)) entries
   pub numbered : AreNumbered 1 entries
   pub rounds_are : i.rounds ≡ rounds before
-  pub taken : AreTaken opening.version i.ram.bytes (dealt_sectors opening.shapes sectors) i.named (layout_in opening) before
+  pub taken : AreTaken opening.version i.ram.bytes (dealt_sectors opening.shapes sectors) i.named (opened_layout opening) before
   pub devices_are : shapes_in i.devices.items ≡ take (length i.devices.items) opening.shapes
   pub sound : AllByRecursion (IsSoundDevice opening.ram.base (4096 * opening.pages)) i.devices.items
   pub has : AllByRecursion (IsDeviceOf opening.version) i.devices.items
@@ -76,7 +76,7 @@ pub record Waits (opening : Opened) (before : List Record) (tail : List ℕ) : T
 -- The bytes after all records begin with the tag and the digest of all bytes before them.
 pub record Ends (opening : Opened) (before : List Record) (tail : List ℕ) : Type 0 where
   pub more : List ℕ
-  pub opens : Opens opening before tail 5 (sha256 (header opening ++ texts before) ++ more)
+  pub opens : Opens opening before tail 5 (sha256 (opened_header opening ++ texts before) ++ more)
 
 abbrev pub Checked : Opened → List Record → ℕ → List ℕ → Result (Unit {0}) RecvError → Type 0
 Checked opening before tag more (Ok x) = Opens opening before (tag ∷ more) tag more

@@ -8,7 +8,7 @@ use Rattle.guestmem.specs.Item.{Item}
 use Rattle.machine.specs.Layout.{Layout, IsItemIn}
 use Rattle.machine.specs.State.{DeviceState}
 use Rattle.machine.specs.declared.shape.Shape.{Shape}
-use Rattle.receiver.specs.Opened.{Opened, layout_in}
+use Rattle.receiver.specs.Opened.{Opened, opened_layout}
 
 -- The number of device records among records.
 unfoldable pub devices_in : List Record → ℕ
@@ -23,7 +23,7 @@ AreNamed l rs = (i : Item) → IsItemIn l i → IsSome (last_named i rs)
 -- A device's record that may come next: every item is named, the device's number is the next one, and the body is that of a
 -- device of the shape that is next, which is sound at the machine's base and which the version has.
 pub record IsNextDevice (opening : Opened) (before : List Record) (d : ℕ) (body : List ℕ) : Type 0 where
-  pub named : AreNamed (layout_in opening) before
+  pub named : AreNamed (opened_layout opening) before
   pub next : d ≡ devices_in before
   pub shape : Shape
   pub others : List Shape
@@ -33,12 +33,12 @@ pub record IsNextDevice (opening : Opened) (before : List Record) (d : ℕ) (bod
 
 -- The record may follow those before it. The digest ends a stream, and is none of these records.
 abbrev pub MayFollow : Opened → List Record → Record → Type 0
-MayFollow opening before (page n bytes) = IsItemIn (layout_in opening) (items.page n) × (devices_in before ≡ 0)
-MayFollow opening before (sector d n content) = IsItemIn (layout_in opening) (items.sector d n) × (devices_in before ≡ 0)
+MayFollow opening before (page n bytes) = IsItemIn (opened_layout opening) (items.page n) × (devices_in before ≡ 0)
+MayFollow opening before (sector d n content) = IsItemIn (opened_layout opening) (items.sector d n) × (devices_in before ≡ 0)
 MayFollow opening before (round_end n) = (n ≡ rounds before + 1) × (devices_in before ≡ 0)
 MayFollow opening before (device d body) = IsNextDevice opening before d body
 MayFollow opening before (commit digest) = ⊥
-MayFollow opening before (zero_page n) = IsItemIn (layout_in opening) (items.page n) × (devices_in before ≡ 0)
+MayFollow opening before (zero_page n) = IsItemIn (opened_layout opening) (items.page n) × (devices_in before ≡ 0)
 
 pub record IsNextRecord (opening : Opened) (before : List Record) (r : Record) : Type 0 where
   pub spells : HasSpelling r

@@ -21,18 +21,18 @@ abbrev pub opened : RamTerms → told.Opening → Opened
 opened ram heading = record { ram = ram; version = heading.version; pages = heading.pages; shapes = heading.shapes }
 
 -- The bytes of its header, whether it is within the limits, and the items of the machine.
-abbrev pub header : Opened → List ℕ
-header opening = told.header (said_by opening)
+abbrev pub opened_header : Opened → List ℕ
+opened_header opening = told.header (said_by opening)
 
-abbrev pub IsHeader : Opened → Type 0
-IsHeader opening = told.IsHeader (said_by opening)
+abbrev pub IsOpenedHeader : Opened → Type 0
+IsOpenedHeader opening = told.IsHeader (said_by opening)
 
-abbrev pub layout_in : Opened → Layout
-layout_in opening = told.layout_in (said_by opening)
+abbrev pub opened_layout : Opened → Layout
+opened_layout opening = told.layout_in (said_by opening)
 
 -- The bytes begin with its header, and `rest` follows.
-abbrev pub Begins : List ℕ → Opened → List ℕ → Type 0
-Begins bytes opening rest = told.Begins bytes (said_by opening) rest
+abbrev pub BeginsOpened : List ℕ → Opened → List ℕ → Type 0
+BeginsOpened bytes opening rest = told.Begins bytes (said_by opening) rest
 
 -- RAM begins at this address, and none was handed in, or one with these bytes.
 abbrev pub ram_at : ℕ → RamTerms

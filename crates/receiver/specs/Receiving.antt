@@ -15,7 +15,7 @@ use Rattle.machine.specs.Room.{RoomSeen}
 use Rattle.machine.specs.Seen.{Marks}
 use Rattle.machine.specs.State.{MachineState}
 use Rattle.receiver.specs.Disks.{IsUnsteady, all_marks_in, sizes_in}
-use Rattle.receiver.specs.Opened.{Opened, header, ram_at}
+use Rattle.receiver.specs.Opened.{Opened, opened_header, ram_at}
 use Rattle.receiver.specs.Good.{IsNextRecord}
 use Rattle.receiver.specs.Faults.{Fault, IsComplete, IsFront, WaitsHead}
 use Rattle.receiver.specs.Fed.{IsKnownIn, Tells}
@@ -184,7 +184,7 @@ pub record HasDevice (ram : RamTerms) (sizes bytes : List ℕ) (from : ℕ) : Ty
   pub body : List ℕ
   pub more : List ℕ
   pub front : IsFront ram sizes bytes opening before (spelled_record (device number body) ++ more)
-  pub behind : from ≤ length (header opening ++ texts before)
+  pub behind : from ≤ length (opened_header opening ++ texts before)
 
 -- What a refusal of a whole slice means: a fault of the bytes; or (`Truncated`) that they have no fault but are not a stream of
 -- any machine; or that a disk failed, where some disk is not steady; or that memory was refused.
@@ -222,5 +222,5 @@ pub record IsReceived (bytes : List ℕ) (m : MachineState) (n : ℕ) : Type 0 w
 pub record IsWholeFor (ram : RamTerms) (sizes b : List ℕ) : Type 0 where
   pub opening : Opened
   pub before : List Record
-  pub front : IsFront ram sizes b opening before (spelled_record (commit (sha256 (header opening ++ texts before))))
+  pub front : IsFront ram sizes b opening before (spelled_record (commit (sha256 (opened_header opening ++ texts before))))
   pub complete : IsComplete opening before 5

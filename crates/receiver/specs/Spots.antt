@@ -10,7 +10,7 @@ use Rattle.receiver.specs.declared.intake.Intake.{Intake}
 use Rattle.receiver.specs.declared.intake.Spot.{Spot}
 use Rattle.receiver.specs.declared.recv_error.RecvError.{RecvError}
 use Rattle.receiver.specs.declared.recv_error.RecvError.TheVariants.{DiskFailed}
-use Rattle.receiver.specs.Opened.{Opened, layout_in}
+use Rattle.receiver.specs.Opened.{Opened, opened_layout}
 
 -- How many of the devices before the index `place` have a disk.
 abbrev pub disks_before : List Shape → ℕ → ℕ
@@ -24,9 +24,9 @@ pub record HasMarks (i : Intake) (number : ℕ) (spot : Spot) : Type 0 where
 
 -- The device has this sector, and `spot` has the index of its disk among all disks and the number of its item.
 pub record IsSpotOf (opening : Opened) (dev number : ℕ) (spot : Spot) : Type 0 where
-  pub there : IsItemIn (layout_in opening) (items.sector dev number)
+  pub there : IsItemIn (opened_layout opening) (items.sector dev number)
   pub disk : spot.disk ≡ disks_before opening.shapes dev
-  pub item : spot.item ≡ number_of (layout_in opening) (items.sector dev number)
+  pub item : spot.item ≡ number_of (opened_layout opening) (items.sector dev number)
 
 -- The intake has a sector of this number for this device, and this is where it is.
 pub record IsSpotIn (i : Intake) (dev number : ℕ) (spot : Spot) : Type 0 where

@@ -23,7 +23,7 @@ use Rattle.receiver.specs.Fed.{Ends, HasRead, Tells, TookRecord, Waits}
 use Rattle.receiver.specs.declared.intake.Intake.{Intake}
 use Rattle.receiver.specs.declared.recv_error.RecvError.{RecvError}
 use Rattle.receiver.specs.declared.recv_error.RecvError.TheVariants.{BadPage, BadSector, BadRound, BadDevice, BadDigest, NoMemory}
-use Rattle.receiver.specs.Opened.{Opened, layout_in}
+use Rattle.receiver.specs.Opened.{Opened, opened_layout}
 
 -- The bytes begin with this head, before `rest`, and a record with its tag may come here.
 pub record OpensHead (opening : Opened) (before : List Record) (tail : List ℕ) (head : RecordHead) (rest : List ℕ) : Type 0 where
@@ -37,7 +37,7 @@ pub record OpensHead (opening : Opened) (before : List Record) (tail : List ℕ)
 -- and the body is not too long.
 abbrev pub MayHead : Opened → List Record → RecordHead → Type 0
 MayHead opening before (heads.Page number) = number < opening.pages
-MayHead opening before (heads.Sector dev number good) = IsItemIn (layout_in opening) (items.sector dev number)
+MayHead opening before (heads.Sector dev number good) = IsItemIn (opened_layout opening) (items.sector dev number)
 MayHead opening before (heads.RoundEnd number) = number ≡ rounds before + 1
 MayHead opening before (heads.Device number len) = IsNextHead before number len
 MayHead opening before heads.Commit = Unit {0}

@@ -459,15 +459,12 @@ pub fn work_off<D: Disk>(
             return Err(RecvError::Trailing);
         }
         let (_, rest) = bytes.split_at(at);
-        match take_part(intake, disks, taken, rest) {
-            Err(error) => return Err(error),
-            Ok(None) => return Ok(at),
-            Ok(Some(len)) => {
-                let (record, _) = rest.split_at(len);
-                taken.update(record);
-                at += len;
-            }
-        }
+        let Some(len) = take_part(intake, disks, taken, rest)? else {
+            return Ok(at);
+        };
+        let (record, _) = rest.split_at(len);
+        taken.update(record);
+        at += len;
     }
     Ok(at)
 }

@@ -151,10 +151,8 @@ impl<D: Disk + Drop> Reader<D> {
         if !self.stage.is_head() {
             return Ok(0);
         }
-        let heading = match read_heading(self.alloc, bytes) {
-            Ok(Some(heading)) => heading,
-            Ok(None) => return Ok(0),
-            Err(error) => return Err(error),
+        let Some(heading) = read_heading(self.alloc, bytes)? else {
+            return Ok(0);
         };
         if let Err(error) = check_fit(self.ram, &self.disks, &heading) {
             return Err(error);
@@ -210,22 +208,15 @@ impl<D: Disk + Drop> Reader<D> {
         ensures capacity { vec_capacity held.old ≤ vec_capacity held.new }
     {
         if held.is_empty() {
-            let count = match self.look(bytes) {
-                Ok(count) => count,
-                Err(error) => return Err(error),
-            };
+            let count = self.look(bytes)?;
             let (_, rest) = bytes.split_at(count);
             held.extend_from_slice(rest).unwrap();
             return Ok(());
         }
         held.extend_from_slice(bytes).unwrap();
-        match self.look(held) {
-            Ok(count) => {
-                drop_front(held, count);
-                Ok(())
-            }
-            Err(error) => Err(error),
-        }
+        let count = self.look(held)?;
+        drop_front(held, count);
+        Ok(())
     }
 
     /// Takes a piece that may complete the header or a record; returns how many bytes the record at the front of what is then held lacks. It

@@ -249,15 +249,9 @@ fn receive_in_pieces<E: Disk + Drop>(
     let mut rest = bytes;
     for cut in cuts {
         let (piece, others) = rest.split_at((*cut).min(rest.len()));
-        match receiver.feed(piece) {
-            Ok(()) => {}
-            Err(error) => return Err(error),
-        }
+        receiver.feed(piece)?;
         rest = others;
     }
-    match receiver.feed(rest) {
-        Ok(()) => {}
-        Err(error) => return Err(error),
-    }
+    receiver.feed(rest)?;
     receiver.finish()
 }

@@ -19,7 +19,7 @@ use Rattle.wire.specs.Records.{page_record, sector, round_end}
 use Rattle.wire.specs.Stream.{content_of, last_named, or_else, record_of}
 use Rattle.wire.proofs.ItemRecords.{named-append, named_nothing, named_one, says_at}
 use Rattle.sender.specs.History.{AllAllowed, Allowed, AllowedBy, History, entries, is_due, is_numbered, is_stale, machine_after, nothing, phase_of, sends, sent, then_came, touches, went}
-use Rattle.sender.specs.HistoryLaws.{FreshIsLast, IsFresh, StaleIsNotFresh}
+use Rattle.sender.specs.HistoryLaws.{FreshIsLast, IsFreshItem, StaleIsNotFresh}
 use Rattle.sender.specs.LiveState.{chosen, item_of, records_of, refusal_for}
 use Rattle.sender.specs.declared.phase.Phase.{Phase}
 use Rattle.sender.specs.declared.phase.Phase.TheVariants as phases
@@ -253,12 +253,12 @@ parts_of false true true e = inl refl
 parts_of false true false e = cc
 parts_of false false x e = inr (refl, refl)
 
-fresh_if : (l : Layout) (h : History) (i : ℕ) → is_stale l h i ≡ false → IsFresh l h i
+fresh_if : (l : Layout) (h : History) (i : ℕ) → is_stale l h i ≡ false → IsFreshItem l h i
 fresh_if l nothing i e = cc
-fresh_if l (then_came h e reply c) i is = elim (parts_of (touches l e reply c i) (is_stale l h i) (sends l (is_stale l h) e reply i) is) as (λ _. IsFresh l (then_came h e reply c) i)
+fresh_if l (then_came h e reply c) i is = elim (parts_of (touches l e reply c i) (is_stale l h i) (sends l (is_stale l h) e reply i) is) as (λ _. IsFreshItem l (then_came h e reply c) i)
     [ inl a ↦ inl a | inr b ↦ inr (fresh_if l h i b.0, b.1) ]
 
-not_stale : (l : Layout) (h : History) (i : ℕ) → IsFresh l h i → is_stale l h i ≡ false
+not_stale : (l : Layout) (h : History) (i : ℕ) → IsFreshItem l h i → is_stale l h i ≡ false
 not_stale l nothing i f = absurd f
 not_stale l (then_came h e reply c) i (inl s) = rw (unsent_touch l (is_stale l h) e reply c i s, s, and-false (is_stale l h i)) refl
 not_stale l (then_came h e reply c) i (inr b) = rw (b.1, not_stale l h i b.0) refl

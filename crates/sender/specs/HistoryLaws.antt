@@ -18,13 +18,13 @@ FreshIsLast = (m : MachineState) (h : History) (i : ℕ) → AllAllowed m h → 
     → last_named (item_at (layout_of m) i) (entries m h) ≡ Some (record_of (machine_after m h) (item_at (layout_of m) i))
 
 -- The item was sent, and was not written since it was last sent.
-abbrev pub IsFresh : Layout → History → ℕ → Type 0
-IsFresh l nothing i = ⊥
-IsFresh l (then_came h e reply f) i = (sends l (is_stale l h) e reply i ≡ true) ⊎ (IsFresh l h i × (touches l e reply f i ≡ false))
+abbrev pub IsFreshItem : Layout → History → ℕ → Type 0
+IsFreshItem l nothing i = ⊥
+IsFreshItem l (then_came h e reply f) i = (sends l (is_stale l h) e reply i ≡ true) ⊎ (IsFreshItem l h i × (touches l e reply f i ≡ false))
 
 -- An item is not stale exactly where it was sent, and was not written since it was last sent.
 abbrev pub StaleIsNotFresh : Type 0
-StaleIsNotFresh = (l : Layout) (h : History) (i : ℕ) → (is_stale l h i ≡ false → IsFresh l h i) × (IsFresh l h i → is_stale l h i ≡ false)
+StaleIsNotFresh = (l : Layout) (h : History) (i : ℕ) → (is_stale l h i ≡ false → IsFreshItem l h i) × (IsFreshItem l h i → is_stale l h i ≡ false)
 
 -- Once a stop answered Ok, what was written is a stream of the machine.
 abbrev pub StoppedIsStream : Type 0

@@ -14,7 +14,7 @@ use Rattle.wire.specs.Stream.{IsStream, record_of}
 use Rattle.sender.specs.LiveState.{records_of}
 
 -- What was read of a good sector, from a disk with these marks: 512 bytes. They are its contents if the disk is honest.
-pub record IsRead (marks : Marks) (found : Option Sector) (bytes : List ℕ) : Type 0 where
+pub record IsReadSector (marks : Marks) (found : Option Sector) (bytes : List ℕ) : Type 0 where
   pub whole : IsSector bytes
   pub good : IsGood found
   pub is : IsTrue marks.honest → found ≡ Some (Some bytes)
@@ -22,7 +22,7 @@ pub record IsRead (marks : Marks) (found : Option Sector) (bytes : List ℕ) : T
 -- What is sent of a sector: that it is bad, exactly where it is marked bad, or what was read of it.
 abbrev pub IsSentAs : Marks → Option Sector → Sector → Type 0
 IsSentAs marks found None = found ≡ Some None
-IsSentAs marks found (Some bytes) = IsRead marks found bytes
+IsSentAs marks found (Some bytes) = IsReadSector marks found bytes
 
 pub record IsToldSector (s : Seen) (dev n : ℕ) (entry : Record) : Type 0 where
   pub content : Sector

@@ -84,16 +84,7 @@ impl<D: Disk, W: Sink> LiveOver<D, Eager<W>> {
         let Ok((due, dirty)) = make_room(alloc, &machine) else {
             return Err((AllocError, machine, writer));
         };
-        let live = LiveOver {
-            machine,
-            writer: Eager::new(writer),
-            phase: Phase::Fresh,
-            due,
-            at: 0,
-            dirty,
-        };
-        live.recall();
-        Ok(live)
+        Ok(LiveOver::fresh(machine, Eager::new(writer), due, dirty))
     }
 
     /// The machine and the writer, as they are.
@@ -135,16 +126,7 @@ impl<D: Disk> LiveOver<D, Waiting> {
         };
         let mut writer = writer;
         writer.begin();
-        let live = LiveOver {
-            machine,
-            writer,
-            phase: Phase::Fresh,
-            due,
-            at: 0,
-            dirty,
-        };
-        live.recall();
-        Ok(live)
+        Ok(LiveOver::fresh(machine, writer, due, dirty))
     }
 
     /// The machine and the writer, as they are.
@@ -168,6 +150,26 @@ impl<D: Disk> LiveOver<D, Waiting> {
 }
 
 impl<D: Disk, W: Digesting> LiveOver<D, W> {
+    /// A machine of which nothing is sent yet, with the sets that `make_room` made for it. The writer has begun its digest.
+    fn fresh(machine: Machine<D>, writer: W, due: BitSet, dirty: Dirty) -> LiveOver<D, W>
+        requires empty { HasNone due × HasNone dirty.set }
+        requires live { IsLive machine Phase.Fresh due dirty.set dirty.firsts.items 0 }
+        ensures empty { HasNone result.due × HasNone result.dirty }
+        ensures live { result ≡ record { machine = machine; phase = Phase.Fresh; due = due; dirty = dirty.set; digest = W.sum writer; out = W.state writer } }
+        ensures places { HasPlaces result }
+    {
+        let live = LiveOver {
+            machine,
+            writer,
+            phase: Phase::Fresh,
+            due,
+            at: 0,
+            dirty,
+        };
+        live.recall();
+        live
+    }
+
     /// The machine, to be read: its registers, its RAM, its interrupt lines.
     pub fn machine(&self) -> &Machine<D>
         ensures { result.now ≡ self.now.machine }

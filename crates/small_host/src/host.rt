@@ -68,8 +68,9 @@ impl<G: Guest<MemDisk> + Drop> Host<G> {
 
     /// Puts bytes in, and steps the devices: a driver need not kick again for a buffer that waits.
     pub fn give(&mut self, rt: &HostRuntime, dev: u8, bytes: &[u8]) -> Result<()> {
-        let Reply::Accepted(kept) = self.guest.input(dev, bytes)? else {
-            bail!("no bytes were put in");
+        let kept = match self.guest.input(dev, bytes)? {
+            Reply::Accepted(kept) => kept,
+            reply => bail!("an input was answered {reply:?}"),
         };
         println!(rt; "host: puts in {kept} bytes")?;
         self.work(rt)

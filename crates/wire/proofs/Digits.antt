@@ -8,7 +8,7 @@ use Rattle.byteorder.specs.Endian.{little_from, little_number}
 use Rattle.byteorder.specs.Numbers.{little_from-cons, little_from-take, little_number-reads_back, little_from-lt, length-bytes_low_first}
 use Rattle.guestmem.proofs.ByteLaws.{IsBytes-drop, IsBytes-take, IsBytes-low_first}
 use Rattle.guestmem.specs.Number.{number_at, IsBytes}
-use Rattle.wire.specs.Numbers.{digits, spelled, numbers, Fit, size_of, flag}
+use Rattle.wire.specs.Numbers.{digits, spelled, numbers, Fit, flag}
 
 -- Two lists of as many bytes that are one number are one list.
 same_bytes : (xs ys : List ℕ) → IsBytes xs → IsBytes ys → length xs ≡ length ys → little_from 0 (length xs) xs ≡ little_from 0 (length ys) ys → xs ≡ ys
@@ -68,14 +68,19 @@ pub numbers_fit : (ws : List ℕ) (at : ℕ) (bytes : List ℕ) → IsBytes byte
 numbers_fit [] at bytes are = tt
 numbers_fit (w ∷ ws) at bytes are = (number_at-fits w at bytes are, numbers_fit ws (at + w) bytes are)
 
+-- The sum of these widths, in bytes.
+abbrev pub total_width : List ℕ → ℕ
+total_width [] = 0
+total_width (w ∷ ws) = w + total_width ws
+
 -- What is read is spelled as it stood.
-pub spelled-numbers : (ws : List ℕ) (at : ℕ) (bytes : List ℕ) → IsBytes bytes → at + size_of ws ≤ length bytes → spelled ws (numbers ws at bytes) ≡ take (size_of ws) (drop at bytes)
+pub spelled-numbers : (ws : List ℕ) (at : ℕ) (bytes : List ℕ) → IsBytes bytes → at + total_width ws ≤ length bytes → spelled ws (numbers ws at bytes) ≡ take (total_width ws) (drop at bytes)
 spelled-numbers [] at bytes are within = refl
 spelled-numbers (w ∷ ws) at bytes are within =
     let first : digits w (number_at bytes at w) ≡ take w (drop at bytes) = digits-number_at w bytes at are (omega arith) in
-    let others : spelled ws (numbers ws (at + w) bytes) ≡ take (size_of ws) (drop (at + w) bytes) = spelled-numbers ws (at + w) bytes are (omega arith) in
+    let others : spelled ws (numbers ws (at + w) bytes) ≡ take (total_width ws) (drop (at + w) bytes) = spelled-numbers ws (at + w) bytes are (omega arith) in
     let on : drop w (drop at bytes) ≡ drop (at + w) bytes = drop-drop w at bytes in
-    let both : take (w + size_of ws) (drop at bytes) ≡ take w (drop at bytes) ++ take (size_of ws) (drop w (drop at bytes)) = take-add w (size_of ws) (drop at bytes) in
+    let both : take (w + total_width ws) (drop at bytes) ≡ take w (drop at bytes) ++ take (total_width ws) (drop w (drop at bytes)) = take-add w (total_width ws) (drop at bytes) in
     rw (both, on, first, others) refl
 
 pub number_at-digits : (w n : ℕ) (front rest : List ℕ) → n < 256 ^ w → number_at (front ++ (digits w n ++ rest)) (length front) w ≡ n
@@ -96,7 +101,7 @@ numbers-spelled (w ∷ ws) (n ∷ ns) front rest fits =
     let later : numbers ws (length front + w) (front ++ ((digits w n ++ spelled ws ns) ++ rest)) ≡ ns = rw (whole, ← longer) others in
     rw (first, later) refl
 
-pub length-spelled : (ws ns : List ℕ) → Fit ws ns → length (spelled ws ns) ≡ size_of ws
+pub length-spelled : (ws ns : List ℕ) → Fit ws ns → length (spelled ws ns) ≡ total_width ws
 length-spelled [] [] fits = refl
 length-spelled [] (n ∷ ns) fits = absurd fits
 length-spelled (w ∷ ws) [] fits = absurd fits

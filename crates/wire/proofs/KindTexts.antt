@@ -32,7 +32,7 @@ use Rattle.wire.specs.Several.{several}
 use Rattle.wire.specs.DeviceBody.{held_text, kind_text, size_numbers, size_text, size_widths}
 use Rattle.wire.specs.FrameReading.{frame_of}
 use Rattle.wire.specs.FrameText.{frame_text, frames_text}
-use Rattle.wire.specs.BodyReading.{block_with, all_of, block_kind_in, console_kind_in, entropy_kind_in, held_of, net_kind_in, kind_in, size_from, size_of}
+use Rattle.wire.specs.BodyReading.{block_with, all_of, block_kind_in, console_kind_in, entropy_kind_in, held_of, net_kind_in, kind_in, console_size_from, console_size_of}
 use Rattle.wire.proofs.Choices.{map_found, same_found, not_chosen, neither, so}
 use Rattle.wire.proofs.Digits.{digits-number_at, number_at-digits, numbers-spelled, spelled-numbers, length-digits, IsBytes-digits, IsBytes-append, IsBytes-spelled}
 use Rattle.wire.proofs.FrameLemmas.{frame_of-text, frames_bytes, frames_short, text-frame_of}
@@ -89,12 +89,12 @@ pool_written bytes o are e =
 
 -- Of a console.
 
-size_of-text : (s : ConsoleSize) (rest : List ℕ) → Fit size_widths (size_numbers s) → size_of (size_text s ++ rest) ≡ s
-unfolding size_text size_of
-size_of-text s rest fits = ap size_from (numbers-spelled size_widths (size_numbers s) [] rest fits)
+console_size_of-text : (s : ConsoleSize) (rest : List ℕ) → Fit size_widths (size_numbers s) → console_size_of (size_text s ++ rest) ≡ s
+unfolding size_text console_size_of
+console_size_of-text s rest fits = ap console_size_from (numbers-spelled size_widths (size_numbers s) [] rest fits)
 
-size_text-of : (bytes : List ℕ) → IsBytes bytes → 4 ≤ length bytes → size_text (size_of bytes) ≡ take 4 bytes
-unfolding size_text size_of
+size_text-of : (bytes : List ℕ) → IsBytes bytes → 4 ≤ length bytes → size_text (console_size_of bytes) ≡ take 4 bytes
+unfolding size_text console_size_of
 size_text-of bytes are long = spelled-numbers size_widths 0 bytes are long
 
 length-size_text : (s : ConsoleSize) → length (size_text s) ≡ 4
@@ -113,7 +113,7 @@ unfolding console_kind_in
 console_reads size held good =
     let long : nat_lt (length (size_text size ++ held_text held)) 4 ≡ false = le-ltb _ _ (omega (arith, length-append (size_text size) (held_text held), length-size_text size)) in
     let behind : drop 4 (size_text size ++ held_text held) ≡ held_text held = drop_at (size_text size) (held_text held) 4 (length-size_text size) in
-    rw (long, size_of-text size (held_text held) (size_fits size held good), behind, held_reads held good.text) refl
+    rw (long, console_size_of-text size (held_text held) (size_fits size held good), behind, held_reads held good.text) refl
 
 console_own : (size : ConsoleSize) (held : List ℕ) → IsSoundConsole size held → ReadsKind (kinds.Console size held)
 console_own size held good = record {
@@ -126,10 +126,10 @@ console_written : (bytes : List ℕ) (o : Kind) → IsBytes bytes → console_ki
 unfolding console_kind_in
 console_written bytes o are e =
     let long = not_chosen (nat_lt (length bytes) 4) _ o e in
-    let found = map_found (kinds.Console (size_of bytes)) (held_of (drop 4 bytes)) o long.1 in
+    let found = map_found (kinds.Console (console_size_of bytes)) (held_of (drop 4 bytes)) o long.1 in
     let held = held_written (drop 4 bytes) found.0 (IsBytes-drop 4 bytes are) found.1 in
     let size = size_text-of bytes are (ltb-false (length bytes) 4 long.0) in
-    sym (take-append-drop 4 bytes) ∙ ap (λ (x : List ℕ). x ++ drop 4 bytes) (sym size) ∙ ap (λ (x : List ℕ). size_text (size_of bytes) ++ x) held ∙ ap kind_text found.2
+    sym (take-append-drop 4 bytes) ∙ ap (λ (x : List ℕ). x ++ drop 4 bytes) (sym size) ∙ ap (λ (x : List ℕ). size_text (console_size_of bytes) ++ x) held ∙ ap kind_text found.2
 
 -- Things behind which nothing stands.
 record AllRead {A : Type 0} (has : List A → Kind) (found : Option (List A × List ℕ)) (o : Kind) : Type 0 where
@@ -250,7 +250,7 @@ requests_made sectors read_only id (count ∷ bytes) o e =
 
 console_made : (bytes : List ℕ) (o : Kind) → console_kind_in bytes ≡ Some o → made_as o ≡ Console
 unfolding console_kind_in
-console_made bytes o e = ap made_as (sym (map_found (kinds.Console (size_of bytes)) (held_of (drop 4 bytes)) o (not_chosen (nat_lt (length bytes) 4) _ o e).1).2)
+console_made bytes o e = ap made_as (sym (map_found (kinds.Console (console_size_of bytes)) (held_of (drop 4 bytes)) o (not_chosen (nat_lt (length bytes) 4) _ o e).1).2)
 
 pub kind_made : (s : Shape) (bytes : List ℕ) (o : Kind) → kind_in s bytes ≡ Some o → made_as o ≡ s
 kind_made (Net mac) bytes o e = frames_made mac bytes o e

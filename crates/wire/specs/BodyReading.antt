@@ -99,15 +99,15 @@ held_of bytes =
     else Some (drop 2 bytes)
 
 -- A console: its size, in the first 4 bytes, and the bytes held for its driver.
-abbrev pub size_from : List ℕ → ConsoleSize
-size_from (a ∷ b ∷ rest) = record { columns = a; rows = b }
-size_from numbers = first_size
+abbrev pub console_size_from : List ℕ → ConsoleSize
+console_size_from (a ∷ b ∷ rest) = record { columns = a; rows = b }
+console_size_from numbers = first_size
 
-unfoldable pub size_of : List ℕ → ConsoleSize
-size_of bytes = size_from (numbers size_widths 0 bytes)
+unfoldable pub console_size_of : List ℕ → ConsoleSize
+console_size_of bytes = console_size_from (numbers size_widths 0 bytes)
 
 unfoldable pub console_kind_in : List ℕ → Option Kind
-console_kind_in bytes = if nat_lt (length bytes) 4 then None else option_map (kinds.Console (size_of bytes)) (held_of (drop 4 bytes))
+console_kind_in bytes = if nat_lt (length bytes) 4 then None else option_map (kinds.Console (console_size_of bytes)) (held_of (drop 4 bytes))
 
 -- An entropy device: its pool.
 abbrev pub entropy_kind_in : List ℕ → Option Kind

@@ -8,6 +8,6 @@ pub record WaitingSeen : Type 0 where
   pub sum : Digested
 
 -- So many of the bytes are gone, and so many digested: all that are gone, and maybe more.
-pub record Keeps (bytes : List ℕ) (gone seen : ℕ) : Type 0 where
+pub record IsWaiting (bytes : List ℕ) (gone seen : ℕ) : Type 0 where
   pub behind : gone ≤ seen
   pub inside : seen ≤ length bytes

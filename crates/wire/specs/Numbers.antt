@@ -27,11 +27,6 @@ Fit [] (n ∷ ns) = ⊥
 Fit (w ∷ ws) [] = ⊥
 Fit (w ∷ ws) (n ∷ ns) = (n < 256 ^ w) × Fit ws ns
 
--- The sum of these widths, in bytes.
-abbrev pub size_of : List ℕ → ℕ
-size_of [] = 0
-size_of (w ∷ ws) = w + size_of ws
-
 -- The number that encodes a truth value.
 abbrev pub flag : Bool → ℕ
 flag true = 1

@@ -89,19 +89,16 @@ pub fn read_header(alloc: Global, bytes: &[u8]) -> Result<Option<Header>, Header
         return Err(HeaderError::BadShape);
     }
     let (_, rest) = bytes.split_at(FRONT_LEN);
-    match read_shapes(alloc, count, rest) {
-        Err(error) => Err(error),
-        Ok(None) => Ok(None),
-        Ok(Some((shapes, rest))) => {
-            let len = bytes.len() - rest.len();
-            Ok(Some(Header {
-                version,
-                pages,
-                shapes,
-                len,
-            }))
-        }
-    }
+    let Some((shapes, rest)) = read_shapes(alloc, count, rest)? else {
+        return Ok(None);
+    };
+    let len = bytes.len() - rest.len();
+    Ok(Some(Header {
+        version,
+        pages,
+        shapes,
+        len,
+    }))
 }
 
 /// The shape at the front of the bytes, if it is complete, and the bytes after it.
@@ -136,16 +133,13 @@ fn read_shapes(
     let mut shapes = Vec::new(alloc);
     let mut rest = bytes;
     for _ in 0..count {
-        match first_shape(rest) {
-            Err(error) => return Err(error),
-            Ok(None) => return Ok(None),
-            Ok(Some((shape, after))) => {
-                let Ok(()) = shapes.push(shape) else {
-                    return Err(HeaderError::NoMemory);
-                };
-                rest = after;
-            }
-        }
+        let Some((shape, after)) = first_shape(rest)? else {
+            return Ok(None);
+        };
+        let Ok(()) = shapes.push(shape) else {
+            return Err(HeaderError::NoMemory);
+        };
+        rest = after;
     }
     Ok(Some((shapes, rest)))
 }

@@ -1,7 +1,7 @@
 //! The size of a console in its body.
 
 ghost use Rattle.std.specs.Prelude.{◌≡◌, ◌≤◌, length};
-ghost use Rattle.wire.specs.BodyReading.{size_of};
+ghost use Rattle.wire.specs.BodyReading.{console_size_of};
 ghost use Rattle.wire.specs.DeviceBody.{size_text};
 
 use crate::numbers::u16_at;
@@ -23,10 +23,10 @@ pub fn size_bytes(size: &ConsoleSize) -> [u8; 4]
 }
 
 /// Decodes the size of a console from the first four bytes.
-#[tactic(auto, unfolding(crate::specs::BodyReading::size_of))]
+#[tactic(auto, unfolding(crate::specs::BodyReading::console_size_of))]
 pub fn size_at(bytes: &[u8]) -> ConsoleSize
     requires { 4 ≤ length bytes.now }
-    ensures { result ≡ size_of bytes.now }
+    ensures { result ≡ console_size_of bytes.now }
 {
     ConsoleSize {
         columns: u16_at(bytes, 0),

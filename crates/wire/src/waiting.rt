@@ -33,13 +33,13 @@ pub struct Waiting {
 impl Model for Waiting {
     ghost use Rattle.std.specs.Prelude.{◌≤◌, Some, drop, length};
     ghost use Rattle.wire.specs.Sinks.{lagging, over_writer};
-    ghost use Rattle.wire.specs.Lagging.{Keeps, WaitingSeen};
+    ghost use Rattle.wire.specs.Lagging.{IsWaiting, WaitingSeen};
 
     ghost Value = { WaitingSeen };
 
     ghost view = { λ w. record { out = over_writer (Some (drop w.gone w.bytes.items)) w.failed w.flushed; sum = lagging w.digest (drop w.seen w.bytes.items) } };
 
-    ghost invariant = { λ w. Keeps w.bytes.items w.gone w.seen };
+    ghost invariant = { λ w. IsWaiting w.bytes.items w.gone w.seen };
 }
 
 impl Waiting {

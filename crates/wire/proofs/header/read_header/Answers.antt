@@ -1,4 +1,5 @@
 use Rattle.std.proofs.Common.{arith, rules, subst, ◌≡◌, drop}
+use Rattle.std.proofs.lemmas.Result.{err_from_is_err_and}
 use Rattle.guestmem.specs.Number.{number_at}
 use Rattle.wire.specs.Header.{IsVersion}
 use Rattle.wire.specs.HeaderFaults.{Says}
@@ -25,25 +26,26 @@ returns-then-not-may_count-clause-refused c =
     let says : Says c.args.bytes.now c.u32_at-pages.result c.u32_at-count.result = record { long = omega arith; magic = search rules; known = subst IsVersion c.u32_at-version.ensures (c.is_version.ensures.known.0 (search rules)); pages_are = search rules; count_is = search rules } in
     bad_count c.args.bytes.now c.u32_at-pages.result c.u32_at-count.result says (λ may. not_both_ways c.may_count.result (c.may_count.ensures.1 may) c.if-not-may_count.true)
 
-pub returns-in-Err-clause-refused : goal.returns-in-Err-clause-refused
-returns-in-Err-clause-refused c =
+pub returns-in_err-shapes-clause-refused : goal.returns-in_err-shapes-clause-refused
+returns-in_err-shapes-clause-refused c =
     let says : Says c.args.bytes.now c.u32_at-pages.result c.u32_at-count.result = record { long = omega arith; magic = search rules; known = subst IsVersion c.u32_at-version.ensures (c.is_version.ensures.known.0 (search rules)); pages_are = search rules; count_is = search rules } in
     let may = c.may_count.ensures.0 (search rules) in
     let rest : c.split_at.result.1.now ≡ drop 16 c.args.bytes.now = search rules in
-    told_shapes c.args.bytes.now c.u32_at-pages.result c.u32_at-count.result c.in-Err.error says may (rw rest at c.in-Err.ensures.read)
+    let told = err_from_is_err_and c.from_residual.result c.from_residual.ensures.1 in
+    rw (told.1, told.2) (told_shapes c.args.bytes.now c.u32_at-pages.result c.u32_at-count.result c.in_err-shapes.field-0.0 says may (rw rest at c.in_err-shapes.ensures.read))
 
-pub returns-in-Ok-None-clause-read : goal.returns-in-Ok-None-clause-read
-returns-in-Ok-None-clause-read c =
+pub returns-in_default-clause-read : goal.returns-in_default-clause-read
+returns-in_default-clause-read c =
     let says : Says c.args.bytes.now c.u32_at-pages.result c.u32_at-count.result = record { long = omega arith; magic = search rules; known = subst IsVersion c.u32_at-version.ensures (c.is_version.ensures.known.0 (search rules)); pages_are = search rules; count_is = search rules } in
     let may = c.may_count.ensures.0 (search rules) in
     let rest : c.split_at.result.1.now ≡ drop 16 c.args.bytes.now = search rules in
-    head_part c.args.bytes.now c.u32_at-pages.result c.u32_at-count.result says may (rw (c.in-Ok-None.field-0-is, rest) at c.in-Ok-None.ensures.read)
+    head_part c.args.bytes.now c.u32_at-pages.result c.u32_at-count.result says may (rw (c.in_default.is, rest) at c.in_ok-shapes.ensures.read)
 
-pub returns-in-Ok-Some-clause-read : goal.returns-in-Ok-Some-clause-read
-returns-in-Ok-Some-clause-read c =
+pub returns-clause-read : goal.returns-clause-read
+returns-clause-read c =
     let says : Says c.args.bytes.now c.u32_at-pages.result c.u32_at-count.result = record { long = omega arith; magic = search rules; known = subst IsVersion c.u32_at-version.ensures (c.is_version.ensures.known.0 (search rules)); pages_are = search rules; count_is = search rules } in
     let may = c.may_count.ensures.0 (search rules) in
     let rest : c.split_at.result.1.now ≡ drop 16 c.args.bytes.now = search rules in
-    let begins = begins_so c.args.bytes.now c.u32_at-version.result c.u32_at-pages.result c.u32_at-count.result _ _ (λ i. omega (arith, c.type_inv.bytes i)) c.u32_at-version.ensures says may (rw (c.in-Ok-Some.field-0-is, rest) at c.in-Ok-Some.ensures.read) in
-    let after = behind _ c.in-Ok-Some.rest.now c.args.bytes.now begins.whole in
+    let begins = begins_so c.args.bytes.now c.u32_at-version.result c.u32_at-pages.result c.u32_at-count.result _ _ (λ i. omega (arith, c.type_inv.bytes i)) c.u32_at-version.ensures says may (rw (c.in-Some.is, rest) at c.in_ok-shapes.ensures.read) in
+    let after = behind _ c.in-Some.rest.now c.args.bytes.now begins.whole in
     (omega (arith, after.shorter), rw after.dropped begins)
