@@ -175,7 +175,7 @@ fn trace_fails(rt: &HostRuntime) -> Result<()> {
     let words = ["run", "some.trace"];
     let files = [("some.trace", TEXT)];
     for after in 0..=TEXT.len() {
-        both_told(rt, &files, after, &words, b"vmig: file some.trace\n")?;
+        both_reported(rt, &files, after, &words, b"vmig: file some.trace\n")?;
     }
     Ok(())
 }
@@ -189,7 +189,7 @@ fn stream_fails(rt: &HostRuntime) -> Result<()> {
         ("no.trace", b"".as_slice()),
     ];
     for after in 0..=stream.len() {
-        both_told(rt, &files, after, &words, b"vmig: file some.stream\n")?;
+        both_reported(rt, &files, after, &words, b"vmig: file some.stream\n")?;
     }
     Ok(())
 }
@@ -204,24 +204,24 @@ fn image_fails(rt: &HostRuntime) -> Result<()> {
         ("some.img", [0u8; 512].as_slice()),
     ];
     let files = failing_files(rt, &files, usize::MAX, ErrorKind::PermissionDenied);
-    is_told(&files, &words, (5, b"vmig: stream 14\n"))
+    ends_as(&files, &words, (5, b"vmig: stream 14\n"))
 }
 
 /// A read that fails after this many bytes is reported by this line, and one that was refused memory by the line
 /// `vmig: memory`.
-fn both_told(
+fn both_reported(
     rt: &HostRuntime,
     files: &[(&str, &[u8])],
     after: usize,
     words: &[&str],
     line: &'static [u8],
 ) -> Result<()> {
-    is_told(
+    ends_as(
         &failing_files(rt, files, after, ErrorKind::PermissionDenied),
         words,
         (3, line),
     )?;
-    is_told(
+    ends_as(
         &failing_files(rt, files, after, ErrorKind::OutOfMemory),
         words,
         (1, b"vmig: memory\n"),
@@ -245,7 +245,7 @@ fn failing_files<'r>(
     }
 }
 
-fn is_told(files: &Failing<'_>, words: &[&str], expected: End) -> Result<()> {
+fn ends_as(files: &Failing<'_>, words: &[&str], expected: End) -> Result<()> {
     let alloc = files.rt.alloc();
     let mut out: Vec<u8> = Vec::new(alloc);
     let mut err: Vec<u8> = Vec::new(alloc);

@@ -203,13 +203,13 @@ fn other_ends_fail(rt: &HostRuntime) -> Result<()> {
 fn output_fails(rt: &HostRuntime, call: &Call<'_>) -> Result<()> {
     for room in 0..=call.output.len() {
         let out = narrow_writer(rt.alloc(), room, false);
-        is_told(rt, call, out, (3, b"vmig: file -\n"))?;
+        ends_as(rt, call, out, (3, b"vmig: file -\n"))?;
     }
     let out = narrow_writer(rt.alloc(), call.output.len(), true);
-    is_told(rt, call, out, call.end)
+    ends_as(rt, call, out, call.end)
 }
 
-fn is_told(rt: &HostRuntime, call: &Call<'_>, mut out: Narrow, expected: End<'_>) -> Result<()> {
+fn ends_as(rt: &HostRuntime, call: &Call<'_>, mut out: Narrow, expected: End<'_>) -> Result<()> {
     let room = out.room;
     let mut err: Vec<u8> = Vec::new(rt.alloc());
     let status = execute(rt, call.words, &mut out, &mut err);

@@ -9,13 +9,13 @@ use Rattle.vmig_c.specs.Mirror.{is_closed}
 use Rattle.vmig_c.specs.Status.{idle, lent, mig_status, no_machine, work}
 
 -- The status and the two numbers of a step that was found. If none was, the numbers are unchanged.
-abbrev pub IsWorkTold : Option Work → ℕ → ℕ → ℕ → ℕ → ℕ → Type 0
-IsWorkTold (Some w) status dev old_dev pick old_pick = (status ≡ work) × (dev ≡ w.dev) × (pick ≡ w.pick)
-IsWorkTold None status dev old_dev pick old_pick = (status ≡ idle) × (dev ≡ old_dev) × (pick ≡ old_pick)
+abbrev pub NamesWork : Option Work → ℕ → ℕ → ℕ → ℕ → ℕ → Type 0
+NamesWork (Some w) status dev old_dev pick old_pick = (status ≡ work) × (dev ≡ w.dev) × (pick ≡ w.pick)
+NamesWork None status dev old_dev pick old_pick = (status ≡ idle) × (dev ≡ old_dev) × (pick ≡ old_pick)
 
 -- The first step, in turn, after the one that the numbers named.
 abbrev pub FindsWorkOf : Seen → ℕ → ℕ → ℕ → ℕ → ℕ → Type 0
-FindsWorkOf m status dev old_dev pick old_pick = IsWorkTold (next_work (state_of m).devices (record { dev = old_dev; pick = old_pick })) status dev old_dev pick old_pick
+FindsWorkOf m status dev old_dev pick old_pick = NamesWork (next_work (state_of m).devices (record { dev = old_dev; pick = old_pick })) status dev old_dev pick old_pick
 
 -- It was refused, and the numbers are unchanged.
 abbrev pub IsNoWork : ℕ → ℕ → ℕ → ℕ → ℕ → ℕ → Type 0

@@ -10,7 +10,7 @@ ghost use Rattle.vmig_c.specs.Admission.{AdmitsAt, is_within};
 ghost use Rattle.vmig_c.specs.AdmissionSeen as seen;
 ghost use Rattle.vmig_c.specs.Kept.{admission_of};
 
-use crate::arriving::stream_told;
+use crate::arriving::stream_status;
 use crate::images::count_in;
 use crate::status::{STREAM_FAILED, STREAM_TOO_LARGE};
 use machine::Shape;
@@ -96,7 +96,7 @@ fn compared(alloc: Global, limits: Limits, held: Vec<u8>, piece: &[u8]) -> Resul
     let few = piece.len().min(HEADING_MAX.saturating_sub(held.len()));
     let (front, _rest) = piece.split_at(few);
     if held.extend_from_slice(front).is_err() {
-        return Err(stream_told(RecvError::NoMemory));
+        return Err(stream_status(RecvError::NoMemory));
     }
     match read_heading(alloc, &held) {
         Ok(Some(header)) => {
@@ -106,7 +106,7 @@ fn compared(alloc: Global, limits: Limits, held: Vec<u8>, piece: &[u8]) -> Resul
             Err(STREAM_TOO_LARGE)
         }
         Ok(None) => Ok(Admission::Pending(limits, held)),
-        Err(error) => Err(stream_told(error)),
+        Err(error) => Err(stream_status(error)),
     }
 }
 

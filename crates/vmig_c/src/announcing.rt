@@ -6,7 +6,7 @@
 ghost use Rattle.std.specs.Prelude.{◌≡◌};
 ghost use Rattle.vmig_c.specs.Announced.{Announces, AnnouncesDevice};
 
-use crate::arriving::stream_told;
+use crate::arriving::stream_status;
 use crate::describing::tell;
 use crate::device_shape::DeviceShape;
 use crate::status::{DONE, MORE};
@@ -25,7 +25,7 @@ pub(crate) fn announced_size(alloc: Global, bytes: &[u8], pages: &mut u32, devic
             DONE
         }
         Ok(None) => MORE,
-        Err(error) => stream_told(error),
+        Err(error) => stream_status(error),
     }
 }
 
@@ -37,6 +37,6 @@ pub(crate) fn announced_device(alloc: Global, bytes: &[u8], dev: u8, shape: &mut
     match read_heading(alloc, bytes) {
         Ok(Some(header)) => tell(header.shapes.as_slice(), dev, shape),
         Ok(None) => MORE,
-        Err(error) => stream_told(error),
+        Err(error) => stream_status(error),
     }
 }

@@ -41,7 +41,7 @@ pub(crate) fn feed(alloc: Global, kept: &mut Kept, piece: &[u8]) -> u32
     ensures kind { kept.new ≡ record kept.old { state = kept.new.state; admission = kept.new.admission } }
 {
     match &mut kept.contents {
-        Contents::Arriving(arrival) => feed_told(alloc, &mut kept.admission, arrival, piece),
+        Contents::Arriving(arrival) => feed_arrival(alloc, &mut kept.admission, arrival, piece),
         Contents::ArrivingMapped(landing) => feed_landing(
             alloc,
             &mut kept.admission,
@@ -53,7 +53,12 @@ pub(crate) fn feed(alloc: Global, kept: &mut Kept, piece: &[u8]) -> u32
 }
 
 #[tactic(auto, using(crate::proofs::Arrivals::was_denied, crate::proofs::Arrivals::was_fed, crate::proofs::Arrivals::was_not_fed))]
-fn feed_told(alloc: Global, admission: &mut Admission, arrival: &mut Arrival, piece: &[u8]) -> u32
+fn feed_arrival(
+    alloc: Global,
+    admission: &mut Admission,
+    arrival: &mut Arrival,
+    piece: &[u8],
+) -> u32
     ensures { FeedsWithin (admission_of admission.old) arrival.old piece.now result (admission_of admission.new) arrival.new }
 {
     if let Some(status) = admission.ask(alloc, piece) {
@@ -61,7 +66,7 @@ fn feed_told(alloc: Global, admission: &mut Admission, arrival: &mut Arrival, pi
     }
     match arrival.feed(piece) {
         Ok(()) => DONE,
-        Err(error) => stream_told(error),
+        Err(error) => stream_status(error),
     }
 }
 
@@ -79,7 +84,7 @@ fn feed_landing(
     }
     match landing.feed(piece) {
         Ok(()) => DONE,
-        Err(error) => stream_told(error),
+        Err(error) => stream_status(error),
     }
 }
 
@@ -99,14 +104,14 @@ fn finished(alloc: Global, is_denied: bool, old: Contents) -> (Contents, u32)
     ensures kind { are_mapped result.0 ≡ are_mapped old }
 {
     match old {
-        Contents::Arriving(arrival) => finish_told(alloc, is_denied, arrival),
+        Contents::Arriving(arrival) => finish_arrival(alloc, is_denied, arrival),
         Contents::ArrivingMapped(landing) => finish_landing(is_denied, landing),
         contents => (contents, IN_USE),
     }
 }
 
 /// The end of an arrival; where its stream was denied it stays as it is.
-fn finish_told(alloc: Global, is_denied: bool, arrival: Arrival) -> (Contents, u32)
+fn finish_arrival(alloc: Global, is_denied: bool, arrival: Arrival) -> (Contents, u32)
     ensures ends { EndsIf is_denied arrival result.1 (state_in result.0) }
     ensures own { are_mapped result.0 ≡ false }
 {
@@ -117,7 +122,7 @@ fn finish_told(alloc: Global, is_denied: bool, arrival: Arrival) -> (Contents, u
         Ok(machine) => (Contents::Still(machine), DONE),
         Err(error) => {
             let failed = Contents::Arriving(Arrival::failed(alloc));
-            (failed, stream_told(error))
+            (failed, stream_status(error))
         }
     }
 }
@@ -132,7 +137,7 @@ fn finish_landing(is_denied: bool, landing: Landing) -> (Contents, u32)
     }
     match landing.finish() {
         Ok(machine) => (Contents::StillMapped(machine), DONE),
-        Err((error, landing)) => (Contents::ArrivingMapped(landing), stream_told(error)),
+        Err((error, landing)) => (Contents::ArrivingMapped(landing), stream_status(error)),
     }
 }
 
@@ -177,7 +182,7 @@ fn number_of(whole: bool) -> u32
 }
 
 /// The status for a stream that is refused for good.
-pub(crate) fn stream_told(error: RecvError) -> u32
+pub(crate) fn stream_status(error: RecvError) -> u32
     ensures { result ≡ stream_status error }
 {
     32 + error.code() as u32

@@ -20,13 +20,13 @@ pub(crate) fn size_kept(kept: &Kept, pages: &mut u32, devices: &mut u32) -> u32
     ensures { SizesKept kept.now.state result pages.new pages.old devices.new devices.old }
 {
     by_state!(&kept.contents;
-        still(machine) => size_told(machine, pages, devices),
-        moving(live) => size_told(live.machine(), pages, devices),
-        lent(loan) => lent_size_told(loan, pages, devices),
+        still(machine) => size_status(machine, pages, devices),
+        moving(live) => size_status(live.machine(), pages, devices),
+        lent(loan) => lent_size_status(loan, pages, devices),
     )
 }
 
-fn size_told<D: Disk>(machine: &Machine<D>, pages: &mut u32, devices: &mut u32) -> u32
+fn size_status<D: Disk>(machine: &Machine<D>, pages: &mut u32, devices: &mut u32) -> u32
     ensures { IsSized (state_of machine.now) result pages.new devices.new }
 {
     let shapes = machine.shapes();
@@ -36,7 +36,7 @@ fn size_told<D: Disk>(machine: &Machine<D>, pages: &mut u32, devices: &mut u32) 
 }
 
 /// As above, while its RAM is lent.
-fn lent_size_told(loan: &Loan, pages: &mut u32, devices: &mut u32) -> u32
+fn lent_size_status(loan: &Loan, pages: &mut u32, devices: &mut u32) -> u32
     ensures { IsSizedLent (parked_in (loan_of loan.now)) result pages.new devices.new }
 {
     *pages = loan.pages() as u32;
@@ -49,13 +49,13 @@ pub(crate) fn base_kept(kept: &Kept, base: &mut u64) -> u32
     ensures { BasesKept kept.now.state result base.new base.old }
 {
     by_state!(&kept.contents;
-        still(machine) => base_told(machine, base),
-        moving(live) => base_told(live.machine(), base),
-        lent(loan) => lent_base_told(loan, base),
+        still(machine) => base_status(machine, base),
+        moving(live) => base_status(live.machine(), base),
+        lent(loan) => lent_base_status(loan, base),
     )
 }
 
-fn base_told<D: Disk>(machine: &Machine<D>, base: &mut u64) -> u32
+fn base_status<D: Disk>(machine: &Machine<D>, base: &mut u64) -> u32
     ensures { IsBased (state_of machine.now).devices result base.new }
 {
     *base = machine.base();
@@ -63,7 +63,7 @@ fn base_told<D: Disk>(machine: &Machine<D>, base: &mut u64) -> u32
 }
 
 /// As above, while its RAM is lent.
-fn lent_base_told(loan: &Loan, base: &mut u64) -> u32
+fn lent_base_status(loan: &Loan, base: &mut u64) -> u32
     ensures { IsBased (map (λ d. d.state) (parked_in (loan_of loan.now)).devices) result base.new }
 {
     *base = loan.base();
@@ -75,13 +75,13 @@ pub(crate) fn describe_kept(kept: &Kept, dev: u8, shape: &mut DeviceShape) -> u3
     ensures { DescribesKept kept.now.state dev result shape.new shape.old }
 {
     by_state!(&kept.contents;
-        still(machine) => device_told(machine, dev, shape),
-        moving(live) => device_told(live.machine(), dev, shape),
+        still(machine) => shape_status(machine, dev, shape),
+        moving(live) => shape_status(live.machine(), dev, shape),
         lent(loan) => tell(loan.shapes(), dev, shape),
     )
 }
 
-fn device_told<D: Disk>(machine: &Machine<D>, dev: u8, shape: &mut DeviceShape) -> u32
+fn shape_status<D: Disk>(machine: &Machine<D>, dev: u8, shape: &mut DeviceShape) -> u32
     ensures { TellsOf (state_of machine.now) dev result shape.new shape.old }
 {
     tell(machine.shapes(), dev, shape)

@@ -9,7 +9,7 @@ ghost use Rattle.sender.specs.declared.event.LiveEvent.TheVariants as live_event
 
 use crate::arrival::Arrival;
 use crate::kept::{Contents, Kept, Moving, by_state};
-use crate::status::{DONE, LENT, NO_MACHINE, NO_MEMORY, NOT_BEGUN, mig_told};
+use crate::status::{DONE, LENT, NO_MACHINE, NO_MEMORY, NOT_BEGUN, mig_status};
 use machine::{Disk, Machine};
 use sender::{CopyAnswer, End, Item, LiveWaiting, Stopped};
 use std::alloc::Global;
@@ -96,7 +96,7 @@ fn begun_again<D: Disk>(live: Moving<D>) -> (Moving<D>, u32)
     live.recall();
     match live.begin() {
         Ok(_) => (live, DONE),
-        Err(error) => (live, mig_told(error)),
+        Err(error) => (live, mig_status(error)),
     }
 }
 
@@ -108,12 +108,12 @@ pub(crate) fn copy(kept: &mut Kept, dev: &mut u8, number: &mut u32) -> u32
 {
     by_state!(&mut kept.contents;
         still(_) => NOT_BEGUN,
-        moving(live) => copy_told(live, dev, number),
+        moving(live) => copy_status(live, dev, number),
     )
 }
 
 #[tactic(auto, using(crate::proofs::Migration::copied))]
-fn copy_told<D: Disk>(live: &mut Moving<D>, dev: &mut u8, number: &mut u32) -> u32
+fn copy_status<D: Disk>(live: &mut Moving<D>, dev: &mut u8, number: &mut u32) -> u32
     ensures { HasCopied live.old result dev.new dev.old number.new number.old live.new }
 {
     live.recall();
@@ -128,7 +128,7 @@ fn copy_told<D: Disk>(live: &mut Moving<D>, dev: &mut u8, number: &mut u32) -> u
             SECTOR
         }
         Ok(CopyAnswer::RoundDone) => ROUND_DONE,
-        Err(error) => mig_told(error),
+        Err(error) => mig_status(error),
     }
 }
 
@@ -140,12 +140,12 @@ pub(crate) fn end_round(kept: &mut Kept, round: &mut u32) -> u32
 {
     by_state!(&mut kept.contents;
         still(_) => NOT_BEGUN,
-        moving(live) => end_told(live, round),
+        moving(live) => end_status(live, round),
     )
 }
 
 #[tactic(auto, using(crate::proofs::ByKept::served))]
-fn end_told<D: Disk>(live: &mut Moving<D>, round: &mut u32) -> u32
+fn end_status<D: Disk>(live: &mut Moving<D>, round: &mut u32) -> u32
     ensures { IsServed live.old live_events.EndRound result round.new round.old live.new }
 {
     live.recall();
@@ -155,7 +155,7 @@ fn end_told<D: Disk>(live: &mut Moving<D>, round: &mut u32) -> u32
             DONE
         }
         Ok(End::RoundOpen) => ROUND_OPEN,
-        Err(error) => mig_told(error),
+        Err(error) => mig_status(error),
     }
 }
 
@@ -167,12 +167,12 @@ pub(crate) fn stop(kept: &mut Kept, pages: &mut u64, sectors: &mut u64) -> u32
 {
     by_state!(&mut kept.contents;
         still(_) => NOT_BEGUN,
-        moving(live) => stop_told(live, pages, sectors),
+        moving(live) => stop_status(live, pages, sectors),
     )
 }
 
 #[tactic(auto, using(crate::proofs::Migration::stopped))]
-fn stop_told<D: Disk>(live: &mut Moving<D>, pages: &mut u64, sectors: &mut u64) -> u32
+fn stop_status<D: Disk>(live: &mut Moving<D>, pages: &mut u64, sectors: &mut u64) -> u32
     ensures { HasStopped live.old result pages.new pages.old sectors.new sectors.old live.new }
 {
     live.recall();
@@ -187,7 +187,7 @@ fn stop_told<D: Disk>(live: &mut Moving<D>, pages: &mut u64, sectors: &mut u64) 
             *sectors = also;
             DONE
         }
-        Err(error) => mig_told(error),
+        Err(error) => mig_status(error),
     }
 }
 
@@ -222,11 +222,11 @@ pub(crate) fn remaining(kept: &Kept, due: &mut u64, dirty: &mut u64) -> u32
 {
     by_state!(&kept.contents;
         still(_) => NOT_BEGUN,
-        moving(live) => remaining_told(live, due, dirty),
+        moving(live) => remaining_status(live, due, dirty),
     )
 }
 
-fn remaining_told<D: Disk>(live: &Moving<D>, due: &mut u64, dirty: &mut u64) -> u32
+fn remaining_status<D: Disk>(live: &Moving<D>, due: &mut u64, dirty: &mut u64) -> u32
     ensures { RemainsKept (states.Moving live.now) result due.new due.old dirty.new dirty.old }
 {
     let left = live.remaining();
@@ -243,12 +243,12 @@ pub(crate) fn take(kept: &mut Kept, buf: &mut [u8], got: &mut usize) -> u32
 {
     by_state!(&mut kept.contents;
         still(_) => NOT_BEGUN,
-        moving(live) => take_told(live, buf, got),
+        moving(live) => take_status(live, buf, got),
         lent(loan) => loan.take(buf, got),
     )
 }
 
-fn take_told<D: Disk>(live: &mut Moving<D>, buf: &mut [u8], got: &mut usize) -> u32
+fn take_status<D: Disk>(live: &mut Moving<D>, buf: &mut [u8], got: &mut usize) -> u32
     ensures { HasTaken live.old result got.new buf.old buf.new live.new }
 {
     *got = live.take(buf);

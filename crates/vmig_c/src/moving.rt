@@ -27,14 +27,14 @@ pub(crate) fn save_kept(alloc: Global, kept: &mut Kept, buf: &mut [u8], len: &mu
     ensures kind { kept.new ≡ record kept.old { state = kept.new.state } }
 {
     by_state!(&mut kept.contents;
-        still(machine) => save_told(alloc, machine, buf, len),
+        still(machine) => save_status(alloc, machine, buf, len),
         moving(_) => IS_MOVING,
     )
 }
 
 /// Saves a machine into a buffer. `len` becomes the length of its stream, also if the buffer is too small.
 #[tactic(auto, using(crate::proofs::Streams::put, crate::proofs::Streams::not_put, crate::proofs::Streams::not_made))]
-fn save_told<D: Disk>(
+fn save_status<D: Disk>(
     alloc: Global,
     machine: &mut Machine<D>,
     buf: &mut [u8],

@@ -6,8 +6,8 @@ ghost use Rattle.sender.specs.declared.event.LiveEvent.TheVariants as live_event
 ghost use Rattle.vmig_c.specs.Told.{IsServed, ReadsKept, Tells, TellsSo, lines_in};
 
 use crate::kept::{Kept, Moving, by_state};
-use crate::status::{answer_told, done_told, written_told};
-use crate::stepping::reply_told;
+use crate::status::{answer_status, done_status, written_status};
+use crate::stepping::reply_status;
 use machine::Disk;
 
 /// The driver reads a register.
@@ -17,18 +17,18 @@ pub(crate) fn read_register(kept: &mut Kept, dev: u8, off: u32, width: u8, value
     ensures kind { kept.new ≡ record kept.old { state = kept.new.state } }
 {
     by_state!(&mut kept.contents;
-        still(machine) => answer_told(machine.read_register(dev, off, width), value),
-        moving(live) => value_told(live, dev, off, width, value),
+        still(machine) => answer_status(machine.read_register(dev, off, width), value),
+        moving(live) => value_status(live, dev, off, width, value),
     )
 }
 
 /// As above, for a machine that is being migrated.
 #[tactic(auto, using(crate::proofs::ByKept::served, crate::proofs::ByKept::few_told))]
-fn value_told<D: Disk>(live: &mut Moving<D>, dev: u8, off: u32, width: u8, value: &mut u32) -> u32
+fn value_status<D: Disk>(live: &mut Moving<D>, dev: u8, off: u32, width: u8, value: &mut u32) -> u32
     ensures { IsServed live.old (live_events.Guest (events.RegRead dev off width)) result value.new value.old live.new }
 {
     live.recall();
-    reply_told(live.read_register(dev, off, width), value)
+    reply_status(live.read_register(dev, off, width), value)
 }
 
 /// The driver writes a register.
@@ -45,14 +45,14 @@ pub(crate) fn write_register(
     ensures kind { kept.new ≡ record kept.old { state = kept.new.state } }
 {
     by_state!(&mut kept.contents;
-        still(machine) => written_told(machine.write_register(dev, off, width, value), out),
-        moving(live) => out_told(live, dev, off, width, value, out),
+        still(machine) => written_status(machine.write_register(dev, off, width, value), out),
+        moving(live) => out_status(live, dev, off, width, value, out),
     )
 }
 
 /// As above, for a machine that is being migrated.
 #[tactic(auto, using(crate::proofs::ByKept::served, crate::proofs::ByKept::few_told))]
-fn out_told<D: Disk>(
+fn out_status<D: Disk>(
     live: &mut Moving<D>,
     dev: u8,
     off: u32,
@@ -63,7 +63,7 @@ fn out_told<D: Disk>(
     ensures { IsServed live.old (live_events.Guest (events.RegWrite dev off width value)) result out.new out.old live.new }
 {
     live.recall();
-    reply_told(live.write_register(dev, off, width, value), out)
+    reply_status(live.write_register(dev, off, width, value), out)
 }
 
 /// The guest reads RAM. It takes no memory, also for a machine that is being migrated.
@@ -71,8 +71,8 @@ pub(crate) fn read_ram(kept: &Kept, addr: u64, buf: &mut [u8]) -> u32
     ensures { ReadsKept kept.now.state addr result buf.old buf.new }
 {
     by_state!(&kept.contents;
-        still(machine) => done_told(machine.read_ram(addr, buf)),
-        moving(live) => done_told(live.machine().read_ram(addr, buf)),
+        still(machine) => done_status(machine.read_ram(addr, buf)),
+        moving(live) => done_status(live.machine().read_ram(addr, buf)),
     )
 }
 
@@ -95,19 +95,19 @@ pub(crate) fn write_ram(kept: &mut Kept, addr: u64, bytes: &[u8]) -> u32
     ensures kind { kept.new ≡ record kept.old { state = kept.new.state } }
 {
     by_state!(&mut kept.contents;
-        still(machine) => done_told(machine.write_ram(addr, bytes)),
-        moving(live) => write_told(live, addr, bytes),
+        still(machine) => done_status(machine.write_ram(addr, bytes)),
+        moving(live) => write_status(live, addr, bytes),
     )
 }
 
 /// As above, for a machine that is being migrated.
 #[tactic(auto, using(crate::proofs::ByKept::written, crate::proofs::ByKept::few_told))]
-fn write_told<D: Disk>(live: &mut Moving<D>, addr: u64, bytes: &[u8]) -> u32
+fn write_status<D: Disk>(live: &mut Moving<D>, addr: u64, bytes: &[u8]) -> u32
     ensures { IsServed live.old (live_events.Guest (events.MemWrite addr bytes.now)) result 0 0 live.new }
 {
     let mut none = 0;
     live.recall();
-    reply_told(live.write_ram(addr, bytes), &mut none)
+    reply_status(live.write_ram(addr, bytes), &mut none)
 }
 
 /// The host puts bytes in.
@@ -117,18 +117,18 @@ pub(crate) fn input(kept: &mut Kept, dev: u8, bytes: &[u8], accepted: &mut u32) 
     ensures kind { kept.new ≡ record kept.old { state = kept.new.state } }
 {
     by_state!(&mut kept.contents;
-        still(machine) => answer_told(machine.input(dev, bytes), accepted),
-        moving(live) => input_told(live, dev, bytes, accepted),
+        still(machine) => answer_status(machine.input(dev, bytes), accepted),
+        moving(live) => input_status(live, dev, bytes, accepted),
     )
 }
 
 /// As above, for a machine that is being migrated.
 #[tactic(auto, using(crate::proofs::ByKept::served, crate::proofs::ByKept::few_told))]
-fn input_told<D: Disk>(live: &mut Moving<D>, dev: u8, bytes: &[u8], accepted: &mut u32) -> u32
+fn input_status<D: Disk>(live: &mut Moving<D>, dev: u8, bytes: &[u8], accepted: &mut u32) -> u32
     ensures { IsServed live.old (live_events.Guest (events.Input dev bytes.now)) result accepted.new accepted.old live.new }
 {
     live.recall();
-    reply_told(live.input(dev, bytes), accepted)
+    reply_status(live.input(dev, bytes), accepted)
 }
 
 /// The host sets the size of a console.
@@ -138,17 +138,17 @@ pub(crate) fn resize(kept: &mut Kept, dev: u8, cols: u16, rows: u16) -> u32
     ensures kind { kept.new ≡ record kept.old { state = kept.new.state } }
 {
     by_state!(&mut kept.contents;
-        still(machine) => done_told(machine.resize(dev, cols, rows)),
-        moving(live) => resize_told(live, dev, cols, rows),
+        still(machine) => done_status(machine.resize(dev, cols, rows)),
+        moving(live) => resize_status(live, dev, cols, rows),
     )
 }
 
 /// As above, for a machine that is being migrated.
 #[tactic(auto, using(crate::proofs::ByKept::resized, crate::proofs::ByKept::few_told))]
-fn resize_told<D: Disk>(live: &mut Moving<D>, dev: u8, cols: u16, rows: u16) -> u32
+fn resize_status<D: Disk>(live: &mut Moving<D>, dev: u8, cols: u16, rows: u16) -> u32
     ensures { IsServed live.old (live_events.Guest (events.Resize dev cols rows)) result 0 0 live.new }
 {
     let mut none = 0;
     live.recall();
-    reply_told(live.resize(dev, cols, rows), &mut none)
+    reply_status(live.resize(dev, cols, rows), &mut none)
 }

@@ -22,7 +22,7 @@ ghost use Rattle.vmig_c.specs.Mirror.{is_closed};
 use crate::kept::{Kept, Moving, by_state};
 use crate::status::{
     DISK_FAILED, DISK_LOST, DONE, LENT, NO_DEVICE, NO_MACHINE, STOPPED, SYNC, SYNC_FAILED,
-    WRONG_KIND, mig_told,
+    WRONG_KIND, mig_status,
 };
 use blk::SyncOwed;
 use machine::{Disk, Kind, Machine};
@@ -172,6 +172,6 @@ fn fail_live_flush<D: Disk>(live: &mut Moving<D>, dev: u8, pick: u8) -> u32
     match live.fail_flush(dev, pick) {
         Ok(true) => DISK_FAILED,
         Ok(false) => SYNC_FAILED,
-        Err(error) => mig_told(error),
+        Err(error) => mig_status(error),
     }
 }

@@ -16,23 +16,23 @@ pub(crate) fn next_work(kept: &Kept, dev: &mut u8, pick: &mut u8) -> u32
     ensures { FindsWork kept.now.state result dev.new dev.old pick.new pick.old }
 {
     by_state!(&kept.contents;
-        still(machine) => work_told(machine, dev, pick),
-        moving(live) => live_work_told(live, dev, pick),
+        still(machine) => work_status(machine, dev, pick),
+        moving(live) => live_work_status(live, dev, pick),
     )
 }
 
 /// As above, for a machine that is being migrated. One that was stopped makes no steps.
-fn live_work_told<D: Disk>(live: &Moving<D>, dev: &mut u8, pick: &mut u8) -> u32
+fn live_work_status<D: Disk>(live: &Moving<D>, dev: &mut u8, pick: &mut u8) -> u32
     ensures { FindsWork (states.Moving live.now) result dev.new dev.old pick.new pick.old }
 {
     match live.phase() {
         Phase::Stopped => STOPPED,
-        _ => work_told(live.machine(), dev, pick),
+        _ => work_status(live.machine(), dev, pick),
     }
 }
 
 /// The status of the next step with something to do, and its numbers. Where there is none, they stay.
-fn work_told<D: Disk>(machine: &Machine<D>, dev: &mut u8, pick: &mut u8) -> u32
+fn work_status<D: Disk>(machine: &Machine<D>, dev: &mut u8, pick: &mut u8) -> u32
     ensures { FindsWorkOf machine.now result dev.new dev.old pick.new pick.old }
 {
     let last = Work {

@@ -5,7 +5,7 @@ use Rattle.vmig_c.proofs.Awaited.{cut_piece}
 use Rattle.vmig_c.proofs.admission.compared.Goals as goal
 
 pub returns-then-is_err-clause-refused : goal.returns-then-is_err-clause-refused
-returns-then-is_err-clause-refused c = full c.args.limits _ _ c.stream_told.ensures
+returns-then-is_err-clause-refused c = full c.args.limits _ _ c.stream_status.ensures
 
 pub returns-then-is_within-clause-let_in : goal.returns-then-is_within-clause-let_in
 returns-then-is_within-clause-let_in c =
@@ -25,4 +25,4 @@ pub returns-in-Err-clause-refused : goal.returns-in-Err-clause-refused
 returns-in-Err-clause-refused c =
     let held : c.deref.result.now ≡ c.args.held.items ++ c.split_at.result.0.now = search rules in
     faulty c.args.limits _ c.deref.result.now c.split_at.result.1.now c.in-Err.error _
-    (cut_piece c.args.held.items c.deref.result.now c.args.piece.now _ _ c.min-few.result held (search rules) (search rules)) c.in-Err.ensures.refused c.stream_told-in-Err.ensures
+    (cut_piece c.args.held.items c.deref.result.now c.args.piece.now _ _ c.min-few.result held (search rules) (search rules)) c.in-Err.ensures.refused c.stream_status-in-Err.ensures
