@@ -22,6 +22,7 @@ mod MigrationCalls
 mod Mirrored
 mod Mirroring
 mod NextWork
+mod OnHandle
 mod Options
 mod OverContents
 mod OverRam

@@ -199,7 +199,7 @@ pub extern "C" fn vmig_free(alloc: Global, machine: &mut Handle)
 
 /// The driver reads a register.
 #[unsafe(no_mangle)]
-#[tactic(auto, using(crate::proofs::ByHandle::told_none, crate::proofs::ByHandle::told_some))]
+#[tactic(auto, using(crate::proofs::OnHandle::on_none, crate::proofs::OnHandle::on_some))]
 pub extern "C" fn vmig_reg_read(
     machine: &mut Handle,
     dev: u8,
@@ -217,7 +217,7 @@ pub extern "C" fn vmig_reg_read(
 
 /// The driver writes a register.
 #[unsafe(no_mangle)]
-#[tactic(auto, using(crate::proofs::ByHandle::told_none, crate::proofs::ByHandle::told_some))]
+#[tactic(auto, using(crate::proofs::OnHandle::on_none, crate::proofs::OnHandle::on_some))]
 pub extern "C" fn vmig_reg_write(
     machine: &mut Handle,
     dev: u8,
@@ -249,7 +249,7 @@ pub extern "C" fn vmig_ram_read(machine: &mut Handle, addr: u64, buf: &mut [u8])
 
 /// The guest writes RAM. It takes no memory.
 #[unsafe(no_mangle)]
-#[tactic(auto, using(crate::proofs::ByHandle::told_none, crate::proofs::ByHandle::told_some))]
+#[tactic(auto, using(crate::proofs::OnHandle::on_none, crate::proofs::OnHandle::on_some))]
 pub extern "C" fn vmig_ram_write(machine: &mut Handle, addr: u64, bytes: &[u8]) -> u32
     ensures { ToldSo machine.old.machine (events.MemWrite addr bytes.now) result machine.new.machine }
 {
@@ -358,7 +358,7 @@ pub extern "C" fn vmig_give_back_all(alloc: Global, machine: &mut Handle, ram: &
 /// A device does one piece of its work. What it sends goes to the front of the buffer; a step that may send more than the
 /// buffer holds is not done. Where its disk is lost, a flush fails, and a write that the driver would then take for durable does not end.
 #[unsafe(no_mangle)]
-#[tactic(auto, using(crate::proofs::ByHandle::stepped_none, crate::proofs::ByHandle::stepped_some))]
+#[tactic(auto, using(crate::proofs::OnHandle::on_none, crate::proofs::OnHandle::on_some))]
 pub extern "C" fn vmig_step(
     machine: &mut Handle,
     dev: u8,
@@ -389,7 +389,7 @@ pub extern "C" fn vmig_next_work(machine: &mut Handle, dev: &mut u8, pick: &mut 
 
 /// The host puts bytes in. It takes no memory.
 #[unsafe(no_mangle)]
-#[tactic(auto, using(crate::proofs::ByHandle::told_none, crate::proofs::ByHandle::told_some))]
+#[tactic(auto, using(crate::proofs::OnHandle::on_none, crate::proofs::OnHandle::on_some))]
 pub extern "C" fn vmig_input(machine: &mut Handle, dev: u8, bytes: &[u8], accepted: &mut u32) -> u32
     ensures { Told machine.old.machine (events.Input dev bytes.now) result accepted.new accepted.old machine.new.machine }
 {
@@ -401,7 +401,7 @@ pub extern "C" fn vmig_input(machine: &mut Handle, dev: u8, bytes: &[u8], accept
 
 /// The host sets the size of a console, in characters.
 #[unsafe(no_mangle)]
-#[tactic(auto, using(crate::proofs::ByHandle::told_none, crate::proofs::ByHandle::told_some))]
+#[tactic(auto, using(crate::proofs::OnHandle::on_none, crate::proofs::OnHandle::on_some))]
 pub extern "C" fn vmig_resize(machine: &mut Handle, dev: u8, cols: u16, rows: u16) -> u32
     ensures { ToldSo machine.old.machine (events.Resize dev cols rows) result machine.new.machine }
 {
