@@ -11,17 +11,14 @@ mod Failing
 mod Handing
 mod Imaging
 mod Landings
-mod Lengths
 mod Lent
 mod LentCalls
 mod LentSent
 mod MappingImages
 mod Marking
 mod Migration
-mod MigrationCalls
 mod Mirrored
 mod Mirroring
-mod NextWork
 mod OnHandle
 mod Options
 mod OverContents
