@@ -12,7 +12,6 @@ mod Handing
 mod Imaging
 mod Landings
 mod Lent
-mod LentCalls
 mod LentSent
 mod MappingImages
 mod Marking

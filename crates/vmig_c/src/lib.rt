@@ -263,7 +263,7 @@ pub extern "C" fn vmig_ram_write(machine: &mut Handle, addr: u64, bytes: &[u8]) 
 
 /// Copies the pages with these numbers from the caller's RAM into the machine's, and notes their versions. It takes no memory.
 #[unsafe(no_mangle)]
-#[tactic(auto, using(crate::proofs::Mirroring::pushed_none, crate::proofs::Mirroring::pushed_some))]
+#[tactic(auto, using(crate::proofs::OnHandle::on_none, crate::proofs::OnHandle::on_some))]
 pub extern "C" fn vmig_push(
     machine: &mut Handle,
     pages: &[u32],
@@ -281,7 +281,7 @@ pub extern "C" fn vmig_push(
 /// Copies into the caller's RAM each page whose version is not the one that the caller noted, or is the greatest, and notes its
 /// version. It takes no memory.
 #[unsafe(no_mangle)]
-#[tactic(auto, using(crate::proofs::Mirroring::pulled_none, crate::proofs::Mirroring::pulled_some))]
+#[tactic(auto, using(crate::proofs::OnHandle::of_none, crate::proofs::OnHandle::of_some))]
 pub extern "C" fn vmig_pull(
     machine: &mut Handle,
     ram: &mut [u8],
@@ -300,7 +300,7 @@ pub extern "C" fn vmig_pull(
 /// Lends the RAM of the machine to the caller, in whose memory it lies: it goes into the slot, which has to be free. It takes no memory,
 /// and no longer for a larger RAM.
 #[unsafe(no_mangle)]
-#[tactic(auto, using(crate::proofs::LentCalls::lends_none, crate::proofs::LentCalls::lends_some))]
+#[tactic(auto, using(crate::proofs::OnHandle::on_none, crate::proofs::OnHandle::on_some))]
 pub extern "C" fn vmig_lend(alloc: Global, machine: &mut Handle, ram: &mut Slot) -> u32
     ensures { Lends machine.old.machine ram.old result ram.new machine.new.machine }
 {
@@ -313,7 +313,7 @@ pub extern "C" fn vmig_lend(alloc: Global, machine: &mut Handle, ram: &mut Slot)
 /// Gives the RAM back that lies in the slot, and in which the pages with these numbers were written. It takes no memory, and time for
 /// these pages alone.
 #[unsafe(no_mangle)]
-#[tactic(auto, using(crate::proofs::LentCalls::backs_none, crate::proofs::LentCalls::backs_some))]
+#[tactic(auto, using(crate::proofs::OnHandle::on_none, crate::proofs::OnHandle::on_some))]
 pub extern "C" fn vmig_give_back(
     alloc: Global,
     machine: &mut Handle,
@@ -330,7 +330,7 @@ pub extern "C" fn vmig_give_back(
 
 /// As above, with the pages that are marked in a bitmap: page n by bit n, the lowest bit of the first word first.
 #[unsafe(no_mangle)]
-#[tactic(auto, using(crate::proofs::LentCalls::marks_none, crate::proofs::LentCalls::marks_some))]
+#[tactic(auto, using(crate::proofs::OnHandle::on_none, crate::proofs::OnHandle::on_some))]
 pub extern "C" fn vmig_give_back_marked(
     alloc: Global,
     machine: &mut Handle,
@@ -347,7 +347,7 @@ pub extern "C" fn vmig_give_back_marked(
 
 /// As above, with all pages.
 #[unsafe(no_mangle)]
-#[tactic(auto, using(crate::proofs::LentCalls::whole_none, crate::proofs::LentCalls::whole_some))]
+#[tactic(auto, using(crate::proofs::OnHandle::on_none, crate::proofs::OnHandle::on_some))]
 pub extern "C" fn vmig_give_back_all(alloc: Global, machine: &mut Handle, ram: &mut Slot) -> u32
     ensures { GivesBackWhole machine.old.machine ram.old result ram.new machine.new.machine }
 {
@@ -710,7 +710,7 @@ pub extern "C" fn vmig_feed(alloc: Global, machine: &mut Handle, bytes: &[u8]) -
 
 /// Ends an arrival after its last piece: the handle has the machine, or its stream is refused.
 #[unsafe(no_mangle)]
-#[tactic(auto, using(crate::proofs::ArrivalCalls::finished_none, crate::proofs::ArrivalCalls::finished_some))]
+#[tactic(auto, using(crate::proofs::OnHandle::on_none, crate::proofs::OnHandle::on_some))]
 pub extern "C" fn vmig_finish(alloc: Global, machine: &mut Handle) -> u32
     ensures { Finished machine.old.machine result machine.new.machine }
 {
@@ -722,7 +722,7 @@ pub extern "C" fn vmig_finish(alloc: Global, machine: &mut Handle) -> u32
 
 /// The number of rounds that ended in the bytes that arrived.
 #[unsafe(no_mangle)]
-#[tactic(auto, using(crate::proofs::ArrivalCalls::counted_none, crate::proofs::ArrivalCalls::counted_some))]
+#[tactic(auto, using(crate::proofs::OnHandle::of_none, crate::proofs::OnHandle::of_some))]
 pub extern "C" fn vmig_rounds(machine: &mut Handle, ended: &mut u32) -> u32
     ensures rounds { Counted machine.old.machine result ended.new ended.old }
     ensures same { machine.new.machine ≡ machine.old.machine }
@@ -735,7 +735,7 @@ pub extern "C" fn vmig_rounds(machine: &mut Handle, ended: &mut u32) -> u32
 
 /// Whether the end of the stream has arrived, and nothing was refused: 1, or 0.
 #[unsafe(no_mangle)]
-#[tactic(auto, using(crate::proofs::ArrivalCalls::whole_none, crate::proofs::ArrivalCalls::whole_some))]
+#[tactic(auto, using(crate::proofs::OnHandle::of_none, crate::proofs::OnHandle::of_some))]
 pub extern "C" fn vmig_is_whole(machine: &mut Handle, whole: &mut u32) -> u32
     ensures whole { ToldWhole machine.old.machine result whole.new whole.old }
     ensures same { machine.new.machine ≡ machine.old.machine }
