@@ -404,6 +404,17 @@ impl<D: Disk, W: Digesting> LiveOver<D, W> {
         Ok(Reply::from_accepted(self.machine.input(dev, bytes)))
     }
 
+    /// The host drops what it has put in and the guest has not yet taken. As `apply` of that event.
+    #[tactic(auto, using(crate::proofs::Living::guest_refused))]
+    pub fn drop_input(&mut self, dev: u8) -> Result<Reply, MigError>
+        ensures served { Serves self.old (LiveEvent.Guest (events.Drop dev)) (guest_reply result) self.new }
+        ensures calls { HasLiveCalled D.called self.old (LiveEvent.Guest (events.Drop dev)) (guest_reply result) self.new }
+    {
+        self.running()?;
+        let answer = self.machine.drop_input(dev);
+        Ok(Reply::from_done(answer))
+    }
+
     /// Begins: the header is written, and every item is due.
     pub fn begin(&mut self) -> Result<u32, MigError>
         ensures served { Serves self.old LiveEvent.Begin (begun_reply result) self.new }
