@@ -82,6 +82,13 @@ impl HostBytes {
         self.held.fill_from_slice(bytes)
     }
 
+    /// Drops all of them.
+    pub fn clear(&mut self)
+        ensures { self.new ≡ [] }
+    {
+        self.held.clear();
+    }
+
     /// The bytes, as two slices one after the other.
     pub fn as_slices(&self) -> (&[u8], &[u8])
         ensures { result.0.now ++ result.1.now ≡ self.now }

@@ -24,6 +24,7 @@ const TEXT: MessageForm = MessageForm {
 
 /// Reads all the text of the next chain of the transmit queue, and publishes the chain. Memory may be refused for a long chain, or for
 /// the text.
+#[inline(always)]
 pub fn transmit<R: Ring, L: TouchLog>(
     site: Site,
     ring: &mut R,

@@ -1,4 +1,4 @@
-mod Counts
+pub mod Counts
 mod Changed
 mod Zeros
 mod Rest

@@ -1,6 +1,6 @@
 //! A set of numbers.
 
-ghost use Rattle.std.specs.Prelude.{◌≡◌, ◌<◌, ◌≤◌, ◌↔◌, ◌+◌, ◌*◌, ◌/◌, ◌^◌, IsTrue, length, replicate, slice_set, true, false, IfOk};
+ghost use Rattle.std.specs.Prelude.{◌≡◌, ◌<◌, ◌≤◌, ◌↔◌, ◌+◌, ◌*◌, ◌/◌, ◌^◌, IsTrue, drop, length, replicate, slice_set, take, true, false, IfOk};
 ghost use Rattle.dirtylog.specs.Members.{has, HasNone, IsLeastFrom, LooksThrough, member_count};
 ghost use Rattle.dirtylog.specs.Words.{HasRoomFor};
 
@@ -130,6 +130,19 @@ impl BitSet {
         ensures { result ≡ member_count self.now }
     {
         self.members
+    }
+
+    /// How many members are below this number. It looks at each number below it.
+    pub fn count_below(&self, n: u64) -> u64
+        requires { n ≤ length self.now }
+        ensures below { result ≡ member_count (take n self.now) }
+        ensures rest { member_count self.now ≡ result + member_count (drop n self.now) }
+    {
+        let mut count = 0;
+        for k in 0..n {
+            count += self.contains(k) as u64;
+        }
+        count
     }
 
     /// Gives all members to another set of the same length, which has none. Afterwards this one has none.

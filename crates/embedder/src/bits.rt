@@ -19,6 +19,10 @@ pub fn agree(alloc: Global) -> Result<()> {
     ensure!(set.contains(4096) && !set.contains(64), "members");
     ensure!(set.first_from(1) == Some(4096), "the least member");
     ensure!(set.first_counted(1).0 == Some(4096), "the same, counted");
+    ensure!(
+        set.count_below(4096) == 1 && set.count_below(LEN) == 2,
+        "the members below a number"
+    );
     let mut other = BitSet::new(alloc, LEN)?;
     set.swap_out(&mut other);
     ensure!(set.is_empty() && other.count() == 2, "what was handed out");

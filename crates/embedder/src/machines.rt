@@ -67,6 +67,7 @@ fn list_is_played(alloc: Global, machine: &mut Machine<MemDisk>) -> Result<()> {
                 cols: 80,
                 rows: 25,
             },
+            Event::Drop { dev: 0 },
         ],
     )?;
     let replies = machine.play(events.as_slice())?;
@@ -77,7 +78,8 @@ fn list_is_played(alloc: Global, machine: &mut Machine<MemDisk>) -> Result<()> {
                 Reply::Value(4),
                 Reply::Bytes(Bytes::from_vec(read)),
                 Reply::Idle,
-                Reply::Refused(vmig::Refusal::WrongKind)
+                Reply::Refused(vmig::Refusal::WrongKind),
+                Reply::Done
             ]
             .as_slice(),
         "the replies are {replies:?}"

@@ -5,7 +5,7 @@ use crate::streams::machine_of;
 use anyhow::{Result, bail, ensure};
 use std::alloc::Global;
 use vmig::{
-    CopyAnswer, End, Event, FaultWriter, Item, Live, LiveEvent, LiveReply, MemDisk, MigError,
+    CopyAnswer, End, Event, FaultWriter, Item, Left, Live, LiveEvent, LiveReply, MemDisk, MigError,
     Rehearsal, Replay, Reply, Stopped, rehearse, replay,
 };
 
@@ -33,6 +33,15 @@ fn rounds_are_made(alloc: Global) -> Result<()> {
     };
     ensure!(live.copy() == Err(MigError::NotBegun), "before the begin");
     ensure!(live.begin() == Ok(1), "the begin");
+    let left = Left {
+        due_pages: 1,
+        due_sectors: 0,
+        dirty_pages: 0,
+        dirty_sectors: 0,
+    };
+    ensure!(live.left() == left, "what is left");
+    // A page that is not of zeros, the device and the digest.
+    ensure!(live.most_by_stop() == 4101 + 70 + 33, "a stop's bytes");
     ensure!(live.end_round() == Ok(End::RoundOpen), "an open round");
     ensure!(
         live.copy() == Ok(CopyAnswer::Copied(Item::Page(0))),

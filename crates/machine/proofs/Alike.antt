@@ -26,7 +26,7 @@ use Rattle.machine.specs.declared.kind.Kind.TheVariants.{Network, Block, Console
 use Rattle.machine.specs.declared.reply.Reply.TheVariants.{Idle}
 use Rattle.machine.specs.State.{DeviceState}
 use Rattle.machine.specs.Step.{Answer, answer, disk_of, disk_or_none, step_device}
-use Rattle.machine.specs.declared.event.Event.TheVariants.{RegRead, RegWrite, MemRead, MemWrite, Step, Input, Resize}
+use Rattle.machine.specs.declared.event.Event.TheVariants.{RegRead, RegWrite, MemRead, MemWrite, Step, Input, Resize, Drop}
 use Rattle.machine.proofs.At.{whole_disk}
 use Rattle.machine.proofs.Stepping.{none_whole}
 
@@ -178,3 +178,4 @@ acts_alike old new (MemRead addr len) reply sound h = (h.effect, h.has, record {
 acts_alike old new (MemWrite addr bytes) reply sound h = (h.effect, h.has, record { addresses = refl; sectors = refl; replaced = refl })
 acts_alike old new (Input dev bytes) reply sound h = (h.effect, h.has, record { addresses = refl; sectors = refl; replaced = refl })
 acts_alike old new (Resize dev cols rows) reply sound h = (h.effect, h.has, record { addresses = refl; sectors = refl; replaced = refl })
+acts_alike old new (Drop dev) reply sound h = (h.effect, h.has, record { addresses = refl; sectors = refl; replaced = refl })

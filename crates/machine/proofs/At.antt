@@ -35,11 +35,11 @@ use Rattle.machine.specs.Seen.{DeviceSeen, Marks, Seen, state_of, all_marks, fai
 use Rattle.machine.specs.Shapes.{made_as}
 use Rattle.machine.specs.Sound.{IsSound, IsSoundDevice}
 use Rattle.machine.specs.State.{DeviceState, MachineState, base_of}
-use Rattle.machine.specs.Step.{HasEffect, IsStep, IsTouchingStep, IsResized, ResizesDevice, disk_of, disk_or_none, input_of, out_reply, kind_with_input, ram_refusal, refused, size_by, written_out, register_set, with_input}
+use Rattle.machine.specs.Step.{HasEffect, IsStep, IsTouchingStep, IsResized, ResizesDevice, disk_of, disk_or_none, drop_of, input_of, out_reply, kind_with_input, kind_without_input, ram_refusal, refused, size_by, written_out, register_set, with_input, without_input}
 use Rattle.machine.specs.StepLaws.{Fits}
 use Rattle.machine.specs.Unsynced.{HasFlushed}
 use Rattle.machine.specs.declared.event.Event.{Event}
-use Rattle.machine.specs.declared.event.Event.TheVariants.{RegRead, RegWrite, MemRead, MemWrite, Step, Input, Resize}
+use Rattle.machine.specs.declared.event.Event.TheVariants.{RegRead, RegWrite, MemRead, MemWrite, Step, Input, Resize, Drop}
 use Rattle.machine.specs.declared.reply.Refusal.{Refusal}
 use Rattle.machine.specs.declared.reply.Refusal.TheVariants.{NoDevice, WrongKind, BadFrame}
 use Rattle.machine.specs.declared.kind.Kind.{Kind}
@@ -150,6 +150,29 @@ input_step m ds dev bytes d new (Err refusal) kept at is =
     record {
       effect = no_effect;
       has = record { seen = Empty; may_see = tt; reply_is = rw (found ds dev d at, kept) refl; effect_is = rw (found ds dev d at, kept) refl; outcome_is = refl };
+      changed = rw none refl;
+    }
+
+-- Its device dropped what the host had put in, or has none of it.
+undropped_kind : (kind : Kind) (refusal : Refusal) → drop_of kind ≡ Err refusal → kind_without_input kind ≡ kind
+undropped_kind (Network mac frames) refusal h = cc
+undropped_kind (Block block) refusal h = refl
+undropped_kind (Console size held) refusal h = cc
+undropped_kind (Entropy pool) refusal h = cc
+
+pub drop_step : (m : Memory) (ds : List DeviceSeen) (dev : ℕ) (d new : DeviceSeen) (answer : Result (Unit {0}) Refusal) → drop_of d.state.kind ≡ answer → IsAt ds dev d → new ≡ record d { state = without_input d.state }
+    → IsStep (state_of (record { memory = m; devices = ds })) (Drop dev) (outcome_of (done_reply answer)) (done_reply answer) (state_of (record { memory = m; devices = set ds dev new }))
+drop_step m ds dev d new (Ok done) dropped at is = record {
+  effect = changing dev [] new.state;
+  has = record { seen = Empty; may_see = tt; reply_is = rw (found ds dev d at, dropped) refl; effect_is = rw (found ds dev d at, dropped, is) refl; outcome_is = refl };
+  changed = changed_at m m ds dev d new [] at (ap (λ (x : DeviceSeen). x.sectors) is) refl;
+}
+drop_step m ds dev d new (Err refusal) dropped at is =
+    let same : new ≡ d = is ∙ ap (λ kind. record d { state = record d.state { kind = kind } }) (undropped_kind d.state.kind refusal dropped) in
+    let none : set ds dev new ≡ ds = rw same (set_found ds dev d at) in
+    record {
+      effect = no_effect;
+      has = record { seen = Empty; may_see = tt; reply_is = rw (found ds dev d at, dropped) refl; effect_is = rw (found ds dev d at, dropped) refl; outcome_is = refl };
       changed = rw none refl;
     }
 
@@ -280,6 +303,7 @@ as_itself m (MemWrite addr bytes) = refl
 as_itself m (Step dev pick) = ap (λ (disks : List (List Sector)). record m { disks = disks }) (disk_itself m.disks dev)
 as_itself m (Input dev bytes) = refl
 as_itself m (Resize dev cols rows) = refl
+as_itself m (Drop dev) = refl
 
 pub whole_disk : (disks : List (List Sector)) (dev : ℕ) → All AreWhole disks → AreWhole (disk_or_none (slice_get disks dev))
 whole_disk [] dev whole = none_whole
@@ -294,6 +318,7 @@ given_for marks m (MemWrite addr bytes) sound = refl
 given_for marks m (Step dev pick) sound = given_itself (marks_at marks dev).honest (disk_of m dev) (whole_disk m.disks dev sound.sectors)
 given_for marks m (Input dev bytes) sound = refl
 given_for marks m (Resize dev cols rows) sound = refl
+given_for marks m (Drop dev) sound = refl
 
 pub applied_step : (shapes : List Shape) (old new : Seen) (e : Event) (reply : Reply) → IsHeld shapes old → Fits e → (h : IsStep (state_of old) e (outcome_of reply) reply (state_of new)) → IsLater old.memory new.memory → Rises (items_of h.effect) old.memory new.memory → all_marks new ≡ marks_after (all_marks old) e reply → FailsOnlyUnsteady (all_marks old) e reply → DisksAfter old e reply new → IsApplied old e reply new
 applied_step shapes old new e reply held fits h later rises marks unsteady disks = record {
@@ -324,6 +349,7 @@ quiet_disks old new (MemWrite addr bytes) reply quiet = tt
 quiet_disks old new (Step dev pick) reply quiet = absurd quiet
 quiet_disks old new (Input dev bytes) reply quiet = tt
 quiet_disks old new (Resize dev cols rows) reply quiet = tt
+quiet_disks old new (Drop dev) reply quiet = tt
 
 -- An event that writes into no page and no sector was applied, and RAM is as it was.
 pub applied_quiet : (shapes : List Shape) (old new : Seen) (e : Event) (reply : Reply) → IsQuiet e → IsHeld shapes old → Fits e → IsStep (state_of old) e (outcome_of reply) reply (state_of new) → new.memory ≡ old.memory → all_marks new ≡ marks_after (all_marks old) e reply → FailsOnlyUnsteady (all_marks old) e reply
@@ -356,6 +382,12 @@ pub missing_size : (shapes : List Shape) (m : Memory) (ds : List DeviceSeen) (de
 missing_size shapes m ds dev cols rows held fits h =
     let none = past ds dev h in
     missing_answer shapes m ds (Resize dev cols rows) tt held fits (record { effect = no_effect; has = record { seen = Empty; may_see = tt; reply_is = rw none refl; effect_is = rw none refl; outcome_is = refl }; changed = refl }) refl tt
+
+pub missing_drop : (shapes : List Shape) (m : Memory) (ds : List DeviceSeen) (dev : ℕ) → IsHeld shapes (record { memory = m; devices = ds }) → Fits (Drop dev) → length ds ≤ dev
+    → IsApplied (record { memory = m; devices = ds }) (Drop dev) (Refused NoDevice) (record { memory = m; devices = ds })
+missing_drop shapes m ds dev held fits h =
+    let none = past ds dev h in
+    missing_answer shapes m ds (Drop dev) tt held fits (record { effect = no_effect; has = record { seen = Empty; may_see = tt; reply_is = rw none refl; effect_is = rw none refl; outcome_is = refl }; changed = refl }) refl tt
 
 pub applied_logged : {L : Type 0} (taking : L → Item → L) (shapes : List Shape) (old new : Seen) (log new_log : L) (e : Event) (reply : Reply) → IsHeld shapes old → Fits e → IsTouchingStep (Touches taking log new_log old.memory new.memory) (state_of old) e reply (state_of new) → IsLater old.memory new.memory → all_marks new ≡ marks_after (all_marks old) e reply → FailsOnlyUnsteady (all_marks old) e reply → DisksAfter old e reply new
     → IsAppliedLogged taking old log e reply new new_log

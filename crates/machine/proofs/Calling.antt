@@ -26,7 +26,7 @@ use Rattle.machine.specs.Shapes.{made_as, queues_of}
 use Rattle.machine.specs.Sound.{IsSoundDevice}
 use Rattle.machine.specs.State.{DeviceState}
 use Rattle.machine.specs.declared.event.Event.{Event}
-use Rattle.machine.specs.declared.event.Event.TheVariants.{RegRead, RegWrite, MemRead, MemWrite, Step, Input, Resize}
+use Rattle.machine.specs.declared.event.Event.TheVariants.{RegRead, RegWrite, MemRead, MemWrite, Step, Input, Resize, Drop}
 use Rattle.machine.specs.declared.kind.Kind.TheVariants.{Block}
 use Rattle.machine.specs.declared.reply.Reply.{Reply}
 use Rattle.machine.proofs.At.{IsAt, found, map-set_same, past}
@@ -150,3 +150,4 @@ only_steps called old new (MemWrite addr bytes) reply other h = h
 only_steps called old new (Step dev pick) reply other h = absurd (other dev pick refl)
 only_steps called old new (Input dev bytes) reply other h = h
 only_steps called old new (Resize dev cols rows) reply other h = h
+only_steps called old new (Drop dev) reply other h = h

@@ -24,10 +24,10 @@ use Rattle.machine.specs.Effect.{Effect, applied, sets_on}
 use Rattle.machine.specs.Looked.{LooksAtMalformed}
 use Rattle.machine.specs.Outcome.{Outcome, fine, disk_failed, no_memory, disk_does}
 use Rattle.machine.specs.State.{MachineState, DeviceState, base_of}
-use Rattle.machine.specs.Step.{answer, disk_of, input_of, MaySeeAt, HasEffect, out_reply, put_by, set_size, size_by, written_out, read_register, write_register, read_ram, write_ram, put_in, step_device}
+use Rattle.machine.specs.Step.{answer, disk_of, drop_by, drop_input, drop_of, input_of, MaySeeAt, HasEffect, out_reply, put_by, set_size, size_by, written_out, read_register, write_register, read_ram, write_ram, put_in, step_device}
 use Rattle.machine.specs.StepLaws.{IsContained, MalformedIsContained, MalformedAsksForReset, IsRefusal, RefusalsChangeNothing}
 use Rattle.machine.specs.declared.event.Event.{Event}
-use Rattle.machine.specs.declared.event.Event.TheVariants.{RegRead, RegWrite, MemRead, MemWrite, Step, Input, Resize}
+use Rattle.machine.specs.declared.event.Event.TheVariants.{RegRead, RegWrite, MemRead, MemWrite, Step, Input, Resize, Drop}
 use Rattle.machine.specs.declared.kind.Kind.{Kind}
 use Rattle.machine.specs.declared.kind.Kind.TheVariants.{Network, Block, Console, Entropy}
 use Rattle.machine.specs.declared.reply.Refusal.{Refusal}
@@ -216,6 +216,14 @@ quiet_size : (m : MachineState) (dev : ℕ) (d : Option DeviceState) (size : Con
 quiet_size m dev None size h = refl
 quiet_size m dev (Some d) size h = quiet_size_by m dev d d.kind size h
 
+quiet_drop_by : (m : MachineState) (dev : ℕ) (d : DeviceState) (answer : Result (Unit {0}) Refusal) → IsRefusal (drop_by dev d answer).reply → applied m (drop_by dev d answer).effect ≡ m
+quiet_drop_by m dev d (Ok done) h = absurd h
+quiet_drop_by m dev d (Err refusal) h = refl
+
+quiet_drop : (m : MachineState) (dev : ℕ) (d : Option DeviceState) → IsRefusal (drop_input dev d).reply → applied m (drop_input dev d).effect ≡ m
+quiet_drop m dev None h = refl
+quiet_drop m dev (Some d) h = quiet_drop_by m dev d (drop_of d.kind) h
+
 pub quiet : (m : MachineState) (e : Event) (o : Outcome) (seen : Next) → IsRefusal (answer m e o seen).reply → applied m (answer m e o seen).effect ≡ m
 quiet m (RegRead dev off width) o seen h = quiet_look m (slice_get m.devices dev) off width
 quiet m (RegWrite dev off width value) o seen h = quiet_set m dev (slice_get m.devices dev) off width value h
@@ -224,6 +232,7 @@ quiet m (MemWrite addr bytes) o seen h = quiet_store m (index_of (base_of m.devi
 quiet m (Step dev pick) o seen h = quiet_device m dev pick o seen (slice_get m.devices dev) refl h
 quiet m (Resize dev cols rows) o seen h = quiet_size m dev (slice_get m.devices dev) (record { columns = cols; rows = rows }) h
 quiet m (Input dev bytes) o seen h = quiet_put m dev (slice_get m.devices dev) bytes h
+quiet m (Drop dev) o seen h = quiet_drop m dev (slice_get m.devices dev) h
 
 pub refusals_quiet : RefusalsChangeNothing
 refusals_quiet m e o r after h is = h.changed ∙ ap (λ (f : Effect). applied m f) h.has.effect_is ∙ quiet m e o h.has.seen (subst IsRefusal h.has.reply_is is)

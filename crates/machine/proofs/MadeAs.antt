@@ -21,7 +21,7 @@ use Rattle.machine.specs.DeviceStep.{advance_on, serve}
 use Rattle.machine.specs.Outcome.{Outcome, disk_does}
 use Rattle.machine.specs.Shapes.{first_kind, made_as}
 use Rattle.machine.specs.State.{DeviceState}
-use Rattle.machine.specs.Step.{dropped_unready, kind_with_input}
+use Rattle.machine.specs.Step.{dropped_unready, kind_with_input, kind_without_input}
 use Rattle.machine.specs.declared.kind.Kind.{Kind}
 use Rattle.machine.specs.declared.kind.Kind.TheVariants.{Network, Block, Console, Entropy}
 use Rattle.machine.specs.declared.shape.Shape.{Shape}
@@ -42,6 +42,12 @@ input_as (Network mac frames) bytes = frames_as mac (frames_with frames bytes) f
 input_as (Block block) bytes = refl
 input_as (Console size held) bytes = refl
 input_as (Entropy pool) bytes = refl
+
+pub without_as : (kind : Kind) → made_as (kind_without_input kind) ≡ made_as kind
+without_as (Network mac frames) = refl
+without_as (Block block) = refl
+without_as (Console size held) = refl
+without_as (Entropy pool) = refl
 
 pub sent_state : {S : Type 0} (form : MessageForm) (ram : List ℕ) (q : RingState) (state : S) (seen : Next) → (transmit_step form ram q state seen).state ≡ state
 sent_state form ram q state next.Empty = refl

@@ -1,6 +1,6 @@
 -- Steps with work, found in turn.
 use Rattle.std.proofs.Common.{◌≡◌, ℕ, zero, suc, ◌+◌, ◌-◌, ◌*◌, ◌/◌, ◌%◌, ◌<◌, ◌≤◌, ◌⊎◌, get_or, inl, inr, min, Bool, true, false, cond, List, [], ◌∷◌, length, map, Option, Some, None, refl, sym, ap, ◌∙◌, arith}
-use Rattle.std.specs.Prelude.{◌||◌, IfSome, slice_get}
+use Rattle.std.specs.Prelude.{◌||◌, ◌&&◌, IfSome, slice_get, slice_index_or}
 use Rattle.std.specs.List.{find, range_with_len}
 use Rattle.std.specs.Option.{is_some, option_map, option_or}
 use Rattle.std.proofs.lemmas.List.Folds.{find-append}
@@ -9,7 +9,7 @@ use Rattle.mmio.specs.State.{first_queue}
 use Rattle.chains.specs.State.{RingState, state_of}
 use Rattle.mmio.specs.declared.queue.Queue.{Queue}
 use Rattle.machine.specs.DeviceStep.{advanced_at, advances, looked_at, looks}
-use Rattle.machine.specs.NextWork.{HaveNoWork, has_work_at, has_work_with, next_from, next_work, number_of, picks_from, steps_between, work_of}
+use Rattle.machine.specs.NextWork.{HaveNoWork, NoneCanWork, can_work_at, can_work_with, device_can_work, device_has_work, has_work_at, in_turn_after, next_from, next_work, next_work_with_lost, number_of, picks_from, steps_between, work_of}
 use Rattle.machine.specs.Shapes.{made_as, queues_of}
 use Rattle.machine.specs.Sound.{IsSound, IsSoundDevice}
 use Rattle.machine.specs.State.{DeviceState, MachineState}
@@ -65,20 +65,21 @@ pick_first : (t : Bool) (w : Work) (a : ℕ) (f : ℕ → Work) (x : Option Work
 pick_first true w a f x y h k = ap Some h
 pick_first false w a f x y h k = k
 
-device_steps : (devices : List DeviceState) (dev : ℕ) (d : DeviceState) (a b n : ℕ) → slice_get devices dev ≡ Some d → 256 * dev + a ≡ b → a + n ≤ 256
-    → find (has_work_at devices) (map work_of (range_with_len b n)) ≡ option_map (λ pick. record { dev = dev; pick = pick }) (find (has_work_with d) (range_with_len a n))
-device_steps devices dev d a b zero there start few = refl
-device_steps devices dev d a b (suc n) there start few =
+device_steps : (devices : List DeviceState) (lost : List Bool) (dev : ℕ) (d : DeviceState) (a b n : ℕ) → slice_get devices dev ≡ Some d → 256 * dev + a ≡ b → a + n ≤ 256
+    → find (can_work_at lost devices) (map work_of (range_with_len b n)) ≡ option_map (λ pick. record { dev = dev; pick = pick }) (find (can_work_with (slice_index_or lost dev false) d) (range_with_len a n))
+device_steps devices lost dev d a b zero there start few = refl
+device_steps devices lost dev d a b (suc n) there start few =
     let of : b / 256 ≡ dev = omega (arith, start, few) in
     let pick : b % 256 ≡ a = omega (arith, start, few) in
-    rw (of, pick, there) (pick_first (has_work_with d a) (record { dev = dev; pick = a }) a (λ (k : ℕ). record { dev = dev; pick = k }) _ _ refl (device_steps devices dev d (a + 1) (b + 1) n there (omega (arith, start)) (omega (arith, few))))
+    rw (of, pick, there)
+    (pick_first (can_work_with (slice_index_or lost dev false) d a) (record { dev = dev; pick = a }) a (λ (k : ℕ). record { dev = dev; pick = k }) _ _ refl (device_steps devices lost dev d (a + 1) (b + 1) n there (omega (arith, start)) (omega (arith, few))))
 
-pub found_in_device : (devices : List DeviceState) (dev a : ℕ) (d : DeviceState) → slice_get devices dev ≡ Some d → a ≤ 256
-    → find (has_work_at devices) (steps_between (256 * dev + a) (256 * (dev + 1))) ≡ option_map (λ pick. record { dev = dev; pick = pick }) (find (has_work_with d) (picks_from a))
+pub found_in_device : (devices : List DeviceState) (lost : List Bool) (dev a : ℕ) (d : DeviceState) → slice_get devices dev ≡ Some d → a ≤ 256
+    → find (can_work_at lost devices) (steps_between (256 * dev + a) (256 * (dev + 1))) ≡ option_map (λ pick. record { dev = dev; pick = pick }) (find (can_work_with (slice_index_or lost dev false) d) (picks_from a))
 unfolding steps_between picks_from
-found_in_device devices dev a d there few =
+found_in_device devices lost dev a d there few =
     let many : 256 * (dev + 1) - (256 * dev + a) ≡ 256 - a = omega arith in
-    rw many (device_steps devices dev d a (256 * dev + a) (256 - a) there refl (omega (arith, few)))
+    rw many (device_steps devices lost dev d a (256 * dev + a) (256 - a) there refl (omega (arith, few)))
 
 -- What is found has work.
 has_head : (p : Work → Bool) (w : Work) (rest : Option Work) (t : Bool) → p w ≡ t → IfSome rest (λ v. p v ≡ true) → IfSome (cond t (Some w) rest) (λ v. p v ≡ true)
@@ -118,36 +119,53 @@ or_false None None h = (refl, refl)
 or_false None (Some q) h = cc
 or_false (Some q) y h = cc
 
-pub none_has : (devices : List DeviceState) (last : Work) → next_work devices last ≡ None → HaveNoWork devices
-none_has devices last none dev pick d there below =
+none_at : (p : Work → Bool) (count : ℕ) (last : Work) → find p (in_turn_after last count) ≡ None → (dev pick : ℕ) → dev < count → pick < 256 → p (record { dev = dev; pick = pick }) ≡ false
+none_at p count last none dev pick within below =
     let first = number_of last + 1 in
-    let end = 256 * length devices in
+    let end = 256 * count in
     let k = 256 * dev + pick in
-    let p = has_work_at devices in
-    let within : dev < length devices = slice_get_within devices dev d there in
     let parts = sym (find-append p (steps_between first end) (steps_between 0 (min first end))) ∙ none in
     let of : k / 256 ≡ dev = omega (arith, below) in
     let rest : k % 256 ≡ pick = omega (arith, below) in
-    let here : has_work_at devices (work_of k) ≡ false = elim (lt_or_le k first) as (λ _. has_work_at devices (work_of k) ≡ false) [
+    let here : p (work_of k) ≡ false = elim (lt_or_le k first) as (λ _. p (work_of k) ≡ false) [
       | inl before ↦ none_inside p 0 (min first end) k (right_none (find p (steps_between first end)) (find p (steps_between 0 (min first end))) parts) (omega arith) (omega (arith, before, within, below))
       | inr after ↦ none_inside p first end k (left_none (find p (steps_between first end)) (find p (steps_between 0 (min first end))) parts) after (omega (arith, within, below))
     ] in
-    or_false (looked_at d pick) (advanced_at d pick) (rw (of, rest, there) at here)
+    rw (of, rest) at here
+
+pub none_has : (devices : List DeviceState) (last : Work) → next_work devices last ≡ None → HaveNoWork devices
+none_has devices last none dev pick d there below =
+    let here : has_work_at devices (record { dev = dev; pick = pick }) ≡ false = none_at (has_work_at devices) (length devices) last none dev pick (slice_get_within devices dev d there) below in
+    or_false (looked_at d pick) (advanced_at d pick) (rw there at here)
+
+pub none_can : (devices : List DeviceState) (lost : List Bool) (last : Work) → next_work_with_lost devices lost last ≡ None → NoneCanWork lost devices
+none_can devices lost last none dev pick within below = none_at (can_work_at lost devices) (length devices) last none dev pick within below
+
+-- Where no disk is lost each step may be made.
+found_alike : (p q : Work → Bool) → ((w : Work) → p w ≡ q w) → (ws : List Work) → find p ws ≡ find q ws
+found_alike p q same [] = refl
+found_alike p q same (w ∷ ws) = rw (same w, found_alike p q same ws) refl
+
+can_as_has : (d : Option DeviceState) (pick : ℕ) → device_can_work false d pick ≡ device_has_work d pick
+can_as_has None pick = refl
+can_as_has (Some d) pick = refl
+
+pub none_lost : (devices : List DeviceState) (last : Work) → next_work_with_lost devices [] last ≡ next_work devices last
+none_lost devices last = found_alike (can_work_at [] devices) (has_work_at devices) (λ w. can_as_has (slice_get devices w.dev) w.pick) (in_turn_after last (length devices))
 
 -- The order of the search, by the step with which it begins.
 or_none : (x : Option Work) → option_or x None ≡ x
 or_none None = refl
 or_none (Some w) = refl
 
-pub from_first : (devices : List DeviceState) (last : Work) (all first : ℕ) → all ≡ 256 * length devices → number_of last + 1 < all → first ≡ number_of last + 1 → next_work devices last ≡ next_from devices first
-from_first devices last all first all_is below is =
-    let low : min (number_of last + 1) (256 * length devices) ≡ number_of last + 1 = omega (arith, all_is, below) in
+pub from_first : (p : Work → Bool) (last : Work) (count first : ℕ) → number_of last + 1 < 256 * count → first ≡ number_of last + 1 → find p (in_turn_after last count) ≡ next_from p count first
+from_first p last count first below is =
+    let low : min (number_of last + 1) (256 * count) ≡ number_of last + 1 = omega (arith, below) in
     rw (low, is) refl
 
-pub from_start : (devices : List DeviceState) (last : Work) → 256 * length devices ≤ number_of last + 1 → next_work devices last ≡ next_from devices 0
-from_start devices last past =
-    let p = has_work_at devices in
-    let all = 256 * length devices in
+pub from_start : (p : Work → Bool) (last : Work) (count : ℕ) → 256 * count ≤ number_of last + 1 → find p (in_turn_after last count) ≡ next_from p count 0
+from_start p last count past =
+    let all = 256 * count in
     let first = number_of last + 1 in
     let high : min first all ≡ all = omega (arith, past) in
     rw (high, find-append p (steps_between first all) (steps_between 0 all), find-append p (steps_between 0 all) (steps_between 0 0), none_between p first all past, none_between p 0 0 (omega arith), or_none (find p (steps_between 0 all))) refl
@@ -216,8 +234,8 @@ searched_on p count first pick turn from dev inside before around h none = elim 
       }
 ]
 
-found_by : (devices : List DeviceState) (first : ℕ) (x y : Option Work) → find (has_work_at devices) (steps_between first (256 * length devices)) ≡ x → find (has_work_at devices) (steps_between 0 first) ≡ y → next_from devices first ≡ option_or x y
-found_by devices first x y later before = find-append (has_work_at devices) (steps_between first (256 * length devices)) (steps_between 0 first) ∙ rw (later, before) refl
+found_by : (p : Work → Bool) (count first : ℕ) (x y : Option Work) → find p (steps_between first (256 * count)) ≡ x → find p (steps_between 0 first) ≡ y → next_from p count first ≡ option_or x y
+found_by p count first x y later before = find-append p (steps_between first (256 * count)) (steps_between 0 first) ∙ rw (later, before) refl
 
 -- What is found once around lies before the step with which the search began.
 before_first : (p : Work → Bool) (all first end : ℕ) (w : Work) → first ≤ all → end ≤ all → find p (steps_between first all) ≡ None → find p (steps_between 0 end) ≡ Some w → (end ≤ first) ⊎ (first ≤ end) → find p (steps_between 0 first) ≡ Some w
@@ -231,17 +249,16 @@ before_first p all first end w low high none some (inr past) =
 le_or_le : (m n : ℕ) → (m ≤ n) ⊎ (n ≤ m)
 le_or_le m n = elim (lt_or_le m n) as (λ _. (m ≤ n) ⊎ (n ≤ m)) [ inl h ↦ inl (omega (arith, h)) | inr h ↦ inr h ]
 
-pub found_in_turn : (devices : List DeviceState) (count first pick turn from dev : ℕ) (w : Work) → length devices ≡ count → first < count → pick < 256 → turn < first + count + 1 → (turn < count → dev ≡ turn) → (count ≤ turn → dev ≡ turn - count)
-    → IsSearched (has_work_at devices) count first pick turn from → find (has_work_at devices) (steps_between (256 * dev + from) (256 * (dev + 1))) ≡ Some w → next_from devices (256 * first + pick) ≡ Some w
-found_in_turn devices count first pick turn from dev w long inside small last before around h some =
-    let p = has_work_at devices in
+pub found_in_turn : (p : Work → Bool) (count first pick turn from dev : ℕ) (w : Work) → first < count → pick < 256 → turn < first + count + 1 → (turn < count → dev ≡ turn) → (count ≤ turn → dev ≡ turn - count)
+    → IsSearched p count first pick turn from → find p (steps_between (256 * dev + from) (256 * (dev + 1))) ≡ Some w → next_from p count (256 * first + pick) ≡ Some w
+found_in_turn p count first pick turn from dev w inside small last before around h some =
     let begin = 256 * first + pick in
-    elim (lt_or_le turn count) as (λ _. next_from devices begin ≡ Some w) [
+    elim (lt_or_le turn count) as (λ _. next_from p count begin ≡ Some w) [
       | inl below ↦
           let here : dev ≡ turn = before below in
           let old : min (256 * turn + from) (256 * count) ≡ 256 * turn + from = omega (arith, below, h.few) in
           let there : find p (steps_between begin (256 * (turn + 1))) ≡ Some w = some_in_second p begin (256 * turn + from) (256 * (turn + 1)) w h.begun (omega (arith, h.few)) (rw old at h.later) (rw here at some) in
-          found_by devices begin (Some w) (find p (steps_between 0 begin)) (rw long (some_in_first p begin (256 * (turn + 1)) (256 * count) w (omega (arith, h.begun, h.few)) (omega (arith, below)) there)) refl
+          found_by p count begin (Some w) (find p (steps_between 0 begin)) (some_in_first p begin (256 * (turn + 1)) (256 * count) w (omega (arith, h.begun, h.few)) (omega (arith, below)) there) refl
       | inr past ↦
           let here : dev ≡ turn - count = around past in
           let all : from ≡ 0 = h.whole (omega (arith, inside, past)) in
@@ -249,25 +266,24 @@ found_in_turn devices count first pick turn from dev w long inside small last be
           let end : 256 * (dev + 1) ≡ 256 * (turn + 1 - count) = omega (arith, here, past) in
           let later = all_later p count first pick turn from past h in
           let there : find p (steps_between 0 (256 * (turn + 1 - count))) ≡ Some w = some_in_second p 0 (256 * (turn - count)) (256 * (turn + 1 - count)) w (omega arith) (omega (arith, past)) h.around (rw (start, end) at some) in
-          found_by devices begin None (Some w) (rw long later) (before_first p (256 * count) begin (256 * (turn + 1 - count)) w (omega (arith, inside, small)) (omega (arith, last, inside, past)) later there (le_or_le (256 * (turn + 1 - count)) begin))
+          found_by p count begin None (Some w) later (before_first p (256 * count) begin (256 * (turn + 1 - count)) w (omega (arith, inside, small)) (omega (arith, last, inside, past)) later there (le_or_le (256 * (turn + 1 - count)) begin))
     ]
 
-pub none_in_turns : (devices : List DeviceState) (count first pick turn from : ℕ) → length devices ≡ count → first < count → pick < 256 → first + count + 1 ≤ turn → IsSearched (has_work_at devices) count first pick turn from → next_from devices (256 * first + pick) ≡ None
-none_in_turns devices count first pick turn from long inside small past h =
-    let p = has_work_at devices in
+pub none_in_turns : (p : Work → Bool) (count first pick turn from : ℕ) → first < count → pick < 256 → first + count + 1 ≤ turn → IsSearched p count first pick turn from → next_from p count (256 * first + pick) ≡ None
+none_in_turns p count first pick turn from inside small past h =
     let begin = 256 * first + pick in
     let before : find p (steps_between 0 begin) ≡ None =
     left_none (find p (steps_between 0 begin)) (find p (steps_between begin (256 * (turn - count)))) (sym (found_in_two p 0 begin (256 * (turn - count)) (omega arith) (omega (arith, small, past))) ∙ h.around) in
-    found_by devices begin None None (rw long (all_later p count first pick turn from (omega (arith, past)) h)) before
+    found_by p count begin None None (all_later p count first pick turn from (omega (arith, past)) h) before
 
 -- What is found in the picks of a device.
-pub none_of_device : (devices : List DeviceState) (dev from : ℕ) (d : DeviceState) (found : Option ℕ) → slice_get devices dev ≡ Some d → from ≤ 256 → found ≡ find (has_work_with d) (picks_from from) → found ≡ None
-    → find (has_work_at devices) (steps_between (256 * dev + from) (256 * (dev + 1))) ≡ None
-none_of_device devices dev from d found there few is none = found_in_device devices dev from d there few ∙ rw (← is, none) refl
+pub none_of_device : (devices : List DeviceState) (lost : List Bool) (dev from : ℕ) (d : DeviceState) (found : Option ℕ) → slice_get devices dev ≡ Some d → from ≤ 256 → found ≡ find (can_work_with (slice_index_or lost dev false) d) (picks_from from) → found ≡ None
+    → find (can_work_at lost devices) (steps_between (256 * dev + from) (256 * (dev + 1))) ≡ None
+none_of_device devices lost dev from d found there few is none = found_in_device devices lost dev from d there few ∙ rw (← is, none) refl
 
-pub some_of_device : (devices : List DeviceState) (dev from pick : ℕ) (d : DeviceState) (found : Option ℕ) → slice_get devices dev ≡ Some d → from ≤ 256 → found ≡ find (has_work_with d) (picks_from from) → found ≡ Some pick
-    → find (has_work_at devices) (steps_between (256 * dev + from) (256 * (dev + 1))) ≡ Some (record { dev = dev; pick = pick })
-some_of_device devices dev from pick d found there few is some = found_in_device devices dev from d there few ∙ rw (← is, some) refl
+pub some_of_device : (devices : List DeviceState) (lost : List Bool) (dev from pick : ℕ) (d : DeviceState) (found : Option ℕ) → slice_get devices dev ≡ Some d → from ≤ 256 → found ≡ find (can_work_with (slice_index_or lost dev false) d) (picks_from from) → found ≡ Some pick
+    → find (can_work_at lost devices) (steps_between (256 * dev + from) (256 * (dev + 1))) ≡ Some (record { dev = dev; pick = pick })
+some_of_device devices lost dev from pick d found there few is some = found_in_device devices lost dev from d there few ∙ rw (← is, some) refl
 
 -- One device: its queues and its outstanding requests.
 some_queues : (shape : Shape) → 0 < queues_of shape
@@ -299,6 +315,10 @@ advances_some len d pick sound =
 pub second_of_or : (x y r : Bool) → x ≡ false → r ≡ y → r ≡ (x || y)
 second_of_or true y r none is = cc
 second_of_or false y r none is = is
+
+pub none_beside : (b x : Bool) → x ≡ false → (b && x) ≡ false
+none_beside true x none = none
+none_beside false x none = refl
 
 pub one_more : (p : ℕ → Bool) (from pick : ℕ) → ((k : ℕ) → from ≤ k → k < pick → p k ≡ false) → p pick ≡ false → (k : ℕ) → from ≤ k → k < pick + 1 → p k ≡ false
 one_more p from pick before here k above below = elim (lt_or_le k pick) as (λ _. p k ≡ false) [

@@ -11,9 +11,9 @@ use Rattle.machine.specs.Effect.{items_of}
 use Rattle.machine.specs.Outcome.{Outcome, disk_failed, fine, no_memory, outcome_of}
 use Rattle.machine.specs.Seen.{Seen, state_of}
 use Rattle.machine.specs.State.{DeviceState, MachineState, base_of}
-use Rattle.machine.specs.Step.{answer, input_of, put_by, put_in, read_ram, read_register, set_size, size_by, write_register}
+use Rattle.machine.specs.Step.{answer, drop_by, drop_input, drop_of, input_of, put_by, put_in, read_ram, read_register, set_size, size_by, write_register}
 use Rattle.machine.specs.declared.event.Event.{Event}
-use Rattle.machine.specs.declared.event.Event.TheVariants.{RegRead, RegWrite, MemRead, MemWrite, Step, Input, Resize}
+use Rattle.machine.specs.declared.event.Event.TheVariants.{RegRead, RegWrite, MemRead, MemWrite, Step, Input, Resize, Drop}
 use Rattle.machine.specs.declared.kind.Kind.{Kind}
 use Rattle.machine.specs.declared.kind.Kind.TheVariants.{Network, Block, Console, Entropy}
 use Rattle.machine.specs.declared.reply.Refusal.{Refusal}
@@ -56,6 +56,14 @@ of_size : (dev : ℕ) (d : Option DeviceState) (size : ConsoleSize) → items_of
 of_size dev None size = refl
 of_size dev (Some d) size = of_kind dev d d.kind size
 
+of_drop_by : (dev : ℕ) (d : DeviceState) (r : Result (Unit {0}) Refusal) → items_of (drop_by dev d r).effect ≡ []
+of_drop_by dev d (Ok done) = refl
+of_drop_by dev d (Err refusal) = refl
+
+of_drop : (dev : ℕ) (d : Option DeviceState) → items_of (drop_input dev d).effect ≡ []
+of_drop dev None = refl
+of_drop dev (Some d) = of_drop_by dev d (drop_of d.kind)
+
 pub no_items : (m : MachineState) (e : Event) (o : Outcome) (seen : Next) → IsQuiet e → items_of (answer m e o seen).effect ≡ []
 no_items m (RegRead dev off width) o seen quiet = of_read (slice_get m.devices dev) off width
 no_items m (RegWrite dev off width value) o seen quiet = of_written dev (slice_get m.devices dev) off width value
@@ -64,6 +72,7 @@ no_items m (MemWrite addr bytes) o seen quiet = absurd quiet
 no_items m (Step dev pick) o seen quiet = absurd quiet
 no_items m (Input dev bytes) o seen quiet = of_input dev (slice_get m.devices dev) bytes
 no_items m (Resize dev cols rows) o seen quiet = of_size dev (slice_get m.devices dev) (record { columns = cols; rows = rows })
+no_items m (Drop dev) o seen quiet = of_drop dev (slice_get m.devices dev)
 
 -- The log stays as it is.
 pub unlogged : {L : Type 0} (taking : L → Item → L) (old new : Seen) (log : L) (e : Event) (reply : Reply) → IsQuiet e → IsApplied old e reply new → IsAppliedLogged taking old log e reply new log

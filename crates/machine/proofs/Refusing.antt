@@ -15,10 +15,10 @@ use Rattle.machine.specs.Effect.{Effect, applied, items_of, replaced_in, sectors
 use Rattle.machine.specs.Outcome.{Outcome, disk_failed, fine, is_failure, no_memory, outcome_of}
 use Rattle.machine.specs.Seen.{Marks, all_marks, state_of}
 use Rattle.machine.specs.State.{DeviceState, MachineState, base_of}
-use Rattle.machine.specs.Step.{answer, input_of, put_by, put_in, read_ram, read_register, set_size, size_by, step_device, write_ram, write_register}
+use Rattle.machine.specs.Step.{answer, drop_by, drop_input, drop_of, input_of, put_by, put_in, read_ram, read_register, set_size, size_by, step_device, write_ram, write_register}
 use Rattle.machine.specs.StepLaws.{IsRefusal}
 use Rattle.machine.specs.declared.event.Event.{Event}
-use Rattle.machine.specs.declared.event.Event.TheVariants.{RegRead, RegWrite, MemRead, MemWrite, Step, Input, Resize}
+use Rattle.machine.specs.declared.event.Event.TheVariants.{RegRead, RegWrite, MemRead, MemWrite, Step, Input, Resize, Drop}
 use Rattle.machine.specs.declared.kind.Kind.{Kind}
 use Rattle.machine.specs.declared.kind.Kind.TheVariants.{Network, Block, Console, Entropy}
 use Rattle.machine.specs.declared.reply.Refusal.{Refusal}
@@ -82,6 +82,14 @@ of_size : (dev : ℕ) (d : Option DeviceState) (size : ConsoleSize) → IsUnwrit
 of_size dev None size = record { writes = refl; sectors = refl }
 of_size dev (Some d) size = of_size_by dev d d.kind size
 
+of_drop_by : (dev : ℕ) (d : DeviceState) (told : Result (Unit {0}) Refusal) → IsUnwritten (drop_by dev d told).effect
+of_drop_by dev d (Ok done) = record { writes = refl; sectors = refl }
+of_drop_by dev d (Err refusal) = record { writes = refl; sectors = refl }
+
+of_drop : (dev : ℕ) (d : Option DeviceState) → IsUnwritten (drop_input dev d).effect
+of_drop dev None = record { writes = refl; sectors = refl }
+of_drop dev (Some d) = of_drop_by dev d (drop_of d.kind)
+
 unwritten : (m : MachineState) (e : Event) (o : Outcome) (seen : Next) → IsRefusal (answer m e o seen).reply → IsUnwritten (answer m e o seen).effect
 unwritten m (RegRead dev off width) o seen h = of_look (slice_get m.devices dev) off width
 unwritten m (RegWrite dev off width value) o seen h = of_set dev (slice_get m.devices dev) off width value
@@ -90,6 +98,7 @@ unwritten m (MemWrite addr bytes) o seen h = of_store (index_of (base_of m.devic
 unwritten m (Step dev pick) o seen h = of_step dev (slice_get m.devices dev) m.ram _ pick o seen h
 unwritten m (Input dev bytes) o seen h = of_put dev (slice_get m.devices dev) bytes
 unwritten m (Resize dev cols rows) o seen h = of_size dev (slice_get m.devices dev) (record { columns = cols; rows = rows })
+unwritten m (Drop dev) o seen h = of_drop dev (slice_get m.devices dev)
 
 -- The devices are the same, whatever the disk gave.
 given_devices : (m : MachineState) (e : Event) (given : List Sector) → (as_given m e given).devices ≡ m.devices
@@ -100,6 +109,7 @@ given_devices m (MemWrite addr bytes) given = refl
 given_devices m (Step dev pick) given = refl
 given_devices m (Input dev bytes) given = refl
 given_devices m (Resize dev cols rows) given = refl
+given_devices m (Drop dev) given = refl
 
 -- A refusal is no failure of a disk.
 no_failure : (reply : Reply) → IsRefusal reply → is_failure reply ≡ false
@@ -128,6 +138,7 @@ marks_stay marks (MemWrite addr bytes) reply h = refl
 marks_stay marks (Step dev pick) reply h = rw (no_failure reply h) refl
 marks_stay marks (Input dev bytes) reply h = refl
 marks_stay marks (Resize dev cols rows) reply h = refl
+marks_stay marks (Drop dev) reply h = refl
 
 same_items : (f : Effect) → IsUnwritten f → items_of f ≡ []
 same_items f none = rw (none.writes, none.sectors) refl

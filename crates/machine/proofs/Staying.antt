@@ -43,13 +43,13 @@ use Rattle.machine.specs.QueuePositions.{HavePositions, HasPositions, ArePlaced,
 use Rattle.machine.specs.Shapes.{made_as, queues_of, sector_count}
 use Rattle.machine.specs.Sound.{AreSoundBeside, IsSoundDevice, IsSoundKind}
 use Rattle.machine.specs.State.{DeviceState}
-use Rattle.machine.specs.Step.{register_set, is_first_ready, accepted_in, dropped_unready, kind_with_input, with_input}
+use Rattle.machine.specs.Step.{register_set, is_first_ready, accepted_in, dropped_unready, kind_with_input, kind_without_input, with_input, without_input}
 use Rattle.machine.specs.declared.kind.Kind.{Kind}
 use Rattle.machine.specs.declared.kind.Kind.TheVariants.{Network, Block, Console, Entropy}
 use Rattle.chains.specs.Service.{Answer}
 use Rattle.chains.specs.Service as service
 use Rattle.machine.proofs.Advancing.{IsAdvancedAt, advanced_is}
-use Rattle.machine.proofs.MadeAs.{dropped_as, input_as, served_as}
+use Rattle.machine.proofs.MadeAs.{dropped_as, input_as, served_as, without_as}
 use Rattle.machine.proofs.Looking.{looked_is}
 use Rattle.machine.proofs.Outstanding.{GoesOn, goes_on_by}
 use Rattle.machine.proofs.Rings.{have_set, have_cleared, looked_ring, ready_ring}
@@ -210,6 +210,20 @@ sound_put len r (Entropy pool) bytes sound are = bytes_put pool bytes sound are
 pub sound_input : {base : ℕ} (len : ℕ) (d : DeviceState) (bytes : List ℕ) → IsBytes bytes → IsSoundDevice base len d → IsSoundDevice base len (with_input d bytes)
 sound_input len d bytes are sound =
     stays_sound len d (with_input d bytes) (input_as d.kind bytes) (same_registers d.registers sound.registers) sound.positions (sound_put len d.registers d.kind bytes sound.kind are) sound
+
+-- The host drops what it has put in.
+no_host_bytes : AreHostBytes []
+no_host_bytes = record { few = omega arith; are = λ k. omega arith }
+
+sound_none : (len : ℕ) (r : Registers) (kind : Kind) → IsSoundKind len r kind → IsSoundKind len r (kind_without_input kind)
+sound_none len r (Network mac frames) sound = record { few = omega arith; are = λ k d below. absurd (omega (arith, below)) }
+sound_none len r (Block block) sound = sound
+sound_none len r (Console size held) sound = record { columns = sound.columns; rows = sound.rows; text = no_host_bytes }
+sound_none len r (Entropy pool) sound = no_host_bytes
+
+pub sound_without : {base : ℕ} (len : ℕ) (d : DeviceState) → IsSoundDevice base len d → IsSoundDevice base len (without_input d)
+sound_without len d sound =
+    stays_sound len d (without_input d) (without_as d.kind) (same_registers d.registers sound.registers) sound.positions (sound_none len d.registers d.kind sound.kind) sound
 
 -- The host sets the size of a console.
 counted_small : (n : ℕ) → (n + 1) % 2 ^ 32 < 2 ^ 32

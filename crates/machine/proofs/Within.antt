@@ -26,15 +26,15 @@ use Rattle.machine.specs.Outcome.{Outcome, fine, disk_failed, no_memory, disk_do
 use Rattle.machine.specs.Shapes.{made_as, sector_count}
 use Rattle.machine.specs.Sound.{IsSound, IsSoundDevice}
 use Rattle.machine.specs.State.{MachineState, DeviceState, base_of}
-use Rattle.machine.specs.Step.{answer, disk_of, disk_or_none, input_of, MaySee, MaySeeAt, read_register, write_register, read_ram, write_ram, put_by, put_in, set_size, size_by, step_device}
+use Rattle.machine.specs.Step.{answer, disk_of, disk_or_none, drop_by, drop_input, drop_of, input_of, MaySee, MaySeeAt, read_register, write_register, read_ram, write_ram, put_by, put_in, set_size, size_by, step_device}
 use Rattle.machine.specs.StepLaws.{Fits, StepStaysWithin, StepKeepsShape, StepStaysSound}
 use Rattle.mmio.specs.RegisterWrite.{register_write}
 use Rattle.machine.specs.declared.event.Event.{Event}
 use Rattle.machine.specs.declared.kind.Kind.{Kind}
 use Rattle.machine.specs.declared.kind.Kind.TheVariants.{Network, Block, Console, Entropy}
 use Rattle.machine.specs.declared.reply.Refusal.{Refusal}
-use Rattle.machine.specs.declared.event.Event.TheVariants.{RegRead, RegWrite, MemRead, MemWrite, Step, Input, Resize}
-use Rattle.machine.proofs.MadeAs.{advanced_as, dropped_as, input_as, served_as}
+use Rattle.machine.specs.declared.event.Event.TheVariants.{RegRead, RegWrite, MemRead, MemWrite, Step, Input, Resize, Drop}
+use Rattle.machine.proofs.MadeAs.{advanced_as, dropped_as, input_as, served_as, without_as}
 use Rattle.machine.proofs.Effects.{replaced_shapes, all_sizes_stay}
 use Rattle.machine.proofs.Inside.{AreInsideRam, all_inside, bytes_after, run_inside, served_inside}
 use Rattle.machine.proofs.Advancing.{advanced_is}
@@ -42,7 +42,7 @@ use Rattle.machine.proofs.Looking.{looked_is}
 use Rattle.machine.proofs.Numbering.{shape_counts}
 use Rattle.machine.proofs.Outstanding.{AreGoodSets}
 use Rattle.machine.proofs.Rings.{looked_ring}
-use Rattle.machine.proofs.Staying.{HasSectors, advanced_goes_on, sound_resized, sound_written, sound_input, sound_stepped}
+use Rattle.machine.proofs.Staying.{HasSectors, advanced_goes_on, sound_resized, sound_written, sound_input, sound_stepped, sound_without}
 
 -- The effect of an answer: writes of bytes inside RAM, no sector, and one device replaced by a sound one of its shape.
 abbrev pub StaysSoundAt : ℕ → ℕ → Option Replacement → Type 0
@@ -71,6 +71,14 @@ may_size_by devices number d (Entropy pool) size of is = tt
 may_size : (devices : List DeviceState) (number : ℕ) (found : Option DeviceState) (size : ConsoleSize) → slice_get devices number ≡ found → MayReplace devices (set_size number found size).effect.replaced
 may_size devices number None size is = tt
 may_size devices number (Some d) size is = may_size_by devices number d d.kind size refl is
+
+may_drop_by : (devices : List DeviceState) (number : ℕ) (d : DeviceState) (answer : Result (Unit {0}) Refusal) → slice_get devices number ≡ Some d → MayReplace devices (drop_by number d answer).effect.replaced
+may_drop_by devices number d (Ok done) is = (d, is, without_as d.kind)
+may_drop_by devices number d (Err refusal) is = tt
+
+may_drop : (devices : List DeviceState) (number : ℕ) (found : Option DeviceState) → slice_get devices number ≡ found → MayReplace devices (drop_input number found).effect.replaced
+may_drop devices number None is = tt
+may_drop devices number (Some d) is = may_drop_by devices number d (drop_of d.kind) is
 
 shape_advanced : (d : DeviceState) (ram : List ℕ) (content : List Sector) (pick : ℕ) (ring : Option RingState) (o : Outcome) → made_as (advance_at d ram content pick ring o).device.kind ≡ made_as d.kind
 shape_advanced d ram content pick None o = refl
@@ -109,6 +117,7 @@ may_replace m (MemWrite addr bytes) o seen = may_store m.devices (index_of (base
 may_replace m (Step dev pick) o seen = may_work m.devices dev (slice_get m.devices dev) m.ram (disk_of m dev) pick o seen refl
 may_replace m (Input dev bytes) o seen = may_put m.devices dev (slice_get m.devices dev) bytes refl
 may_replace m (Resize dev cols rows) o seen = may_size m.devices dev (slice_get m.devices dev) (record { columns = cols; rows = rows }) refl
+may_replace m (Drop dev) o seen = may_drop m.devices dev (slice_get m.devices dev) refl
 
 pub step_shape : StepKeepsShape
 step_shape m e o r f h = record {
@@ -227,6 +236,14 @@ no_writes_put : (dev : ℕ) (found : Option DeviceState) (bytes : List ℕ) → 
 no_writes_put dev None bytes = refl
 no_writes_put dev (Some d) bytes = no_writes_put_by dev d bytes (input_of d.kind bytes)
 
+no_writes_drop_by : (dev : ℕ) (d : DeviceState) (answer : Result (Unit {0}) Refusal) → (drop_by dev d answer).effect.writes ≡ []
+no_writes_drop_by dev d (Ok done) = refl
+no_writes_drop_by dev d (Err refusal) = refl
+
+no_writes_drop : (dev : ℕ) (found : Option DeviceState) → (drop_input dev found).effect.writes ≡ []
+no_writes_drop dev None = refl
+no_writes_drop dev (Some d) = no_writes_drop_by dev d (drop_of d.kind)
+
 below_of : (m : MachineState) (e : Event) (o : Outcome) (seen : Next) → MaySee m e o seen → IsSound m → All (λ (w : Write). w.index < length m.ram) (answer m e o seen).effect.writes
 below_of m (RegRead dev off width) o seen may sound = rw (no_writes_looked (slice_get m.devices dev) off width) (none_below (length m.ram))
 below_of m (RegWrite dev off width value) o seen may sound = rw (no_writes_set dev (slice_get m.devices dev) off width value) (none_below (length m.ram))
@@ -236,6 +253,7 @@ below_of m (Step dev pick) o seen may sound =
     all_inside (length m.ram) (step_device dev (slice_get m.devices dev) m.ram (disk_of m dev) pick o seen).effect.writes (worked_inside m dev (slice_get m.devices dev) pick o seen refl may sound)
 below_of m (Resize dev cols rows) o seen may sound = rw (no_writes_size dev (slice_get m.devices dev) (record { columns = cols; rows = rows })) (none_below (length m.ram))
 below_of m (Input dev bytes) o seen may sound = rw (no_writes_put dev (slice_get m.devices dev) bytes) (none_below (length m.ram))
+below_of m (Drop dev) o seen may sound = rw (no_writes_drop dev (slice_get m.devices dev)) (none_below (length m.ram))
 
 inside_of : (m : MachineState) (e : Event) (o : Outcome) (seen : Next) → MaySee m e o seen → Fits e → IsSound m → AreInsideRam (length m.ram) (answer m e o seen).effect.writes
 inside_of m (RegRead dev off width) o seen may fits sound = rw (no_writes_looked (slice_get m.devices dev) off width) tt
@@ -245,6 +263,7 @@ inside_of m (MemWrite addr bytes) o seen may fits sound = stored_inside (base_of
 inside_of m (Step dev pick) o seen may fits sound = worked_inside m dev (slice_get m.devices dev) pick o seen refl may sound
 inside_of m (Resize dev cols rows) o seen may fits sound = rw (no_writes_size dev (slice_get m.devices dev) (record { columns = cols; rows = rows })) tt
 inside_of m (Input dev bytes) o seen may fits sound = rw (no_writes_put dev (slice_get m.devices dev) bytes) tt
+inside_of m (Drop dev) o seen may fits sound = rw (no_writes_drop dev (slice_get m.devices dev)) tt
 
 -- The sectors that a step sets are there, and whole.
 abbrev IsGoodIn : MachineState → effects.SectorSet → Type 0
@@ -322,6 +341,14 @@ no_sectors_put : (dev : ℕ) (found : Option DeviceState) (bytes : List ℕ) →
 no_sectors_put dev None bytes = refl
 no_sectors_put dev (Some d) bytes = no_sectors_put_by dev d bytes (input_of d.kind bytes)
 
+no_sectors_drop_by : (dev : ℕ) (d : DeviceState) (answer : Result (Unit {0}) Refusal) → (drop_by dev d answer).effect.sectors ≡ []
+no_sectors_drop_by dev d (Ok done) = refl
+no_sectors_drop_by dev d (Err refusal) = refl
+
+no_sectors_drop : (dev : ℕ) (found : Option DeviceState) → (drop_input dev found).effect.sectors ≡ []
+no_sectors_drop dev None = refl
+no_sectors_drop dev (Some d) = no_sectors_drop_by dev d (drop_of d.kind)
+
 sets_of : (m : MachineState) (e : Event) (o : Outcome) (seen : Next) → IsSound m → AreGoodIn m (answer m e o seen).effect.sectors
 sets_of m (RegRead dev off width) o seen sound = rw (no_sectors_looked (slice_get m.devices dev) off width) tt
 sets_of m (RegWrite dev off width value) o seen sound = rw (no_sectors_set dev (slice_get m.devices dev) off width value) tt
@@ -330,6 +357,7 @@ sets_of m (MemWrite addr bytes) o seen sound = rw (no_sectors_stored (index_of (
 sets_of m (Step dev pick) o seen sound = sets_worked m dev (slice_get m.devices dev) pick o seen refl sound
 sets_of m (Resize dev cols rows) o seen sound = rw (no_sectors_size dev (slice_get m.devices dev) (record { columns = cols; rows = rows })) tt
 sets_of m (Input dev bytes) o seen sound = rw (no_sectors_put dev (slice_get m.devices dev) bytes) tt
+sets_of m (Drop dev) o seen sound = rw (no_sectors_drop dev (slice_get m.devices dev)) tt
 
 all_there : (m : MachineState) (ss : List effects.SectorSet) → AreGoodIn m ss → All (λ (s : effects.SectorSet). HasItem m (sector s.device s.number)) ss
 all_there m [] h k d below = absurd (omega (arith, below))
@@ -370,6 +398,14 @@ put_sound : {base : ℕ} (len dev : ℕ) (devices : List DeviceState) (found : O
 put_sound len dev devices None bytes there all are = tt
 put_sound len dev devices (Some d) bytes there all are = put_sound_by len dev d bytes (input_of d.kind bytes) are (rw (get_or_from_slice_get devices dev d d there) at (all dev d (slice_get_within devices dev d there)))
 
+drop_sound_by : {base : ℕ} (len dev : ℕ) (d : DeviceState) (answer : Result (Unit {0}) Refusal) → IsSoundDevice base len d → StaysSoundAt base len (drop_by dev d answer).effect.replaced
+drop_sound_by len dev d (Ok done) sound = sound_without len d sound
+drop_sound_by len dev d (Err refusal) sound = tt
+
+drop_sound : {base : ℕ} (len dev : ℕ) (devices : List DeviceState) (found : Option DeviceState) → slice_get devices dev ≡ found → All (IsSoundDevice base len) devices → StaysSoundAt base len (drop_input dev found).effect.replaced
+drop_sound len dev devices None there all = tt
+drop_sound len dev devices (Some d) there all = drop_sound_by len dev d (drop_of d.kind) (rw (get_or_from_slice_get devices dev d d there) at (all dev d (slice_get_within devices dev d there)))
+
 work_sound : (m : MachineState) (dev : ℕ) (found : Option DeviceState) (pick : ℕ) (o : Outcome) (seen : Next) → slice_get m.devices dev ≡ found → MaySeeAt found m.ram pick o seen → IsSound m
     → StaysSoundAt (base_of m.devices) (length m.ram) (step_device dev found m.ram (disk_of m dev) pick o seen).effect.replaced
 work_sound m dev None pick o seen there may sound = tt
@@ -397,6 +433,7 @@ replaced_sound m (MemWrite addr bytes) o seen may fits sound = store_sound (base
 replaced_sound m (Step dev pick) o seen may fits sound = work_sound m dev (slice_get m.devices dev) pick o seen refl may sound
 replaced_sound m (Resize dev cols rows) o seen may fits sound = size_sound (length m.ram) dev m.devices (slice_get m.devices dev) (record { columns = cols; rows = rows }) refl sound.devices fits.1 fits.2
 replaced_sound m (Input dev bytes) o seen may fits sound = put_sound (length m.ram) dev m.devices (slice_get m.devices dev) bytes refl sound.devices fits.1
+replaced_sound m (Drop dev) o seen may fits sound = drop_sound (length m.ram) dev m.devices (slice_get m.devices dev) refl sound.devices
 
 all_replaced : {base : ℕ} (len : ℕ) (devices : List DeviceState) (r : Option Replacement) → All (IsSoundDevice base len) devices → StaysSoundAt base len r → All (IsSoundDevice base len) (replaced_in devices r)
 all_replaced len devices None all sound = all

@@ -1,7 +1,9 @@
 -- Which steps of the devices have something to do, and which of them is next in turn.
-use Rattle.std.specs.Prelude.{◌≡◌, ℕ, ◌+◌, ◌-◌, ◌*◌, ◌/◌, ◌%◌, ◌<◌, ◌++◌, ◌||◌, min, ◌≢◌, ◌⊎◌, Bool, true, false, List, length, map, Option, Some, None, slice_get}
+use Rattle.std.specs.Prelude.{◌≡◌, ℕ, ◌+◌, ◌-◌, ◌*◌, ◌/◌, ◌%◌, ◌<◌, ◌++◌, ◌||◌, ◌&&◌, not, min, ◌≢◌, ◌⊎◌, Bool, true, false, List, length, map, Option, Some, None, slice_get, slice_index_or}
 use Rattle.std.specs.List.{find, range_with_len}
 use Rattle.std.specs.Option.{is_some}
+use Rattle.blk.specs.declared.durable.SyncOwed.{SyncOwed}
+use Rattle.blk.specs.declared.durable.SyncOwed.TheVariants.{EndOfWrite}
 use Rattle.mmio.specs.State.{queue_at}
 use Rattle.mmio.specs.declared.queue.Queue.{Queue}
 use Rattle.machine.specs.DeviceStep.{advanced_at, looked_at}
@@ -9,6 +11,7 @@ use Rattle.machine.specs.Outcome.{Outcome}
 use Rattle.machine.specs.Sound.{IsSound}
 use Rattle.machine.specs.State.{DeviceState, MachineState}
 use Rattle.machine.specs.Step.{IsStep}
+use Rattle.machine.specs.Unsynced.{owed}
 use Rattle.machine.specs.declared.event.Event.TheVariants.{Step}
 use Rattle.machine.specs.declared.reply.Reply.{Reply}
 use Rattle.machine.specs.declared.reply.Reply.TheVariants.{Idle}
@@ -29,6 +32,24 @@ device_has_work (Some d) pick = has_work_with d pick
 
 abbrev pub has_work_at : List DeviceState → Work → Bool
 has_work_at devices w = device_has_work (slice_get devices w.dev) w.pick
+
+-- The step ends a write, or a clearing, of a driver that did not accept FLUSH, and so takes it for durable (VIRTIO 1.2, 5.2.6.2).
+abbrev pub is_end_owed : SyncOwed → Bool
+is_end_owed EndOfWrite = true
+is_end_owed _ = false
+
+-- A step has something to do, and may be made. Of a device whose disk is lost, since what was written to it does not become durable, a
+-- step that ends such a write may not.
+abbrev pub can_work_with : Bool → DeviceState → ℕ → Bool
+can_work_with lost d pick = not (lost && is_end_owed (owed d pick)) && has_work_with d pick
+
+abbrev pub device_can_work : Bool → Option DeviceState → ℕ → Bool
+device_can_work lost None pick = false
+device_can_work lost (Some d) pick = can_work_with lost d pick
+
+-- As above, where a list says of each device whether its disk is lost. One past its end is not.
+abbrev pub can_work_at : List Bool → List DeviceState → Work → Bool
+can_work_at lost devices w = device_can_work (slice_index_or lost w.dev false) (slice_get devices w.dev) w.pick
 
 -- The steps in order: the 256 picks of device 0, then those of device 1, and so on. Each has its number in this order.
 abbrev pub number_of : Work → ℕ
@@ -51,13 +72,21 @@ in_turn_after last devices =
 abbrev pub next_work : List DeviceState → Work → Option Work
 next_work devices last = find (has_work_at devices) (in_turn_after last (length devices))
 
--- The same, where the step of the number `first` is the one after the last.
-abbrev pub next_from : List DeviceState → ℕ → Option Work
-next_from devices first = find (has_work_at devices) (steps_between first (256 * length devices) ++ steps_between 0 first)
+-- The first step in this order that has something to do and may be made.
+abbrev pub next_work_with_lost : List DeviceState → List Bool → Work → Option Work
+next_work_with_lost devices lost last = find (can_work_at lost devices) (in_turn_after last (length devices))
+
+-- The first of the steps of so many devices that passes a test, where the step of the number `first` is the one after the last.
+abbrev pub next_from : (Work → Bool) → ℕ → ℕ → Option Work
+next_from p devices first = find p (steps_between first (256 * devices) ++ steps_between 0 first)
 
 -- No step of any device has something to do.
 abbrev pub HaveNoWork : List DeviceState → Type 0
 HaveNoWork devices = (dev pick : ℕ) (d : DeviceState) → slice_get devices dev ≡ Some d → pick < 256 → (looked_at d pick ≡ None) × (advanced_at d pick ≡ None)
+
+-- No step of any device has something to do and may be made.
+abbrev pub NoneCanWork : List Bool → List DeviceState → Type 0
+NoneCanWork lost devices = (dev pick : ℕ) → dev < length devices → pick < 256 → can_work_at lost devices (record { dev = dev; pick = pick }) ≡ false
 
 -- A step without work is idle, and changes nothing, whatever its outcome.
 abbrev pub IdleWithoutWork : Type 0

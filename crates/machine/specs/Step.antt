@@ -28,7 +28,7 @@ use Rattle.machine.specs.QueuePositions.{restarted_positions}
 use Rattle.machine.specs.Shapes.{configuration_of}
 use Rattle.machine.specs.State.{DeviceState, MachineState, base_of}
 use Rattle.machine.specs.declared.event.Event.{Event}
-use Rattle.machine.specs.declared.event.Event.TheVariants.{RegRead, RegWrite, MemRead, MemWrite, Step, Input, Resize}
+use Rattle.machine.specs.declared.event.Event.TheVariants.{RegRead, RegWrite, MemRead, MemWrite, Step, Input, Resize, Drop}
 use Rattle.machine.specs.declared.kind.Kind.{Kind}
 use Rattle.machine.specs.declared.kind.Kind.TheVariants.{Network, Block, Console, Entropy}
 use Rattle.machine.specs.declared.reply.Refusal.{Refusal}
@@ -144,6 +144,29 @@ abbrev pub put_in : ℕ → Option DeviceState → List ℕ → Answer
 put_in number None bytes = refused NoDevice
 put_in number (Some d) bytes = put_by number d bytes (input_of d.kind bytes)
 
+-- The host drops what it has put in and the guest has not yet taken. A block device has none of it: its outstanding requests are
+-- the guest's.
+abbrev pub drop_of : Kind → Result (Unit {0}) Refusal
+drop_of (Block block) = Err WrongKind
+drop_of kind = Ok tt
+
+abbrev pub kind_without_input : Kind → Kind
+kind_without_input (Network mac frames) = Network mac []
+kind_without_input (Block block) = Block block
+kind_without_input (Console size held) = Console size []
+kind_without_input (Entropy pool) = Entropy []
+
+abbrev pub without_input : DeviceState → DeviceState
+without_input d = record d { kind = kind_without_input d.kind }
+
+abbrev pub drop_by : ℕ → DeviceState → Result (Unit {0}) Refusal → Answer
+drop_by number d (Err refusal) = refused refusal
+drop_by number d (Ok done) = becomes number (without_input d) Done
+
+abbrev pub drop_input : ℕ → Option DeviceState → Answer
+drop_input number None = refused NoDevice
+drop_input number (Some d) = drop_by number d (drop_of d.kind)
+
 -- The host sets the size of a console. A different size is a change of its configuration (VIRTIO 1.2, 5.3.6).
 abbrev pub size_by : ℕ → DeviceState → Kind → ConsoleSize → Answer
 size_by number d (Console old held) size = becomes number (record d { registers = resized old size d.registers; kind = Console size held }) Done
@@ -189,6 +212,7 @@ answer m (MemWrite addr bytes) o seen = write_ram (index_of (base_of m.devices) 
 answer m (Step dev pick) o seen = step_device dev (slice_get m.devices dev) m.ram (disk_of m dev) pick o seen
 answer m (Input dev bytes) o seen = put_in dev (slice_get m.devices dev) bytes
 answer m (Resize dev cols rows) o seen = set_size dev (slice_get m.devices dev) (record { columns = cols; rows = rows })
+answer m (Drop dev) o seen = drop_input dev (slice_get m.devices dev)
 
 -- What a step may see: if it looks at a queue, what the device sees there. This also says when memory may be refused.
 abbrev pub MaySeeAt : Option DeviceState → List ℕ → ℕ → Outcome → Next → Type 0

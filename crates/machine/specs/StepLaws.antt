@@ -11,7 +11,7 @@ use Rattle.machine.specs.Sound.{IsSound}
 use Rattle.machine.specs.State.{MachineState, DeviceState}
 use Rattle.machine.specs.Step.{HasEffect, IsStep}
 use Rattle.machine.specs.declared.event.Event.{Event}
-use Rattle.machine.specs.declared.event.Event.TheVariants.{RegRead, RegWrite, MemRead, MemWrite, Step, Input, Resize}
+use Rattle.machine.specs.declared.event.Event.TheVariants.{RegRead, RegWrite, MemRead, MemWrite, Step, Input, Resize, Drop}
 use Rattle.machine.specs.declared.reply.Reply.{Reply}
 use Rattle.machine.specs.declared.reply.Reply.TheVariants.{NeedsReset, NoMemory, Refused}
 
@@ -36,6 +36,7 @@ Fits (MemWrite addr bytes) = (addr < 2 ^ 64) × IsBytes bytes
 Fits (Step dev pick) = (dev < 2 ^ 8) × (pick < 2 ^ 8)
 Fits (Input dev bytes) = (dev < 2 ^ 8) × IsBytes bytes
 Fits (Resize dev cols rows) = (dev < 2 ^ 8) × (cols < 2 ^ 16) × (rows < 2 ^ 16)
+Fits (Drop dev) = dev < 2 ^ 8
 
 -- The effect of a step of a sound machine lies within it: in its RAM, its disks and its devices.
 abbrev pub StepStaysWithin : Type 0

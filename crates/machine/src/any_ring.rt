@@ -3,7 +3,7 @@
 //! The layout is named by feature bit 34, which is fixed while a queue is ready; devices are generic over `Ring` and see
 //! neither. This type keeps the ring of a queue and is no `Ring` itself: each of its calls would tell the layout apart again.
 
-ghost use Rattle.std.specs.Prelude.{◌≡◌, ◌<◌, true, false};
+ghost use Rattle.std.specs.Prelude.{◌≡◌, ◌<◌, not, true, false};
 ghost use Rattle.chains.specs.RingCore.{core_state};
 ghost use Rattle.guestmem.specs.Memory.{Memory};
 ghost use Rattle.chains.specs.Decoder.{Fits};
@@ -19,6 +19,16 @@ use packedring::PackedRing;
 use splitring::SplitRing;
 use std::alloc::Global;
 
+/// A queue that is not ready.
+const NO_QUEUE: Queue = Queue {
+    size: 1,
+    descriptors: 0,
+    driver: 0,
+    device: 0,
+    is_ready: false,
+    is_notified: false,
+};
+
 /// A ring of either layout.
 #[derive(Drop)]
 pub(crate) enum AnyRing {
@@ -29,17 +39,10 @@ pub(crate) enum AnyRing {
 impl AnyRing {
     /// A ring of no queue yet, which keeps nothing. It takes no memory.
     pub fn new(alloc: Global) -> AnyRing
-        ensures { (ram : Memory) → Fits (decoder_in result) ram }
+        ensures layout { is_packed_in result ≡ false }
+        ensures fits { (ram : Memory) → Fits (decoder_in result) ram }
     {
-        let queue = Queue {
-            size: 1,
-            descriptors: 0,
-            driver: 0,
-            device: 0,
-            is_ready: false,
-            is_notified: false,
-        };
-        AnyRing::Split(SplitRing::new(alloc, &queue, 0, Positions::FIRST))
+        AnyRing::Split(SplitRing::new(alloc, &NO_QUEUE, 0, Positions::FIRST))
     }
 
     /// Makes it the ring of this core, in the layout that its features name: RING_PACKED names the packed one (VIRTIO 1.2, 6). What it keeps
@@ -52,26 +55,38 @@ impl AnyRing {
         ensures fits { (ram : Memory) → Fits (decoder_in self.old) ram → Fits (decoder_in self.new) ram }
     {
         let is_packed = core.features & RING_PACKED == RING_PACKED;
+        if self.is_packed() != is_packed {
+            self.turn(core.alloc);
+        }
         match self {
-            AnyRing::Split(ring) if !is_packed => ring.renew(core),
-            AnyRing::Packed(ring) if is_packed => ring.renew(core),
-            _ => self.turn(core),
+            AnyRing::Split(ring) => ring.renew(core),
+            AnyRing::Packed(ring) => ring.renew(core),
         }
     }
 
-    /// Makes it a ring that keeps nothing, of the layout that the features name. That is seldom: a driver chooses its layout once.
+    /// Makes it a ring of the other layout, of no queue yet, which keeps nothing. That is seldom: a driver chooses its layout once.
     #[cold]
     #[inline(never)]
-    fn turn(&mut self, core: RingCore)
-        requires { MayRing (core_state (has core.features RING_PACKED) core) }
-        ensures ring { ring_in self.new ≡ core_state (has core.features RING_PACKED) core }
+    fn turn(&mut self, alloc: Global)
+        ensures layout { is_packed_in self.new ≡ not (is_packed_in self.old) }
         ensures fits { (ram : Memory) → Fits (decoder_in self.new) ram }
     {
-        if core.features & RING_PACKED == RING_PACKED {
-            *self = AnyRing::Packed(PackedRing::of(core));
+        if self.is_packed() {
+            *self = AnyRing::new(alloc);
         } else {
-            *self = AnyRing::Split(SplitRing::of(core));
+            *self = AnyRing::Packed(PackedRing::new(
+                alloc,
+                &NO_QUEUE,
+                RING_PACKED,
+                Positions::FIRST,
+            ));
         }
+    }
+
+    fn is_packed(&self) -> bool
+        ensures { result ≡ is_packed_in self.now }
+    {
+        matches!(self, AnyRing::Packed(_))
     }
 
     /// Keeps no descriptor any more.

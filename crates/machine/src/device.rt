@@ -33,7 +33,7 @@ impl<D: Disk> Model for Device<D> {
 
 impl<D: Disk> Device<D> {
     ghost use Rattle.machine.specs.Stepped.{reply_in};
-    ghost use Rattle.machine.specs.Step.{ResizesDevice, register_value_of, register_set, input_of, with_input, written_out};
+    ghost use Rattle.machine.specs.Step.{ResizesDevice, register_value_of, register_set, drop_of, input_of, with_input, without_input, written_out};
     ghost use Rattle.machine.specs.DeviceWork.{IsDeviceStep};
     ghost use Rattle.chains.specs.Decoder.{Fits};
     ghost use Rattle.machine.specs.AnyRing.{decoder_in};
@@ -115,6 +115,13 @@ impl<D: Disk> Device<D> {
         ensures device { self.new ≡ record self.old { state = with_input self.old.state bytes.now } }
     {
         self.state.input(bytes)
+    }
+
+    pub(crate) fn drop_input(&mut self) -> Result<(), Refusal>
+        ensures answer { result ≡ drop_of self.old.state.kind }
+        ensures device { self.new ≡ record self.old { state = without_input self.old.state } }
+    {
+        self.state.drop_input()
     }
 
     /// Fails the flush that a step with this pick makes, if it makes one. The disk is not called.

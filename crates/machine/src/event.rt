@@ -54,4 +54,10 @@ pub enum Event {
         cols: u16,
         rows: u16,
     },
+
+    /// The host drops what it has put in and the guest has not yet taken: the pool of an entropy device, the input of a console,
+    /// the frames of a network device. A block device has none of it: that is `WrongKind`.
+    Drop {
+        dev: u8,
+    },
 }

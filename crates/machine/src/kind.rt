@@ -13,7 +13,7 @@ ghost use Rattle.blk.specs.Durable.{is_flush_owed};
 ghost use Rattle.machine.specs.DeviceStep.{has_work, serve, wanted_of, requests_of};
 ghost use Rattle.machine.specs.Shapes.{configuration_of, first_kind, made_as};
 ghost use Rattle.machine.specs.Sound.{AreSoundBeside};
-ghost use Rattle.machine.specs.Step.{IsResized, input_of, dropped_unready, kind_with_input, written_out};
+ghost use Rattle.machine.specs.Step.{IsResized, drop_of, input_of, dropped_unready, kind_with_input, kind_without_input, written_out};
 ghost use Rattle.machine.specs.Unsynced.{kind_flush_failed, kind_flushes, kind_owed};
 ghost use Rattle.mmio.specs.RegisterRead.{register_read};
 
@@ -170,6 +170,20 @@ impl Kind {
             Kind::Console { held, .. } => Ok(held.put_in(bytes) as u32),
             Kind::Entropy(pool) => Ok(pool.put_in(bytes) as u32),
         }
+    }
+
+    /// Drops what the host has put in. The outstanding requests of a block device are the guest's, and stay.
+    pub(crate) fn drop_input(&mut self) -> Result<(), Refusal>
+        ensures answer { result ≡ drop_of self.old }
+        ensures kind { self.new ≡ kind_without_input self.old }
+    {
+        match self {
+            Kind::Network { inbox, .. } => inbox.clear(),
+            Kind::Block(_) => return Err(Refusal::WrongKind),
+            Kind::Console { held, .. } => held.clear(),
+            Kind::Entropy(pool) => pool.clear(),
+        }
+        Ok(())
     }
 
     /// Sets the size of a console, which reports it to its driver by the registers.

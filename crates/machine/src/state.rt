@@ -66,7 +66,7 @@ impl DeviceState {
     ghost use Rattle.mmio.specs.RegisterWrite.{register_write};
     ghost use Rattle.machine.specs.Sound.{IsSoundDevice};
     ghost use Rattle.machine.specs.Unsynced.{HasFlushed};
-    ghost use Rattle.machine.specs.Step.{ResizesDevice, register_value_of, register_set, input_of, with_input, written_out};
+    ghost use Rattle.machine.specs.Step.{ResizesDevice, register_value_of, register_set, drop_of, input_of, with_input, without_input, written_out};
 
     /// A new device, in a machine whose RAM has `ram_len` bytes from the address `ram_base` on. Its only error is out of memory.
     pub(crate) fn new(
@@ -190,6 +190,14 @@ impl DeviceState {
         ensures device { self.new ≡ with_input self.old bytes.now }
     {
         self.kind.input(bytes)
+    }
+
+    /// Drops what the host has put in.
+    pub(crate) fn drop_input(&mut self) -> Result<(), Refusal>
+        ensures answer { result ≡ drop_of self.old.kind }
+        ensures device { self.new ≡ without_input self.old }
+    {
+        self.kind.drop_input()
     }
 
     /// Looks at the next chain of a queue. The disk is not called, and nothing of it is changed.

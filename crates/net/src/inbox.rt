@@ -88,6 +88,13 @@ impl Inbox {
         frame.len()
     }
 
+    /// Drops all frames.
+    pub fn clear(&mut self)
+        ensures { self.new ≡ [] }
+    {
+        self.frames.clear();
+    }
+
     /// The bytes of the frame of this number; the oldest one has the number 0.
     pub fn frame(&self, number: usize) -> &[u8]
         requires { number < length self.now }

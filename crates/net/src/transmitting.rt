@@ -21,6 +21,7 @@ const FRAME: MessageForm = MessageForm {
 
 /// Reads the frame of the next chain of the transmit queue, and publishes the chain. Memory may be refused for a long chain, or for the
 /// frame.
+#[inline(always)]
 pub fn transmit<R: Ring, L: TouchLog>(
     site: Site,
     ring: &mut R,

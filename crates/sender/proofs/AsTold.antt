@@ -110,14 +110,14 @@ tells_one m s (items.sector dev n) entry sound ram there is =
     }
 
 -- The last of several records.
-record Split (s : Seen) (numbers : List ℕ) (i : ℕ) (entries : List Record) : Type 0 where
+pub record Split (s : Seen) (numbers : List ℕ) (i : ℕ) (entries : List Record) : Type 0 where
   pub before : List Record
   pub entry : Record
   pub are : entries ≡ before ++ entry ∷ []
   pub told : AreTold s numbers before
   pub last : IsTold s (item_at (layout_of (state_of s)) i) entry
 
-split : (s : Seen) (numbers : List ℕ) (i : ℕ) (entries : List Record) → AreTold s (numbers ++ i ∷ []) entries → Split s numbers i entries
+pub split : (s : Seen) (numbers : List ℕ) (i : ℕ) (entries : List Record) → AreTold s (numbers ++ i ∷ []) entries → Split s numbers i entries
 split s [] i [] are = absurd are
 split s [] i (entry ∷ []) are = record { before = []; entry = entry; are = refl; told = tt; last = are.0 }
 split s [] i (entry ∷ other ∷ entries) are = absurd are.1

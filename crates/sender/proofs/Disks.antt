@@ -23,7 +23,7 @@ size_told m shapes dev other sound are below =
     let sizes : map length m.disks ≡ map sector_count shapes = sound.disks ∙ shape_counts m.devices ∙ sym (ap (map sector_count) are) in
     count_at shapes dev other (omega (arith, long, below)) ∙ sym (ap (λ counts. get_or counts dev 0) sizes)
 
-few_in : (shape : Shape) → IsSoundShape shape → sector_count shape ≤ 4294967295
+pub few_in : (shape : Shape) → IsSoundShape shape → sector_count shape ≤ 4294967295
 few_in (Net mac) sound = omega arith
 few_in (Block sectors read_only id) sound = omega (arith, sound.few)
 few_in Console sound = omega arith

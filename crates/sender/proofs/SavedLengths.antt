@@ -28,15 +28,15 @@ use Rattle.sender.specs.Items.{disk_text, first_sector, front_text, records_from
 use Rattle.sender.proofs.Parts.{none_from, page_more, saved_in_parts, sector_more}
 
 -- Records, one by one.
-length_good : (d n : ℕ) (b : List ℕ) → length b ≡ 512 → length (spelled_record (sector d n (Some b))) ≡ 519
+pub length_good : (d n : ℕ) (b : List ℕ) → length b ≡ 512 → length (spelled_record (sector d n (Some b))) ≡ 519
 unfolding spelled_record
 length_good d n b e = omega (arith, length-append (digits 4 n) (1 ∷ b), length-digits 4 n, e)
 
-length_bad : (d n : ℕ) → length (spelled_record (sector d n None)) ≡ 7
+pub length_bad : (d n : ℕ) → length (spelled_record (sector d n None)) ≡ 7
 unfolding spelled_record
 length_bad d n = omega (arith, length-append (digits 4 n) (0 ∷ []), length-digits 4 n)
 
-length_commit : (bytes : List ℕ) → length (spelled_record (commit (sha256 bytes))) ≡ 33
+pub length_commit : (bytes : List ℕ) → length (spelled_record (commit (sha256 bytes))) ≡ 33
 unfolding spelled_record
 length_commit bytes = ap suc (length-sha256 bytes)
 

@@ -1,7 +1,7 @@
 -- What each call of a machine that is being migrated does.
 --
 -- All single calls share one clause, `Serves`, by event and reply, so that `serve` and `replay` need no second one.
-use Rattle.std.specs.Prelude.{◌≡◌, ℕ, ◌+◌, ◌<◌, ◌≤◌, ◌++◌, ◌%◌, ◌^◌, ◌||◌, List, [], ◌∷◌, replicate, Bool, true, false, IsTrue, Result, Ok, Err, slice_set, MatchOption}
+use Rattle.std.specs.Prelude.{◌≡◌, ℕ, ◌+◌, ◌<◌, ◌≤◌, ◌++◌, ◌%◌, ◌^◌, ◌||◌, List, [], ◌∷◌, length, replicate, Bool, true, false, IsTrue, Result, Ok, Err, slice_set, MatchOption}
 use Rattle.dirtylog.specs.Members.{HasNone, IsLeast, has}
 use Rattle.guestmem.specs.Item as items
 use Rattle.machine.specs.Applied.{IsApplied, IsGood}
@@ -142,6 +142,10 @@ pub record Stops (old : LiveSeen) (pages sectors : ℕ) (new : LiveSeen) : Type 
   pub took : (b : List ℕ) → Covers old.digest b → Took old new (texts entries ++ closing (now old) (b ++ texts entries))
   pub pages_are : pages ≡ pages_among (layout_of (now old)) (in_either old) (size_of (layout_of (now old)))
   pub sectors_are : sectors ≡ sectors_among (layout_of (now old)) (in_either old) (size_of (layout_of (now old)))
+
+-- No stop writes more bytes than so many, where the writer is honest and its digest is of known bytes.
+abbrev pub StopsWithin : LiveSeen → ℕ → Type 0
+StopsWithin old most = (pages sectors : ℕ) (b : List ℕ) (new : LiveSeen) → IsTrue old.out.honest → Covers old.digest b → Stops old pages sectors new → length new.out.held ≤ length old.out.held + most
 
 -- The items of the two sets below a number were sent.
 pub record AreSent (old : LiveSeen) (to : ℕ) (new : LiveSeen) : Type 0 where

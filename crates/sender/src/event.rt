@@ -78,6 +78,22 @@ pub struct Remaining {
     pub dirty: u64,
 }
 
+/// How many items of each kind are still to be sent.
+#[derive(Clone, Copy, Debug, PartialEq, Eq)]
+pub struct Left {
+    /// How many pages are due in this round.
+    pub due_pages: u64,
+
+    /// How many sectors are due in this round.
+    pub due_sectors: u64,
+
+    /// How many pages were touched since they were sent, or since the round began.
+    pub dirty_pages: u64,
+
+    /// How many sectors were.
+    pub dirty_sectors: u64,
+}
+
 /// The reply to a live event.
 #[derive(Debug, Drop, PartialEq, Eq)]
 pub enum LiveReply {

@@ -52,6 +52,10 @@ pub trait Guest<D: Disk> {
     fn input(&mut self, dev: u8, bytes: &[u8]) -> Result<Reply, MigError>
         ensures { serves self.old (events.Input dev bytes.now) result self.new };
 
+    /// The host drops what it has put in and the guest has not yet taken. As `apply` of that event.
+    fn drop_input(&mut self, dev: u8) -> Result<Reply, MigError>
+        ensures { serves self.old (events.Drop dev) result self.new };
+
     /// The host sets the size of a console, in characters. As `apply` of that event.
     fn resize(&mut self, dev: u8, cols: u16, rows: u16) -> Result<Reply, MigError>
         ensures { serves self.old (events.Resize dev cols rows) result self.new };
@@ -112,6 +116,10 @@ impl<D: Disk> Guest<D> for Machine<D> {
         Ok(Reply::from_accepted(Machine::input(self, dev, bytes)))
     }
 
+    fn drop_input(&mut self, dev: u8) -> Result<Reply, MigError> {
+        Ok(Reply::from_done(Machine::drop_input(self, dev)))
+    }
+
     fn resize(&mut self, dev: u8, cols: u16, rows: u16) -> Result<Reply, MigError> {
         Ok(Reply::from_done(Machine::resize(self, dev, cols, rows)))
     }
@@ -168,6 +176,10 @@ impl<D: Disk, W: Digesting> Guest<D> for LiveOver<D, W> {
 
     fn input(&mut self, dev: u8, bytes: &[u8]) -> Result<Reply, MigError> {
         LiveOver::input(self, dev, bytes)
+    }
+
+    fn drop_input(&mut self, dev: u8) -> Result<Reply, MigError> {
+        LiveOver::drop_input(self, dev)
     }
 
     fn resize(&mut self, dev: u8, cols: u16, rows: u16) -> Result<Reply, MigError> {

@@ -37,7 +37,7 @@
 //! - `LiveOver` is `Live` over any writer that digests. `Live` itself is over any sink, and digests what it writes at once. Over
 //!   `Waiting` it is `LiveWaiting`: `take`, also that of `LiveParked`, gives written bytes between two calls and digests them then, so
 //!   a copy digests nothing, and a stop what was not taken.
-//! - `remaining` counts both sets in constant time; `machine` lends the machine to be read; `into_parts` and `abort`
+//! - `remaining` counts both sets in constant time; `left` counts pages and sectors apart, and `most_by_stop` is the most bytes that a stop would write; `machine` lends the machine to be read; `into_parts` and `abort`
 //!   return it.
 //! - `lend` gives the RAM of a machine over memory of the caller to the caller, whose guest may write there, and keeps all else as a
 //!   `LiveParked` (`specs/Parked`), of which no call is made. `LiveParked::give_back` takes the region back with the pages that were
@@ -80,7 +80,7 @@ mod played;
 mod playing;
 mod saving;
 
-pub use event::{CopyAnswer, End, Item, LiveEvent, LiveReply, Remaining, Stopped};
+pub use event::{CopyAnswer, End, Item, Left, LiveEvent, LiveReply, Remaining, Stopped};
 pub use guest::Guest;
 pub use lending::LiveParked;
 pub use live::{Live, LiveOver, LiveWaiting};

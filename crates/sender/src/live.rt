@@ -6,22 +6,23 @@
 //! A stop goes over its two sets side by side, and searches each on only from the member that it has just sent: a search of
 //! both from each item on would go over the rest of a set that has one late member for each item of the other.
 
-ghost use Rattle.std.specs.Prelude.{◌≡◌, ◌≢◌, ◌<◌, ◌^◌, ◌-◌, ◌++◌, IfOk, IfErr, None, OnOk, Some, [], drop, false, length, min, take, true};
+ghost use Rattle.std.specs.Prelude.{◌≡◌, ◌≢◌, ◌<◌, ◌^◌, ◌-◌, ◌+◌, ◌≤◌, ◌++◌, IfOk, IfErr, None, OnOk, Some, [], drop, false, length, min, take, true};
 ghost use Rattle.dirtylog.specs.Members.{HasNone, IsLeastFrom, member_count};
 ghost use Rattle.machine.specs.declared.event.Event.TheVariants as events;
 ghost use Rattle.machine.specs.Calls.{CallsDisk};
-ghost use Rattle.machine.specs.Layout.{item_at, layout_of, size_of};
+ghost use Rattle.machine.specs.Layout.{item_at, layout_of, pages_of, size_of};
 ghost use Rattle.wire.specs.Sinks.{Covers, Takes, over_writer};
 ghost use Rattle.sender.specs.LiveState.{HasPlaces, now, refusal_for};
-ghost use Rattle.sender.specs.Calls.{Serves, begun_reply, copied_reply, ended_reply, guest_reply, stepped_result, stopped_reply};
+ghost use Rattle.sender.specs.Calls.{Serves, StopsWithin, begun_reply, copied_reply, ended_reply, guest_reply, stepped_result, stopped_reply};
 ghost use Rattle.sender.specs.Parked.{IsLiveParked};
 ghost use Rattle.sender.specs.Reads.{CallsNone, HasLiveCalled, ReadsItem, SendCalls};
 ghost use Rattle.sender.specs.Unsynced.{FlushesLiveDisk, TriesFlush};
 ghost use Rattle.sender.specs.Stopping.{ClosesStream, HasNoneUpTo, IsLive, SendsAll, SendsItem, lesser, one_more, phase_after};
 
 use crate::dirty::Dirty;
-use crate::event::{CopyAnswer, End, Item, LiveEvent, LiveReply, Remaining, Stopped};
+use crate::event::{CopyAnswer, End, Item, Left, LiveEvent, LiveReply, Remaining, Stopped};
 use crate::lending::LiveParked;
+use crate::measuring::devices_len;
 use crate::mig_error::MigError;
 use crate::numbering::{item_at, number_items, page_count};
 use crate::phase::Phase;
@@ -31,7 +32,10 @@ use machine::{Disk, DiskFault, Event, Machine, Reply, Stepped};
 use region::Region;
 use std::alloc::{AllocError, Global};
 use std::marker::Model;
-use wire::{Digesting, Eager, Sink, Waiting, encode_header, encode_round};
+use wire::{
+    COMMIT_RECORD, Digesting, Eager, GOOD_SECTOR_RECORD, PAGE_RECORD, Sink, Waiting, encode_header,
+    encode_round,
+};
 
 /// The last round that the record of a round's end can number. It can't be ended.
 const LAST_ROUND: u32 = u32::MAX;
@@ -193,6 +197,39 @@ impl<D: Disk, W: Digesting> LiveOver<D, W> {
             due: self.due.count(),
             dirty: self.dirty.set.count(),
         }
+    }
+
+    /// What `remaining` counts, with pages and sectors apart. It looks at the place of each page in both sets.
+    pub fn left(&self) -> Left
+        ensures due_pages { result.due_pages ≡ member_count (take (pages_of (now self.now)) self.now.due) }
+        ensures due_sectors { result.due_sectors ≡ member_count (drop (pages_of (now self.now)) self.now.due) }
+        ensures dirty_pages { result.dirty_pages ≡ member_count (take (pages_of (now self.now)) self.now.dirty) }
+        ensures dirty_sectors { result.dirty_sectors ≡ member_count (drop (pages_of (now self.now)) self.now.dirty) }
+        ensures few_pages { result.due_pages + result.dirty_pages ≤ 32768 }
+        ensures few_sectors { result.due_sectors + result.dirty_sectors < 2 ^ 38 }
+    {
+        self.recall();
+        let pages = page_count(&self.machine);
+        let due_pages = self.due.count_below(pages);
+        let dirty_pages = self.dirty.set.count_below(pages);
+        Left {
+            due_pages,
+            due_sectors: self.due.count() - due_pages,
+            dirty_pages,
+            dirty_sectors: self.dirty.set.count() - dirty_pages,
+        }
+    }
+
+    /// The most bytes that a stop would write: as if no page were of zeros, no sector bad, and no item both due and dirty. It looks at the
+    /// place of each page in both sets.
+    pub fn most_by_stop(&self) -> u64
+        ensures { StopsWithin self.now result }
+    {
+        self.recall();
+        let items = self.left();
+        let pages = PAGE_RECORD as u64 * (items.due_pages + items.dirty_pages);
+        let sectors = GOOD_SECTOR_RECORD as u64 * (items.due_sectors + items.dirty_sectors);
+        pages + sectors + devices_len(&self.machine) + COMMIT_RECORD as u64
     }
 
     /// The machine as it is.
@@ -402,6 +439,17 @@ impl<D: Disk, W: Digesting> LiveOver<D, W> {
     {
         self.running()?;
         Ok(Reply::from_accepted(self.machine.input(dev, bytes)))
+    }
+
+    /// The host drops what it has put in and the guest has not yet taken. As `apply` of that event.
+    #[tactic(auto, using(crate::proofs::Living::guest_refused))]
+    pub fn drop_input(&mut self, dev: u8) -> Result<Reply, MigError>
+        ensures served { Serves self.old (LiveEvent.Guest (events.Drop dev)) (guest_reply result) self.new }
+        ensures calls { HasLiveCalled D.called self.old (LiveEvent.Guest (events.Drop dev)) (guest_reply result) self.new }
+    {
+        self.running()?;
+        let answer = self.machine.drop_input(dev);
+        Ok(Reply::from_done(answer))
     }
 
     /// Begins: the header is written, and every item is due.

@@ -61,7 +61,7 @@ fn disk_len<D: Disk>(machine: &Machine<D>, dev: u8) -> u64
 }
 
 /// The length of the records of all devices.
-fn devices_len<D: Disk>(machine: &Machine<D>) -> u64
+pub(crate) fn devices_len<D: Disk>(machine: &Machine<D>) -> u64
     ensures len { result ≡ length (device_texts 0 (state_of machine.now).devices) }
     ensures short { result ≤ 2097248 }
 {

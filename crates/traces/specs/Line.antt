@@ -2,7 +2,7 @@
 use Rattle.std.specs.Prelude.{ℕ, ◌^◌, Bool, true, false, ◌==◌, if◌then◌else◌, List, [], ◌∷◌, codes, Option, Some, None}
 use Rattle.std.specs.Str.{bytes_eq}
 use Rattle.std.specs.List.{slice_split}
-use Rattle.machine.specs.declared.event.Event.TheVariants.{RegRead, RegWrite, MemRead, MemWrite, Step, Input, Resize}
+use Rattle.machine.specs.declared.event.Event.TheVariants.{RegRead, RegWrite, MemRead, MemWrite, Step, Input, Resize, Drop}
 use Rattle.machine.specs.declared.shape.Shape.TheVariants.{Net, Block, Console, Entropy}
 use Rattle.sender.specs.declared.event.LiveEvent.TheVariants.{Guest, Begin, Copy, EndRound, Stop}
 use Rattle.traces.specs.declared.line.Line.{Line}
@@ -102,6 +102,12 @@ resize_line dev cols rows = do
   rows ← u16_field rows
   Some (Act (Guest (Resize dev cols rows)))
 
+-- drop DEV
+abbrev pub drop_line : List ℕ → Option Line
+drop_line dev = do
+  dev ← u8_field dev
+  Some (Act (Guest (Drop dev)))
+
 -- The number of words and the first word say which kind of line it is.
 abbrev pub one_word : List ℕ → Option Line
 one_word verb =
@@ -117,6 +123,7 @@ abbrev pub two_words : List ℕ → List ℕ → Option Line
 two_words verb a =
     if bytes_eq verb (codes "ram") then ram_line a
     else if bytes_eq verb (codes "net") then net_line a
+    else if bytes_eq verb (codes "drop") then drop_line a
     else None
 
 abbrev pub three_words : List ℕ → List ℕ → List ℕ → Option Line

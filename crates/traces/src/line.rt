@@ -4,7 +4,7 @@ ghost use Rattle.std.specs.Prelude.{◌≡◌, IfOk};
 ghost use Rattle.std.specs.List.{slice_split};
 ghost use Rattle.sender.specs.declared.event.LiveEvent.TheVariants.{Guest};
 ghost use Rattle.traces.specs.declared.line.Line.TheVariants.{Act};
-ghost use Rattle.traces.specs.Line.{one_word, two_words, three_words, four_words, five_words, net_line, block_line, register_read_line, memory_read_line, memory_write_line, step_line, input_line, resize_line, words_say, line_says, is_space};
+ghost use Rattle.traces.specs.Line.{one_word, two_words, three_words, four_words, five_words, net_line, block_line, register_read_line, memory_read_line, memory_write_line, step_line, input_line, resize_line, drop_line, words_say, line_says, is_space};
 
 use crate::fields::{bytes, number8, number16, number32, number64, read_only, sized_bytes};
 use crate::words::split_word;
@@ -61,6 +61,13 @@ fn net(a: &[u8]) -> Option<Line>
     Some(Line::Device(Shape::Net { mac }))
 }
 
+fn drop_input(a: &[u8]) -> Option<Line>
+    ensures { result ≡ drop_line a.now }
+{
+    let dev = number8(a)?;
+    Some(guest(Event::Drop { dev }))
+}
+
 fn two(verb: &[u8], a: &[u8]) -> Option<Line>
     ensures { result ≡ two_words verb.now a.now }
 {
@@ -69,6 +76,8 @@ fn two(verb: &[u8], a: &[u8]) -> Option<Line>
         Some(Line::Ram(pages))
     } else if verb == b"net".as_slice() {
         net(a)
+    } else if verb == b"drop".as_slice() {
+        drop_input(a)
     } else {
         None
     }

@@ -24,7 +24,7 @@ fn first_begin(so_far: u64, number: u64, line: &[u8]) -> u64
 /// Lines end with LF, which the last may lack. Empty lines and lines that begin with `#` are skipped. The others are
 /// one `ram PAGES`, then 1 to 16 of `net MAC`, `block SECTORS rw ID`, `block SECTORS ro ID`, `console` and `entropy`,
 /// and then events: `r DEV OFF WIDTH`, `w DEV OFF WIDTH VALUE`, `mr ADDR LEN`, `mw ADDR BYTES`, `s DEV PICK`,
-/// `in DEV BYTES` and `size DEV COLS ROWS` of the guest, and `begin`, `copy`, `round` and `stop` of migration. One
+/// `in DEV BYTES`, `drop DEV` and `size DEV COLS ROWS` of the guest, and `begin`, `copy`, `round` and `stop` of migration. One
 /// space separates two words.
 ///
 /// `Line` has the number of the first line that is not allowed where it is, or of the one that is missing after the

@@ -54,8 +54,8 @@ pub use receiver::{Receiver, RecvError, read_heading, receive, receive_at};
 pub use region::Region;
 pub use rehearsal::{Rehearsal, rehearse};
 pub use sender::{
-    CopyAnswer, End, Guest, Item, Live, LiveEvent, LiveParked, LiveReply, LiveWaiting, MigError,
-    Phase, Remaining, Replay, Stopped, replay, save, saved_len,
+    CopyAnswer, End, Guest, Item, Left, Live, LiveEvent, LiveParked, LiveReply, LiveWaiting,
+    MigError, Phase, Remaining, Replay, Stopped, replay, save, saved_len,
 };
 pub use traces::{
     Trace, TraceError, WriteFault, parse, parse_events, write_checked, write_guest_reply,

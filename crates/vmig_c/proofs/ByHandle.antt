@@ -1,31 +1,11 @@
 -- What C is told, by cases on the handle.
-use Rattle.std.proofs.Common.{◌≡◌, ℕ, true, false, List, refl, sym, ap, ◌∙◌, subst, inl, inr, true≢false}
+use Rattle.std.proofs.Common.{◌≡◌, ℕ, true, false, List, refl, sym, subst, inl, inr, true≢false}
 use Rattle.std.specs.Prelude.{Option, Some, None, is_some}
 use Rattle.vmig_c.specs.Kept.{KeptSeen}
-use Rattle.machine.specs.declared.event.Event.{Event}
 use Rattle.vmig_c.specs.Making.{KeepsMade, Makes, are_beyond_limits, shapes_of}
-use Rattle.vmig_c.specs.Moving.{KeepsReceived, Received, RefusedBy, Saved, SavesKept}
-use Rattle.vmig_c.specs.Durable.{owed_lost}
-use Rattle.vmig_c.specs.Stepped.{StepsOwing, Stepped}
+use Rattle.vmig_c.specs.Moving.{KeepsReceived, Received, RefusedBy}
 use Rattle.vmig_c.specs.declared.device_shape.DeviceShape.{DeviceShape}
-use Rattle.vmig_c.specs.Told.{Told, Tells, Read, ReadsKept, lines_in, lines_told}
-
-pub told_none : (k after : Option KeptSeen) (e : Event) (n : ℕ) → is_some k ≡ false → after ≡ k → Told k e 8 n n after
-told_none None after e n is same = (refl, refl, same)
-told_none (Some m) after e n is same = absurd (true≢false is)
-
-pub told_some : (k after : Option KeptSeen) (m next : KeptSeen) (e : Event) (n status number : ℕ) → Some m ≡ k → after ≡ Some next → next ≡ record m { state = next.state }
-    → Tells m.state e status number n next.state → Told k e status number n after
-told_some k after m next e n status number is becomes kind tells =
-    subst (λ (o : Option KeptSeen). Told o e status number n after) is (record { next = next.state; is_next = becomes ∙ ap Some kind; tells = tells })
-
-pub read_none : (k : Option KeptSeen) (addr : ℕ) (before after : List ℕ) → is_some k ≡ false → after ≡ before → Read k addr 8 before after
-read_none None addr before after is same = (refl, same)
-read_none (Some m) addr before after is same = absurd (true≢false is)
-
-pub read_some : (k : Option KeptSeen) (m : KeptSeen) (addr status : ℕ) (before after : List ℕ) → Some m ≡ k
-    → ReadsKept m.state addr status before after → Read k addr status before after
-read_some k m addr status before after is reads = subst (λ (o : Option KeptSeen). Read o addr status before after) is reads
+use Rattle.vmig_c.specs.Told.{lines_in, lines_told}
 
 pub lines_none : (k : Option KeptSeen) → is_some k ≡ false → 0 ≡ lines_told k
 lines_none None is = refl
@@ -33,15 +13,6 @@ lines_none (Some m) is = absurd (true≢false is)
 
 pub lines_some : (k : Option KeptSeen) (m : KeptSeen) (lines : ℕ) → Some m ≡ k → lines ≡ lines_in m.state → lines ≡ lines_told k
 lines_some k m lines is told = subst (λ (o : Option KeptSeen). lines ≡ lines_told o) is told
-
-pub stepped_none : (k after : Option KeptSeen) (dev pick n : ℕ) (buf : List ℕ) → is_some k ≡ false → after ≡ k → Stepped k dev pick 8 n n buf buf after
-stepped_none None after dev pick n buf is same = (refl, refl, refl, same)
-stepped_none (Some m) after dev pick n buf is same = absurd (true≢false is)
-
-pub stepped_some : (k after : Option KeptSeen) (m next : KeptSeen) (dev pick status number n : ℕ) (buf new_buf : List ℕ) → Some m ≡ k → after ≡ Some next → next ≡ record m { state = next.state }
-    → StepsOwing (owed_lost m dev pick) m.state dev pick status number n buf new_buf next.state → Stepped k dev pick status number n buf new_buf after
-stepped_some k after m next dev pick status number n buf new_buf is becomes kind steps =
-    subst (λ (o : Option KeptSeen). Stepped o dev pick status number n buf new_buf after) is (record { next = next.state; is_next = becomes ∙ ap Some kind; steps = steps })
 
 pub make_used : (base : ℕ) (k after : Option KeptSeen) (pages : ℕ) (shapes : List DeviceShape) → is_some k ≡ true → after ≡ k → Makes base k pages shapes 9 after
 make_used base None after pages shapes is same = absurd (true≢false (sym is))
@@ -59,15 +30,6 @@ pub make_done : (base : ℕ) (k after : Option KeptSeen) (m : KeptSeen) (pages :
     → after ≡ Some m → KeepsMade base pages (shapes_of shapes) m → Makes base k pages shapes 0 after
 make_done base None after m pages shapes is within becomes made = rw within (inl (record { kept = m; is_there = becomes; is_made = made; status_is = refl }))
 make_done base (Some old) after m pages shapes is within becomes made = absurd (true≢false is)
-
-pub saved_none : (k after : Option KeptSeen) (n : ℕ) (buf : List ℕ) → is_some k ≡ false → after ≡ k → Saved k 8 n n buf buf after
-saved_none None after n buf is same = (refl, refl, refl, same)
-saved_none (Some m) after n buf is same = absurd (true≢false is)
-
-pub saved_some : (k after : Option KeptSeen) (m next : KeptSeen) (status len n : ℕ) (buf new_buf : List ℕ) → Some m ≡ k → after ≡ Some next → next ≡ record m { state = next.state } → SavesKept m.state status len n buf new_buf next.state
-    → Saved k status len n buf new_buf after
-saved_some k after m next status len n buf new_buf is becomes kind saves =
-    subst (λ (o : Option KeptSeen). Saved o status len n buf new_buf after) is (record { next = next.state; is_next = becomes ∙ ap Some kind; saves = saves })
 
 pub received_used : (k after : Option KeptSeen) (bytes : List ℕ) (n : ℕ) → is_some k ≡ true → after ≡ k → Received k bytes 9 n n after
 received_used None after bytes n is same = absurd (true≢false (sym is))

@@ -15,9 +15,10 @@ use Rattle.sender.specs.declared.phase.Phase.{Phase}
 use Rattle.sender.specs.declared.phase.Phase.TheVariants as phases
 use Rattle.wire.specs.Sinks.{over_writer}
 use Rattle.sender.proofs.Unsynced.{taken_failure_follows}
-use Rattle.vmig_c.specs.Durable.{Failed, FailedIsLost, FailsKept, FailsSync, FailsUnless, FailedMirrors, FailedStaysPlain, HasLost, Loses, LosesBy, RefusedFailsNothing, disk_refusal_unless, failed_status, loss_refusal}
+use Rattle.vmig_c.specs.Durable.{Failed, FailedIsLost, FailsKept, FailsSync, FailsUnless, FailedMirrors, FailedStaysPlain, HasLost, Loses, RefusedFailsNothing, disk_refusal_unless, failed_status, loss_refusal}
 use Rattle.vmig_c.specs.Kept.{KeptSeen, State, Still, Moving, Arriving, Lent, is_lost}
 use Rattle.vmig_c.specs.Mirror.{Mirrors, is_closed}
+use Rattle.vmig_c.specs.OnHandle.{Refuses, Unless}
 use Rattle.vmig_c.specs.Sent.{FailuresStaySent}
 use Rattle.vmig_c.specs.Status.{mig_status}
 use Rattle.vmig_c.proofs.Plain.{as_many}
@@ -63,16 +64,9 @@ pub live_refused : (l next : LiveSeen) (dev pick status : ℕ) (answer : Result 
 live_refused l next dev pick status answer e is tries told =
     rw told (refused_by l.phase l next dev pick e (subst (λ (r : Result Bool MigError). TriesFlush l dev pick r next) is tries))
 
--- By what lies behind the handle.
-pub still_fails : (k : State) (m next : Seen) (dev pick status : ℕ) → k ≡ Still m → FailsSync m dev pick status next → FailsKept k dev pick status (Still next)
-still_fails k m next dev pick status is f = subst (λ (x : State). FailsKept x dev pick status (Still next)) (sym is) f
-
-pub moving_fails : (k : State) (l next : LiveSeen) (dev pick status : ℕ) → k ≡ Moving l → FailsUnless (is_closed l.phase) l dev pick status next → FailsKept k dev pick status (Moving next)
-moving_fails k l next dev pick status is f = subst (λ (x : State). FailsKept x dev pick status (Moving next)) (sym is) f
-
 -- The disk is lost, or why it is not.
 pub not_lost : (k : KeptSeen) (dev pick status : ℕ) (r : Option ℕ) → r ≡ Some status → r ≡ loss_refusal k.state dev → Loses k dev pick status k
-not_lost k dev pick status r is refused = subst (λ (o : Option ℕ). LosesBy o k dev pick status k) (sym is ∙ refused) (refl, refl)
+not_lost k dev pick status r is refused = subst (λ (o : Option ℕ). Unless o (Refuses status k k) (HasLost k dev pick status k)) (sym is ∙ refused) (refl, refl)
 
 pub lost : (k mid next : KeptSeen) (dev pick status : ℕ) (r : Option ℕ) → r ≡ None → r ≡ loss_refusal k.state dev → mid ≡ record k { lost = slice_set k.lost dev true } → FailsKept mid.state dev pick status next.state
     → next ≡ record mid { state = next.state } → Loses k dev pick status next
@@ -82,7 +76,7 @@ lost k mid next dev pick status r is none marked fails rest =
       fails = subst (λ (x : State). FailsKept x dev pick status next.state) same fails;
       rest = rest ∙ (λ i. record (marked i) { state = next.state });
     } in
-    subst (λ (o : Option ℕ). LosesBy o k dev pick status next) (sym is ∙ none) has
+    subst (λ (o : Option ℕ). Unless o (Refuses status next k) (HasLost k dev pick status next)) (sym is ∙ none) has
 
 pub failed_none : (k after : Option KeptSeen) (dev pick : ℕ) → is_some k ≡ false → after ≡ k → Failed k dev pick 8 after
 failed_none None after dev pick is same = (refl, same)
@@ -116,14 +110,14 @@ never_few (Moving l) (Still next) dev pick status none f few = f
 never_few (Moving l) (Arriving next) dev pick status none f few = f
 never_few (Moving l) (Lent next) dev pick status none f few = f
 
-same_by : (r : Option ℕ) (k next : KeptSeen) (dev pick status : ℕ) → loss_refusal k.state dev ≡ r → LosesBy r k dev pick status next → status < 64 → next ≡ k
+same_by : (r : Option ℕ) (k next : KeptSeen) (dev pick status : ℕ) → loss_refusal k.state dev ≡ r → Unless r (Refuses status next k) (HasLost k dev pick status next) → status < 64 → next ≡ k
 same_by (Some refusal) k next dev pick status is loses few = loses.1
 same_by None k next dev pick status is loses few = absurd (never_few k.state next.state dev pick status is loses.fails few)
 
 pub refused_fails_nothing : RefusedFailsNothing
 refused_fails_nothing k next dev pick status loses some few = same_by (loss_refusal k.state dev) k next dev pick status refl loses few
 
-lost_by : (r : Option ℕ) (k next : KeptSeen) (dev pick status : ℕ) → r ≡ None → LosesBy r k dev pick status next → dev < length k.lost → is_lost next dev ≡ true
+lost_by : (r : Option ℕ) (k next : KeptSeen) (dev pick status : ℕ) → r ≡ None → Unless r (Refuses status next k) (HasLost k dev pick status next) → dev < length k.lost → is_lost next dev ≡ true
 lost_by (Some refusal) k next dev pick status none loses below = absurd cc
 lost_by None k next dev pick status none loses below = ap (λ (x : KeptSeen). is_lost x dev) loses.rest ∙ get_or-set_same k.lost dev true false below
 

@@ -16,7 +16,7 @@ use Rattle.machine.specs.Shapes.{disk_size_of, disk_sizes, or_zero, sector_count
 use Rattle.machine.specs.Sound.{IsSound}
 use Rattle.machine.specs.State.{DeviceState, MachineState}
 use Rattle.machine.specs.declared.shape.Shape.{Shape}
-use Rattle.vmig_c.specs.Images.{AreImages, IsMadeWith, KeepsMadeWith, MakesWith, ReadsKept, ReadsOut, SectorRead, SectorTold, disk_refusal, image_size, sector_refusal, sector_refusal_of, sectors_in}
+use Rattle.vmig_c.specs.Images.{AreImages, IsMadeWith, KeepsMadeWith, MakesWith, ReadsOut, SectorTold, disk_refusal, image_size, sector_refusal, sector_refusal_of, sectors_in}
 use Rattle.vmig_c.specs.Making.{are_beyond_limits, shape_of, shapes_of}
 use Rattle.vmig_c.specs.declared.device_shape.DeviceShape.{DeviceShape}
 use Rattle.vmig_c.specs.Kept.{KeptSeen, Still}
@@ -47,14 +47,6 @@ pub with_done : (base : ℕ) (k after : Option KeptSeen) (m : KeptSeen) (pages :
     → (length images == image_size (shapes_of shapes)) ≡ true → after ≡ Some m → KeepsMadeWith base pages (shapes_of shapes) images m → MakesWith base k pages shapes images 0 after
 with_done base None after m pages shapes images is within fits becomes made = rw (within, fits) (inl (record { kept = m; is_there = becomes; is_made = made; status_is = refl }))
 with_done base (Some old) after m pages shapes images is within fits becomes made = absurd (true≢false is)
-
-pub sector_none : (k after : Option KeptSeen) (dev n : ℕ) (buf : List ℕ) → is_some k ≡ false → after ≡ k → SectorRead k dev n 8 buf buf after
-sector_none None after dev n buf is same = record { status_is = refl; buf_same = refl; same = same }
-sector_none (Some m) after dev n buf is same = absurd (true≢false is)
-
-pub sector_some : (k after : Option KeptSeen) (m next : KeptSeen) (dev n status : ℕ) (buf new_buf : List ℕ) → Some m ≡ k → after ≡ Some next → next ≡ record m { state = next.state } → ReadsKept m.state dev n status buf new_buf next.state → SectorRead k dev n status buf new_buf after
-sector_some k after m next dev n status buf new_buf is becomes kind reads =
-    subst (λ (o : Option KeptSeen). SectorRead o dev n status buf new_buf after) is (record { next = next.state; is_next = becomes ∙ ap Some kind; does = reads })
 
 -- Counting sectors off.
 tests_same : (r s : Bool) → (r ≡ true → s ≡ true) → (s ≡ true → r ≡ true) → r ≡ s

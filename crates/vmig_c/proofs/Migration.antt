@@ -11,9 +11,8 @@ use Rattle.sender.specs.declared.event.LiveReply.{LiveReply}
 use Rattle.sender.specs.declared.event.LiveReply.TheVariants as live
 use Rattle.sender.specs.declared.mig_error.MigError.{MigError}
 use Rattle.sender.specs.declared.mig_error.MigError.TheVariants as errors
-use Rattle.vmig_c.specs.Migrated.{CopiesKept, EndsKept, HasCopied, HasStopped, HasTaken, IsAnswered, StopsKept, TakesKept, copied_dev, copied_number, stopped_pages, stopped_sectors}
+use Rattle.vmig_c.specs.Migrated.{HasCopied, HasStopped, HasTaken, IsAnswered, TakesKept, copied_dev, copied_number, stopped_pages, stopped_sectors}
 use Rattle.vmig_c.specs.Status.{live_status}
-use Rattle.vmig_c.specs.Told.{IsServed}
 use Rattle.vmig_c.specs.Kept.{State, Still, Moving}
 
 same_machine : (o : Option MigError) (l next : LiveSeen) (error : MigError) → MatchOption o (Does l events.Begin (live.Mig error) next) (λ x. (live.Mig error ≡ live.Mig x) × (next ≡ l)) → CallsNone l.machine next.machine → next.machine ≡ l.machine
@@ -35,30 +34,12 @@ pub copied : (l next : LiveSeen) (reply : LiveReply) (status dev old_dev number 
     → HasCopied l status dev old_dev number old_number next
 copied l next reply status dev old_dev number old_number places serves told devs numbers = record { reply = reply; places = places; serves = serves; status_is = told; dev_is = devs; number_is = numbers }
 
-pub still_copies : (k : State) (m : Seen) (dev number : ℕ) → k ≡ Still m → CopiesKept k 17 dev dev number number (Still m)
-still_copies k m dev number is = subst (λ (x : State). CopiesKept x 17 dev dev number number (Still m)) (sym is) ((refl, refl), refl, refl)
-
-pub moving_copies : (k : State) (l next : LiveSeen) (status dev old_dev number old_number : ℕ) → k ≡ Moving l → HasCopied l status dev old_dev number old_number next → CopiesKept k status dev old_dev number old_number (Moving next)
-moving_copies k l next status dev old_dev number old_number is was = subst (λ (x : State). CopiesKept x status dev old_dev number old_number (Moving next)) (sym is) was
-
-pub still_ends : (k : State) (m : Seen) (round : ℕ) → k ≡ Still m → EndsKept k 17 round round (Still m)
-still_ends k m round is = subst (λ (x : State). EndsKept x 17 round round (Still m)) (sym is) ((refl, refl), refl)
-
-pub moving_ends : (k : State) (l next : LiveSeen) (status round before : ℕ) → k ≡ Moving l → IsServed l events.EndRound status round before next → EndsKept k status round before (Moving next)
-moving_ends k l next status round before is was = subst (λ (x : State). EndsKept x status round before (Moving next)) (sym is) was
-
 pub stopped : (l next : LiveSeen) (reply : LiveReply) (status pages old_pages sectors old_sectors : ℕ) → HasPlaces l → Serves l events.Stop reply next → status ≡ live_status reply → pages ≡ stopped_pages reply old_pages → sectors ≡ stopped_sectors reply old_sectors
     → HasStopped l status pages old_pages sectors old_sectors next
 stopped l next reply status pages old_pages sectors old_sectors places serves told p s = record { reply = reply; places = places; serves = serves; status_is = told; pages_are = p; sectors_are = s }
 
-pub still_stops : (k : State) (m : Seen) (pages sectors : ℕ) → k ≡ Still m → StopsKept k 17 pages pages sectors sectors (Still m)
-still_stops k m pages sectors is = subst (λ (x : State). StopsKept x 17 pages pages sectors sectors (Still m)) (sym is) ((refl, refl), refl, refl)
-
-pub moving_stops : (k : State) (l next : LiveSeen) (status pages old_pages sectors old_sectors : ℕ) → k ≡ Moving l → HasStopped l status pages old_pages sectors old_sectors next → StopsKept k status pages old_pages sectors old_sectors (Moving next)
-moving_stops k l next status pages old_pages sectors old_sectors is was = subst (λ (x : State). StopsKept x status pages old_pages sectors old_sectors (Moving next)) (sym is) was
-
 pub still_takes : (k : State) (m : Seen) (got : ℕ) (buf : List ℕ) → k ≡ Still m → TakesKept k 17 got got buf buf (Still m)
-still_takes k m got buf is = subst (λ (x : State). TakesKept x 17 got got buf buf (Still m)) (sym is) ((refl, refl), refl, refl)
+still_takes k m got buf is = subst (λ (x : State). TakesKept x 17 got got buf buf (Still m)) (sym is) ((refl, refl, refl), refl)
 
 pub moving_takes : (k : State) (l next : LiveSeen) (status got old_got : ℕ) (buf new_buf : List ℕ) → k ≡ Moving l → HasTaken l status got buf new_buf next → TakesKept k status got old_got buf new_buf (Moving next)
 moving_takes k l next status got old_got buf new_buf is was = subst (λ (x : State). TakesKept x status got old_got buf new_buf (Moving next)) (sym is) was

@@ -1,6 +1,6 @@
 -- Pages handed in and out, by cases on the handle and on what lies behind it.
 use Rattle.std.proofs.Common.{◌≡◌, ◌≤◌, ◌<◌, ◌*◌, ◌^◌, ◌+◌, ◌-◌, ℕ, zero, suc, true, false, nat_lt, List, [], ◌∷◌, refl, sym, ap, ◌∙◌, subst, arith, length, drop, get_or, take, true≢false}
-use Rattle.std.specs.Prelude.{MatchOption, Option, Some, None, is_some, Result, Ok, Err, slice_index, slice_set}
+use Rattle.std.specs.Prelude.{MatchOption, Option, Some, None, Result, Ok, Err, slice_index, slice_set}
 use Rattle.std.proofs.lemmas.Bool.Decides.{nat_tests}
 use Rattle.std.proofs.lemmas.List.{drop_all, drop_more}
 use Rattle.guestmem.specs.Later.{IsLater}
@@ -25,28 +25,10 @@ use Rattle.sender.specs.declared.event.LiveReply.TheVariants as live
 use Rattle.sender.specs.declared.mig_error.MigError.{MigError}
 use Rattle.sender.specs.declared.phase.Phase.{Phase}
 use Rattle.sender.specs.declared.phase.Phase.TheVariants as phases
-use Rattle.vmig_c.specs.Mirror.{ArePushed, IsPushed, Pulled, PullsKept, Pushed, PushesKept, are_pages, is_closed}
+use Rattle.vmig_c.specs.Mirror.{ArePushed, IsPushed, are_pages, is_closed}
 use Rattle.vmig_c.specs.Told.{IsServed}
-use Rattle.vmig_c.specs.Kept.{KeptSeen, State, Still, Moving}
+use Rattle.vmig_c.specs.Kept.{State, Still, Moving}
 use Rattle.vmig_c.proofs.Mirrored.{both_left, both_right, is_page, whole_page}
-
-pub pushed_none : (k after : Option KeptSeen) (pages ram seen : List ℕ) → is_some k ≡ false → after ≡ k → Pushed k pages ram 8 seen seen after
-pushed_none None after pages ram seen is same = (refl, refl, same)
-pushed_none (Some m) after pages ram seen is same = absurd (true≢false is)
-
-pub pushed_some : (k after : Option KeptSeen) (m next : KeptSeen) (pages ram : List ℕ) (status : ℕ) (seen new_seen : List ℕ) → Some m ≡ k → after ≡ Some next → next ≡ record m { state = next.state }
-    → PushesKept m.state pages ram status seen new_seen next.state → Pushed k pages ram status seen new_seen after
-pushed_some k after m next pages ram status seen new_seen is becomes kind does =
-    subst (λ (o : Option KeptSeen). Pushed o pages ram status seen new_seen after) is (record { next = next.state; is_next = becomes ∙ ap Some kind; does = does })
-
-pub pulled_none : (k : Option KeptSeen) (ram seen : List ℕ) (n : ℕ) → is_some k ≡ false → Pulled k 8 ram ram seen seen n n
-pulled_none None ram seen n is = record { status_is = refl; ram_same = refl; seen_same = refl; count_same = refl }
-pulled_none (Some m) ram seen n is = absurd (true≢false is)
-
-pub pulled_some : (k : Option KeptSeen) (m : KeptSeen) (status : ℕ) (ram new_ram seen new_seen : List ℕ) (count n : ℕ) → Some m ≡ k
-    → PullsKept m.state status ram new_ram seen new_seen count n → Pulled k status ram new_ram seen new_seen count n
-pulled_some k m status ram new_ram seen new_seen count n is pulls =
-    subst (λ (o : Option KeptSeen). Pulled o status ram new_ram seen new_seen count n) is pulls
 
 -- A write of a whole page that there is: it is done.
 pub none_inside : (base len at count : ℕ) → base + at < 2 ^ 64 → count ≡ 4096 → at + count ≤ len → access_refusal base len (base + at) count ≡ None

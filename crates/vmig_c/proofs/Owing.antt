@@ -152,8 +152,8 @@ quiet_kept : (k next : State) (dev pick status number before : ℕ) (buf new_buf
     → IsSameKept k next × (number ≡ before) × (new_buf ≡ buf)
 quiet_kept (Still m) (Still next) dev pick status number before buf new_buf plain s some few = quiet_step (nat_lt (length buf) (most_sent_by m dev pick)) m next dev pick status number before buf new_buf plain s some few
 quiet_kept (Moving l) (Moving next) dev pick status number before buf new_buf plain s some few = quiet_live_step (nat_lt (length buf) (most_sent_by l.machine dev pick)) l next dev pick status number before buf new_buf plain s some few
-quiet_kept (Arriving r) (Arriving next) dev pick status number before buf new_buf plain s some few = (s.0.1, s.1, s.2)
-quiet_kept (Lent x) (Lent next) dev pick status number before buf new_buf plain s some few = (s.0.1, s.1, s.2)
+quiet_kept (Arriving r) (Arriving next) dev pick status number before buf new_buf plain s some few = (s.1, s.0.1, s.0.2)
+quiet_kept (Lent x) (Lent next) dev pick status number before buf new_buf plain s some few = (s.1, s.0.1, s.0.2)
 quiet_kept (Still m) (Moving next) dev pick status number before buf new_buf plain s some few = absurd s
 quiet_kept (Still m) (Arriving next) dev pick status number before buf new_buf plain s some few = absurd s
 quiet_kept (Still m) (Lent next) dev pick status number before buf new_buf plain s some few = absurd s

@@ -59,14 +59,14 @@ refused_tells_nothing (Still m) (Still next) e status number before plain told s
     let less : status_of told.reply < 64 = omega (arith, few, told.status_is) in
     (refused_quiet m next e told.reply plain told.applied more less, told.number_is ∙ no_number told.reply before more less)
 refused_tells_nothing (Moving l) (Moving next) e status number before plain served some few = quiet_sent l next e status number before plain served some few
-refused_tells_nothing (Arriving r) (Arriving next) e status number before plain told some few = (told.0.1, told.1)
+refused_tells_nothing (Arriving r) (Arriving next) e status number before plain told some few = (told.1, told.0.1)
 refused_tells_nothing (Still m) (Moving next) e status number before plain told some few = absurd told
 refused_tells_nothing (Still m) (Arriving next) e status number before plain told some few = absurd told
 refused_tells_nothing (Moving l) (Still next) e status number before plain told some few = absurd told
 refused_tells_nothing (Moving l) (Arriving next) e status number before plain told some few = absurd told
 refused_tells_nothing (Arriving r) (Still next) e status number before plain told some few = absurd told
 refused_tells_nothing (Arriving r) (Moving next) e status number before plain told some few = absurd told
-refused_tells_nothing (Lent x) (Lent next) e status number before plain told some few = (told.0.1, told.1)
+refused_tells_nothing (Lent x) (Lent next) e status number before plain told some few = (told.1, told.0.1)
 refused_tells_nothing (Still m) (Lent next) e status number before plain told some few = absurd told
 refused_tells_nothing (Moving l) (Lent next) e status number before plain told some few = absurd told
 refused_tells_nothing (Arriving r) (Lent next) e status number before plain told some few = absurd told

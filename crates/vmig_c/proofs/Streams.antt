@@ -66,7 +66,7 @@ put m next stream buf new_buf old_len fits is_kept is_whole is =
     record { kept = is_kept; told = inl (record { stream = stream; is_whole = is_whole; len_is = refl; put = rw fits (refl, is) }) }
 
 pub not_made : (m next : Seen) (buf : List ℕ) (old_len : ℕ) → IsKept m next → Saves m 10 old_len old_len buf buf next
-not_made m next buf old_len is_kept = record { kept = is_kept; told = inr (record { status_is = refl; len_same = refl; buf_same = refl }) }
+not_made m next buf old_len is_kept = record { kept = is_kept; told = inr (refl, refl, refl) }
 
 -- The sizes of disks of zeros.
 zero_sizes : (sizes : List ℕ) → sizes_of mem_state (map (λ (n : ℕ). replicate n (replicate {A = ℕ} 512 0)) sizes) ≡ sizes

@@ -7,7 +7,8 @@ use Rattle.vmig_c.specs.Admission.{Admits, is_denied}
 use Rattle.vmig_c.specs.AdmissionSeen.{AdmissionSeen}
 use Rattle.vmig_c.specs.ArrivalSeen.{ArrivalSeen}
 use Rattle.vmig_c.specs.Awaited.{CountsRounds, HasArrived, HasSameDisks, IsClosed, IsFed, TellsEnd, TellsOf, TellsWhole, nothing_fed, stream_status}
-use Rattle.vmig_c.specs.Status.{done, in_use, no_machine, no_memory}
+use Rattle.vmig_c.specs.OnHandle.{OfHandle, OnHandle, Refuses}
+use Rattle.vmig_c.specs.Status.{done, in_use, no_memory}
 use Rattle.vmig_c.specs.Kept.{KeptSeen, own, State, Still, Moving, Arriving, Lent}
 
 -- A piece was taken.
@@ -25,10 +26,6 @@ pub record HasNotFed (r : ArrivalSeen) (piece : List ℕ) (status : ℕ) (next :
 abbrev pub Feeds : ArrivalSeen → List ℕ → ℕ → ArrivalSeen → Type 0
 Feeds r piece status next = HasFed r piece status next ⊎ HasNotFed r piece status next
 
--- The handle has a machine already: nothing changed.
-abbrev pub IsThere : {K : Type 0} → K → ℕ → K → Type 0
-IsThere k status next = (status ≡ in_use) × (next ≡ k)
-
 -- The piece was let in by the limits, and then taken or refused.
 pub record HasLetIn (admission : AdmissionSeen) (r : ArrivalSeen) (piece : List ℕ) (status : ℕ) (after : AdmissionSeen) (next : ArrivalSeen) : Type 0 where
   pub admitted : Admits admission piece None after
@@ -42,11 +39,12 @@ pub record HasDenied (admission : AdmissionSeen) (r : ArrivalSeen) (piece : List
 abbrev pub FeedsWithin : AdmissionSeen → ArrivalSeen → List ℕ → ℕ → AdmissionSeen → ArrivalSeen → Type 0
 FeedsWithin admission r piece status after next = HasLetIn admission r piece status after next ⊎ HasDenied admission r piece status after next
 
+-- A handle that has a machine is in use, and nothing changed; so below.
 abbrev pub FeedsKept : AdmissionSeen → State → List ℕ → ℕ → AdmissionSeen → State → Type 0
 FeedsKept admission (Arriving r) piece status after (Arriving next) = FeedsWithin admission r piece status after next
-FeedsKept admission (Still m) piece status after (Still next) = IsThere m status next × (after ≡ admission)
-FeedsKept admission (Moving l) piece status after (Moving next) = IsThere l status next × (after ≡ admission)
-FeedsKept admission (Lent x) piece status after (Lent next) = IsThere x status next × (after ≡ admission)
+FeedsKept admission (Still m) piece status after (Still next) = Refuses status next m in_use × (after ≡ admission)
+FeedsKept admission (Moving l) piece status after (Moving next) = Refuses status next l in_use × (after ≡ admission)
+FeedsKept admission (Lent x) piece status after (Lent next) = Refuses status next x in_use × (after ≡ admission)
 FeedsKept admission _ piece status after _ = ⊥
 
 pub record DoesFed (k : KeptSeen) (piece : List ℕ) (status : ℕ) (after : Option KeptSeen) : Type 0 where
@@ -82,35 +80,28 @@ Ends r status (Lent x) = ⊥
 -- A stream that the limits refused is refused still, and nothing changed.
 abbrev pub EndsIf : Bool → ArrivalSeen → ℕ → State → Type 0
 EndsIf false r status next = Ends r status next
-EndsIf true r status next = (status ≡ stream_status AlreadyFailed) × (next ≡ Arriving r)
+EndsIf true r status next = Refuses status next (Arriving r) (stream_status AlreadyFailed)
 
 abbrev pub FinishesIf : Bool → State → ℕ → State → Type 0
 FinishesIf denied (Arriving r) status next = EndsIf denied r status next
-FinishesIf denied (Still m) status next = IsThere (Still m) status next
-FinishesIf denied (Moving l) status next = IsThere (Moving l) status next
-FinishesIf denied (Lent x) status next = IsThere (Lent x) status next
+FinishesIf denied (Still m) status next = Refuses status next (Still m) in_use
+FinishesIf denied (Moving l) status next = Refuses status next (Moving l) in_use
+FinishesIf denied (Lent x) status next = Refuses status next (Lent x) in_use
 
 abbrev pub FinishesKept : AdmissionSeen → State → ℕ → State → Type 0
 FinishesKept admission k status next = FinishesIf (is_denied admission) k status next
 
-pub record DoesFinished (k : KeptSeen) (status : ℕ) (after : Option KeptSeen) : Type 0 where
-  pub next : State
-  pub is_next : after ≡ Some (record k { state = next })
-  pub does : FinishesKept k.admission k.state status next
-
--- A call to finish the arrival of the machine behind a handle. If nothing was fed, nothing changed.
+-- A call to finish the arrival of the machine behind a handle.
 abbrev pub Finished : Option KeptSeen → ℕ → Option KeptSeen → Type 0
-Finished None status after = (status ≡ no_machine) × (after ≡ None)
-Finished (Some k) status after = DoesFinished k status after
+Finished k status after = OnHandle (λ reason. status ≡ reason) (λ old next. FinishesKept old.admission old.state status next) k after
 
 abbrev pub CountsKept : State → ℕ → ℕ → ℕ → Type 0
 CountsKept (Arriving r) status rounds old_rounds = (status ≡ done) × CountsRounds r rounds
-CountsKept _ status rounds old_rounds = (status ≡ in_use) × (rounds ≡ old_rounds)
+CountsKept _ status rounds old_rounds = Refuses status rounds old_rounds in_use
 
 -- How many rounds ended in what was fed.
 abbrev pub Counted : Option KeptSeen → ℕ → ℕ → ℕ → Type 0
-Counted None status rounds old_rounds = (status ≡ no_machine) × (rounds ≡ old_rounds)
-Counted (Some k) status rounds old_rounds = CountsKept k.state status rounds old_rounds
+Counted k status rounds old_rounds = OfHandle (Refuses status rounds old_rounds) (λ state. CountsKept state status rounds old_rounds) k
 
 -- Whether the end of the stream has come, as C reads it.
 abbrev pub number_of : Bool → ℕ
@@ -125,8 +116,7 @@ pub record HasToldWhole (r : ArrivalSeen) (status number : ℕ) : Type 0 where
 
 abbrev pub TellsWholeKept : State → ℕ → ℕ → ℕ → Type 0
 TellsWholeKept (Arriving r) status number before = HasToldWhole r status number
-TellsWholeKept _ status number before = (status ≡ in_use) × (number ≡ before)
+TellsWholeKept _ status number before = Refuses status number before in_use
 
 abbrev pub ToldWhole : Option KeptSeen → ℕ → ℕ → ℕ → Type 0
-ToldWhole None status number before = (status ≡ no_machine) × (number ≡ before)
-ToldWhole (Some k) status number before = TellsWholeKept k.state status number before
+ToldWhole k status number before = OfHandle (Refuses status number before) (λ state. TellsWholeKept state status number before) k

@@ -8,6 +8,7 @@ use Rattle.machine.specs.State.{MachineState, DeviceState, base_of}
 use Rattle.machine.specs.declared.shape.Shape.{Shape}
 use Rattle.machine.specs.declared.shape.Shape.TheVariants.{Net, Block, Console, Entropy}
 use Rattle.vmig_c.specs.Kept.{KeptSeen, State, Still, Moving, Arriving, Lent, parked_in}
+use Rattle.vmig_c.specs.OnHandle.{OfHandle, Refuses, RefusesBoth}
 use Rattle.vmig_c.specs.Status.{done, no_device, no_machine}
 use Rattle.vmig_c.specs.declared.device_shape.DeviceShape.{DeviceShape}
 
@@ -31,20 +32,14 @@ pub record IsSizedLent (p : ParkedSeen) (status pages devices : ℕ) : Type 0 wh
   pub devices_are : devices ≡ length p.devices
 
 -- As above, for what a handle holds. What arrives is no machine yet.
-pub record IsNotSized (status pages old_pages devices old_devices : ℕ) : Type 0 where
-  pub status_is : status ≡ no_machine
-  pub pages_same : pages ≡ old_pages
-  pub devices_same : devices ≡ old_devices
-
 abbrev pub SizesKept : State → ℕ → ℕ → ℕ → ℕ → ℕ → Type 0
 SizesKept (Still m) status pages old_pages devices old_devices = IsSized (state_of m) status pages devices
 SizesKept (Moving l) status pages old_pages devices old_devices = IsSized (state_of l.machine) status pages devices
-SizesKept (Arriving r) status pages old_pages devices old_devices = IsNotSized status pages old_pages devices old_devices
+SizesKept (Arriving r) status pages old_pages devices old_devices = RefusesBoth status pages old_pages devices old_devices no_machine
 SizesKept (Lent x) status pages old_pages devices old_devices = IsSizedLent (parked_in x) status pages devices
 
 abbrev pub Sizes : Option KeptSeen → ℕ → ℕ → ℕ → ℕ → ℕ → Type 0
-Sizes None status pages old_pages devices old_devices = IsNotSized status pages old_pages devices old_devices
-Sizes (Some k) status pages old_pages devices old_devices = SizesKept k.state status pages old_pages devices old_devices
+Sizes k status pages old_pages devices old_devices = OfHandle (RefusesBoth status pages old_pages devices old_devices) (λ state. SizesKept state status pages old_pages devices old_devices) k
 
 -- The guest-physical address at which the RAM of a machine of these devices begins was told.
 pub record IsBased (devices : List DeviceState) (status base : ℕ) : Type 0 where
@@ -55,12 +50,11 @@ pub record IsBased (devices : List DeviceState) (status base : ℕ) : Type 0 whe
 abbrev pub BasesKept : State → ℕ → ℕ → ℕ → Type 0
 BasesKept (Still m) status base old = IsBased (state_of m).devices status base
 BasesKept (Moving l) status base old = IsBased (state_of l.machine).devices status base
-BasesKept (Arriving r) status base old = (status ≡ no_machine) × (base ≡ old)
+BasesKept (Arriving r) status base old = Refuses status base old no_machine
 BasesKept (Lent x) status base old = IsBased (map (λ d. d.state) (parked_in x).devices) status base
 
 abbrev pub Bases : Option KeptSeen → ℕ → ℕ → ℕ → Type 0
-Bases None status base old = (status ≡ no_machine) × (base ≡ old)
-Bases (Some k) status base old = BasesKept k.state status base old
+Bases k status base old = OfHandle (Refuses status base old) (λ state. BasesKept state status base old) k
 
 -- A device is told by what it was made as, if there is one.
 abbrev pub Tells : Option Shape → ℕ → DeviceShape → DeviceShape → Type 0
@@ -75,8 +69,7 @@ abbrev pub DescribesKept : State → ℕ → ℕ → DeviceShape → DeviceShape
 DescribesKept (Still m) dev status shape old = TellsOf (state_of m) dev status shape old
 DescribesKept (Moving l) dev status shape old = TellsOf (state_of l.machine) dev status shape old
 DescribesKept (Lent x) dev status shape old = Tells (slice_get (map (λ d. made_as d.state.kind) (parked_in x).devices) dev) status shape old
-DescribesKept (Arriving r) dev status shape old = (status ≡ no_machine) × (shape ≡ old)
+DescribesKept (Arriving r) dev status shape old = Refuses status shape old no_machine
 
 abbrev pub Describes : Option KeptSeen → ℕ → ℕ → DeviceShape → DeviceShape → Type 0
-Describes None dev status shape old = (status ≡ no_machine) × (shape ≡ old)
-Describes (Some k) dev status shape old = DescribesKept k.state dev status shape old
+Describes k dev status shape old = OfHandle (Refuses status shape old) (λ state. DescribesKept state dev status shape old) k

@@ -17,9 +17,9 @@ use Rattle.sender.specs.Unsynced.{FailsLiveFlushIf}
 use Rattle.sender.specs.declared.mig_error.MigError.TheVariants.{AlreadyStopped}
 use Rattle.vmig_c.specs.Kept.{KeptSeen, State, Still, Moving, Arriving, Lent, is_lost}
 use Rattle.vmig_c.specs.Mirror.{Mirrors, is_closed}
+use Rattle.vmig_c.specs.OnHandle.{ByState, Refuses, Unless}
 use Rattle.vmig_c.specs.Plain.{ArePlain}
 use Rattle.vmig_c.specs.Status.{disk_lost, done, lent, mig_status, no_device, no_machine, status_of, sync, sync_failed}
-use Rattle.vmig_c.specs.Told.{IsNotThere, IsOut}
 
 -- What is told of a step before it is made. Of a disk that is lost no sync is asked for any more: a flush fails in any case, and the end
 -- of such a write is not made.
@@ -92,11 +92,8 @@ FailsUnless true l dev pick status next = (status ≡ mig_status AlreadyStopped)
 FailsUnless false l dev pick status next = FailsLiveSync l dev pick status next
 
 abbrev pub FailsKept : State → ℕ → ℕ → ℕ → State → Type 0
-FailsKept (Still m) dev pick status (Still next) = FailsSync m dev pick status next
-FailsKept (Moving l) dev pick status (Moving next) = FailsUnless (is_closed l.phase) l dev pick status next
-FailsKept (Arriving r) dev pick status (Arriving next) = IsNotThere r status next
-FailsKept (Lent x) dev pick status (Lent next) = IsOut x status next
-FailsKept _ dev pick status _ = ⊥
+FailsKept k dev pick status next =
+    ByState (λ reason. status ≡ reason) (λ m after. FailsSync m dev pick status after) (λ l after. FailsUnless (is_closed l.phase) l dev pick status after) k next
 
 -- Why no disk is lost: there is no such device, it has no disk, or there is no machine that makes steps.
 abbrev pub kind_refusal : Kind → Option ℕ
@@ -127,12 +124,8 @@ pub record HasLost (k : KeptSeen) (dev pick status : ℕ) (next : KeptSeen) : Ty
   pub fails : FailsKept k.state dev pick status next.state
   pub rest : next ≡ record k { state = next.state; lost = slice_set k.lost dev true }
 
-abbrev pub LosesBy : Option ℕ → KeptSeen → ℕ → ℕ → ℕ → KeptSeen → Type 0
-LosesBy (Some refusal) k dev pick status next = (status ≡ refusal) × (next ≡ k)
-LosesBy None k dev pick status next = HasLost k dev pick status next
-
 abbrev pub Loses : KeptSeen → ℕ → ℕ → ℕ → KeptSeen → Type 0
-Loses k dev pick status next = LosesBy (loss_refusal k.state dev) k dev pick status next
+Loses k dev pick status next = Unless (loss_refusal k.state dev) (Refuses status next k) (HasLost k dev pick status next)
 
 pub record HasFailed (k : KeptSeen) (dev pick status : ℕ) (after : Option KeptSeen) : Type 0 where
   pub next : KeptSeen

@@ -14,6 +14,7 @@ use Rattle.machine.specs.declared.reply.Refusal.TheVariants.{NoDevice, WrongKind
 use Rattle.machine.specs.declared.shape.Shape.{Shape}
 use Rattle.vmig_c.specs.Making.{HasNoMemory, make_refusal, shapes_of}
 use Rattle.vmig_c.specs.Moving.{IsKept}
+use Rattle.vmig_c.specs.OnHandle.{OnHandle, Refuses, Unless}
 use Rattle.vmig_c.specs.Plain.{ArePlain}
 use Rattle.vmig_c.specs.Status.{bad_images, bad_sector, done, is_moving, lent, no_machine, no_sector, too_small}
 use Rattle.vmig_c.specs.declared.device_shape.DeviceShape.{DeviceShape}
@@ -92,29 +93,14 @@ pub record ReadsOut (m : Seen) (dev n status : ℕ) (buf new_buf : List ℕ) (ne
   pub kept : IsKept m next
   pub told : ArePlain m → SectorTold (sector_on (sectors_on (state_of m) dev) n) status buf new_buf
 
--- It was refused, and nothing changed.
-pub record IsUnread {K : Type 0} (k : K) (refusal status : ℕ) (buf new_buf : List ℕ) (next : K) : Type 0 where
-  pub status_is : status ≡ refusal
-  pub buf_same : new_buf ≡ buf
-  pub same : next ≡ k
-
 abbrev pub ReadsOpen : State → ℕ → ℕ → ℕ → List ℕ → List ℕ → State → Type 0
 ReadsOpen (Still m) dev n status buf new_buf (Still next) = ReadsOut m dev n status buf new_buf next
 ReadsOpen _ dev n status buf new_buf _ = ⊥
 
-abbrev pub ReadsBy : Option ℕ → State → ℕ → ℕ → ℕ → List ℕ → List ℕ → State → Type 0
-ReadsBy (Some refusal) k dev n status buf new_buf next = IsUnread k refusal status buf new_buf next
-ReadsBy None k dev n status buf new_buf next = ReadsOpen k dev n status buf new_buf next
-
 abbrev pub ReadsKept : State → ℕ → ℕ → ℕ → List ℕ → List ℕ → State → Type 0
-ReadsKept k dev n status buf new_buf next = ReadsBy (sector_refusal k dev n (length buf)) k dev n status buf new_buf next
+ReadsKept k dev n status buf new_buf next =
+    Unless (sector_refusal k dev n (length buf)) (λ reason. Refuses status new_buf buf reason × (next ≡ k)) (ReadsOpen k dev n status buf new_buf next)
 
-pub record DoesRead (k : KeptSeen) (dev n status : ℕ) (buf new_buf : List ℕ) (after : Option KeptSeen) : Type 0 where
-  pub next : State
-  pub is_next : after ≡ Some (record k { state = next })
-  pub does : ReadsKept k.state dev n status buf new_buf next
-
--- A sector of a disk of the machine behind a handle was read. Where there is none, nothing changed.
+-- A sector of a disk of the machine behind a handle was read.
 abbrev pub SectorRead : Option KeptSeen → ℕ → ℕ → ℕ → List ℕ → List ℕ → Option KeptSeen → Type 0
-SectorRead None dev n status buf new_buf after = IsUnread {K = Option KeptSeen} None no_machine status buf new_buf after
-SectorRead (Some k) dev n status buf new_buf after = DoesRead k dev n status buf new_buf after
+SectorRead k dev n status buf new_buf after = OnHandle (Refuses status new_buf buf) (λ old next. ReadsKept old.state dev n status buf new_buf next) k after

@@ -18,6 +18,7 @@ use Rattle.sender.specs.declared.mig_error.MigError.TheVariants.{AlreadyStopped}
 use Rattle.vmig_c.specs.Kept.{KeptSeen, LoanSeen, StillLent, MovingLent, State, Still, Moving, Arriving, Lent, parked_in}
 use Rattle.vmig_c.specs.Mirror.{are_pages, is_stopped, memory_in}
 use Rattle.vmig_c.specs.Named.{marked, numbers_below}
+use Rattle.vmig_c.specs.OnHandle.{OnHandle, Refuses, Unless}
 use Rattle.vmig_c.specs.Status.{bad_ram, done, lent, mig_status, no_machine, no_memory, not_lent, not_over, too_small}
 
 -- Where the bytes lie that a slot names.
@@ -33,11 +34,9 @@ lend_refusal_of (Arriving r) bytes = Some no_machine
 lend_refusal_of (Lent x) bytes = Some lent
 lend_refusal_of k bytes = lend_refusal_in (is_stopped k) bytes
 
--- It was refused, and nothing changed.
-pub record IsUnlent (k : State) (refusal status : ℕ) (ram new_ram : Slot) (next : State) : Type 0 where
-  pub status_is : status ≡ refusal
-  pub ram_same : new_ram ≡ ram
-  pub same : next ≡ k
+-- It was refused for this reason, and nothing changed.
+abbrev pub IsUnlent : State → Slot → ℕ → Slot → State → ℕ → Type 0
+IsUnlent k ram status new_ram next reason = Refuses status new_ram ram reason × (next ≡ k)
 
 -- All of a machine that is being migrated is kept but its RAM. Its sets have an entry for each page and sector, as those of all such
 -- machines behind handles.
@@ -59,30 +58,17 @@ pub record HasLent (k : State) (status : ℕ) (new_ram : Slot) (next : State) : 
 -- Its RAM lies in memory of the library, which is not given away.
 pub record IsNotOver (k : State) (status : ℕ) (ram new_ram : Slot) (next : State) : Type 0 where
   pub own : (memory_in k).place ≡ None
-  pub unlent : IsUnlent k not_over status ram new_ram next
+  pub unlent : IsUnlent k ram status new_ram next not_over
 
-abbrev pub LendsBy : Option ℕ → State → Slot → ℕ → Slot → State → Type 0
-LendsBy (Some refusal) k ram status new_ram next = IsUnlent k refusal status ram new_ram next
-LendsBy None k ram status new_ram next = HasLent k status new_ram next ⊎ IsNotOver k status ram new_ram next
+abbrev pub LendsIfOver : State → Slot → ℕ → Slot → State → Type 0
+LendsIfOver k ram status new_ram next = HasLent k status new_ram next ⊎ IsNotOver k status ram new_ram next
 
 abbrev pub LendsKept : State → Slot → ℕ → Slot → State → Type 0
-LendsKept k ram status new_ram next = LendsBy (lend_refusal_of k (length ram.content)) k ram status new_ram next
-
-pub record DoesLent (k : KeptSeen) (ram : Slot) (status : ℕ) (new_ram : Slot) (after : Option KeptSeen) : Type 0 where
-  pub next : State
-  pub is_next : after ≡ Some (record k { state = next })
-  pub does : LendsKept k.state ram status new_ram next
-
--- Nothing lies behind the handle, and nothing changed.
-pub record IsNone (status : ℕ) (ram new_ram : Slot) (after : Option KeptSeen) : Type 0 where
-  pub status_is : status ≡ no_machine
-  pub ram_same : new_ram ≡ ram
-  pub same : after ≡ None
+LendsKept k ram status new_ram next = Unless (lend_refusal_of k (length ram.content)) (IsUnlent k ram status new_ram next) (LendsIfOver k ram status new_ram next)
 
 -- The RAM of the machine behind a handle was lent.
 abbrev pub Lends : Option KeptSeen → Slot → ℕ → Slot → Option KeptSeen → Type 0
-Lends None ram status new_ram after = IsNone status ram new_ram after
-Lends (Some k) ram status new_ram after = DoesLent k ram status new_ram after
+Lends k ram status new_ram after = OnHandle (Refuses status new_ram ram) (λ old next. LendsKept old.state ram status new_ram next) k after
 
 -- Why RAM is not taken back, apart from the pages that are named: there is none out, or it is of another length.
 abbrev pub return_refusal_of : State → ℕ → Option ℕ
@@ -123,27 +109,18 @@ pub record HasComeBack (k : State) (ram : Slot) (pages : List ℕ) (status : ℕ
   pub taken : new_ram ≡ empty_slot
   pub back : IsBack k ram pages next
 
-abbrev pub ComesBackBy : Option ℕ → State → Slot → List ℕ → ℕ → Slot → State → Type 0
-ComesBackBy (Some refusal) k ram pages status new_ram next = IsUnlent k refusal status ram new_ram next
-ComesBackBy None k ram pages status new_ram next = HasComeBack k ram pages status new_ram next
-
 abbrev pub ComesBack : State → Slot → List ℕ → ℕ → Slot → State → Type 0
-ComesBack k ram pages status new_ram next = ComesBackBy (back_refusal_of k (length ram.content) pages) k ram pages status new_ram next
-
-pub record DoesBack (k : KeptSeen) (ram : Slot) (pages : List ℕ) (status : ℕ) (new_ram : Slot) (after : Option KeptSeen) : Type 0 where
-  pub next : State
-  pub is_next : after ≡ Some (record k { state = next })
-  pub does : ComesBack k.state ram pages status new_ram next
+ComesBack k ram pages status new_ram next = Unless (back_refusal_of k (length ram.content) pages) (IsUnlent k ram status new_ram next) (HasComeBack k ram pages status new_ram next)
 
 -- The RAM of the machine behind a handle was given back, and these pages were named.
 abbrev pub GivesBack : Option KeptSeen → Slot → List ℕ → ℕ → Slot → Option KeptSeen → Type 0
-GivesBack None ram pages status new_ram after = IsNone status ram new_ram after
-GivesBack (Some k) ram pages status new_ram after = DoesBack k ram pages status new_ram after
+GivesBack k ram pages status new_ram after = OnHandle (Refuses status new_ram ram) (λ old next. ComesBack old.state ram pages status new_ram next) k after
 
 -- Pages whose numbers are collected first, for which memory may be refused. Then nothing changed.
-abbrev pub ListsBackBy : Option ℕ → State → Slot → List ℕ → ℕ → Slot → State → Type 0
-ListsBackBy (Some refusal) k ram pages status new_ram next = IsUnlent k refusal status ram new_ram next
-ListsBackBy None k ram pages status new_ram next = HasComeBack k ram pages status new_ram next ⊎ IsUnlent k no_memory status ram new_ram next
+abbrev pub ListsBack : Option ℕ → State → Slot → List ℕ → ℕ → Slot → State → Type 0
+ListsBack refusal k ram pages status new_ram next =
+    let refused = IsUnlent k ram status new_ram next in
+    Unless refusal refused (HasComeBack k ram pages status new_ram next ⊎ refused no_memory)
 
 -- The bitmap has a bit for each page, and may have more, which name nothing.
 abbrev pub words_refusal : ℕ → ℕ → Option ℕ
@@ -154,28 +131,16 @@ mark_refusal_of k bytes words = first_of (return_refusal_of k bytes) (words_refu
 
 abbrev pub ComesBackMarked : State → Slot → List ℕ → ℕ → Slot → State → Type 0
 ComesBackMarked k ram words status new_ram next =
-    ListsBackBy (mark_refusal_of k (length ram.content) (length words)) k ram (marked words (lent_pages k)) status new_ram next
-
-pub record DoesBackMarked (k : KeptSeen) (ram : Slot) (words : List ℕ) (status : ℕ) (new_ram : Slot) (after : Option KeptSeen) : Type 0 where
-  pub next : State
-  pub is_next : after ≡ Some (record k { state = next })
-  pub does : ComesBackMarked k.state ram words status new_ram next
+    ListsBack (mark_refusal_of k (length ram.content) (length words)) k ram (marked words (lent_pages k)) status new_ram next
 
 -- As above, and the pages are marked in a bitmap.
 abbrev pub GivesBackMarked : Option KeptSeen → Slot → List ℕ → ℕ → Slot → Option KeptSeen → Type 0
-GivesBackMarked None ram words status new_ram after = IsNone status ram new_ram after
-GivesBackMarked (Some k) ram words status new_ram after = DoesBackMarked k ram words status new_ram after
+GivesBackMarked k ram words status new_ram after = OnHandle (Refuses status new_ram ram) (λ old next. ComesBackMarked old.state ram words status new_ram next) k after
 
 abbrev pub ComesBackWhole : State → Slot → ℕ → Slot → State → Type 0
 ComesBackWhole k ram status new_ram next =
-    ListsBackBy (return_refusal_of k (length ram.content)) k ram (numbers_below (lent_pages k)) status new_ram next
-
-pub record DoesBackWhole (k : KeptSeen) (ram : Slot) (status : ℕ) (new_ram : Slot) (after : Option KeptSeen) : Type 0 where
-  pub next : State
-  pub is_next : after ≡ Some (record k { state = next })
-  pub does : ComesBackWhole k.state ram status new_ram next
+    ListsBack (return_refusal_of k (length ram.content)) k ram (numbers_below (lent_pages k)) status new_ram next
 
 -- As above, and all pages were written.
 abbrev pub GivesBackWhole : Option KeptSeen → Slot → ℕ → Slot → Option KeptSeen → Type 0
-GivesBackWhole None ram status new_ram after = IsNone status ram new_ram after
-GivesBackWhole (Some k) ram status new_ram after = DoesBackWhole k ram status new_ram after
+GivesBackWhole k ram status new_ram after = OnHandle (Refuses status new_ram ram) (λ old next. ComesBackWhole old.state ram status new_ram next) k after

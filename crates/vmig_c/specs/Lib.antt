@@ -21,6 +21,7 @@ pub mod Mirror
 pub mod Moving
 pub mod Named
 pub mod NextWork
+pub mod OnHandle
 pub mod OverRam
 pub mod Owned
 pub mod Plain

@@ -15,6 +15,7 @@ use Rattle.sender.specs.LiveState.{how_many}
 use Rattle.sender.specs.declared.mig_error.MigError.TheVariants.{AlreadyStopped}
 use Rattle.sender.specs.declared.phase.Phase.{Phase}
 use Rattle.sender.specs.declared.phase.Phase.TheVariants as phases
+use Rattle.vmig_c.specs.OnHandle.{OfHandle, OnHandle, Refuses, Unless}
 use Rattle.vmig_c.specs.Status.{done, lent, mig_status, no_machine, too_small}
 use Rattle.vmig_c.specs.Told.{TellsSo}
 use Rattle.vmig_c.specs.Kept.{KeptSeen, State, Still, Moving, Arriving, Lent}
@@ -90,28 +91,13 @@ pub record HasPushed (k : State) (pages ram : List ℕ) (status : ℕ) (seen new
   pub pushed : ArePushed k pages ram seen new_seen next
   pub status_is : status ≡ done
 
--- It was refused, and nothing changed.
-pub record IsUnpushed (k : State) (refusal status : ℕ) (seen new_seen : List ℕ) (next : State) : Type 0 where
-  pub status_is : status ≡ refusal
-  pub seen_same : new_seen ≡ seen
-  pub same : next ≡ k
-
-abbrev pub PushesBy : Option ℕ → State → List ℕ → List ℕ → ℕ → List ℕ → List ℕ → State → Type 0
-PushesBy (Some refusal) k pages ram status seen new_seen next = IsUnpushed k refusal status seen new_seen next
-PushesBy None k pages ram status seen new_seen next = HasPushed k pages ram status seen new_seen next
-
 abbrev pub PushesKept : State → List ℕ → List ℕ → ℕ → List ℕ → List ℕ → State → Type 0
-PushesKept k pages ram status seen new_seen next = PushesBy (push_refusal k pages (length ram) (length seen)) k pages ram status seen new_seen next
+PushesKept k pages ram status seen new_seen next =
+    Unless (push_refusal k pages (length ram) (length seen)) (λ reason. Refuses status new_seen seen reason × (next ≡ k)) (HasPushed k pages ram status seen new_seen next)
 
-pub record DoesPushed (k : KeptSeen) (pages ram : List ℕ) (status : ℕ) (seen new_seen : List ℕ) (after : Option KeptSeen) : Type 0 where
-  pub next : State
-  pub is_next : after ≡ Some (record k { state = next })
-  pub does : PushesKept k.state pages ram status seen new_seen next
-
--- Pages were handed in to the machine behind a handle. Where there is none, nothing changed.
+-- Pages were handed in to the machine behind a handle.
 abbrev pub Pushed : Option KeptSeen → List ℕ → List ℕ → ℕ → List ℕ → List ℕ → Option KeptSeen → Type 0
-Pushed None pages ram status seen new_seen after = (status ≡ no_machine) × (new_seen ≡ seen) × (after ≡ None)
-Pushed (Some k) pages ram status seen new_seen after = DoesPushed k pages ram status seen new_seen after
+Pushed k pages ram status seen new_seen after = OnHandle (Refuses status new_seen seen) (λ old next. PushesKept old.state pages ram status seen new_seen next) k after
 
 -- The caller has the current content of the page: it noted its version, and that is not the greatest number.
 abbrev pub is_noted : Memory → List ℕ → ℕ → Bool
@@ -149,8 +135,7 @@ PullsKept k status ram new_ram seen new_seen count before = PullsUnless (is_away
 
 -- Pages of the machine behind a handle were handed out.
 abbrev pub Pulled : Option KeptSeen → ℕ → List ℕ → List ℕ → List ℕ → List ℕ → ℕ → ℕ → Type 0
-Pulled None status ram new_ram seen new_seen count before = IsUnpulled no_machine status ram new_ram seen new_seen count before
-Pulled (Some k) status ram new_ram seen new_seen count before = PullsKept k.state status ram new_ram seen new_seen count before
+Pulled k status ram new_ram seen new_seen count before = OfHandle (λ reason. IsUnpulled reason status ram new_ram seen new_seen count before) (λ state. PullsKept state status ram new_ram seen new_seen count before) k
 
 -- What the caller noted of a page that it has seen is not ahead of the page's version. Where `is_noted` holds, the page is the
 -- same as the machine's.

@@ -3,7 +3,6 @@ use Rattle.std.specs.Prelude.{◌≡◌, ◌⊎◌, ℕ, ◌+◌, nat_lt, Bool, 
 use Rattle.machine.specs.Seen.{Seen, state_of}
 use Rattle.machine.specs.State.{base_of}
 use Rattle.sender.specs.Calls.{IsSameButCalls}
-use Rattle.sender.specs.LiveState.{LiveSeen}
 use Rattle.wire.specs.Stream.{whole}
 use Rattle.receiver.specs.Codes.{recv_code_of}
 use Rattle.receiver.specs.Disks.{disk_marks_of, sizes_of}
@@ -12,9 +11,9 @@ use Rattle.receiver.specs.declared.recv_error.RecvError.{RecvError}
 use Rattle.receiver.specs.declared.recv_error.RecvError.TheVariants.{ShapeMismatch, DiskFailed, NoMemory, AlreadyFailed}
 use Rattle.vmig_c.specs.Headed.{AreFitting}
 use Rattle.vmig_c.specs.Plain.{ArePlain, mem_state}
-use Rattle.vmig_c.specs.Status.{done, in_use, is_moving, no_machine, no_memory, too_small}
-use Rattle.vmig_c.specs.Told.{IsNotThere, IsOut}
-use Rattle.vmig_c.specs.Kept.{IsNew, KeptSeen, State, Still, Moving, Arriving, Lent}
+use Rattle.vmig_c.specs.Status.{done, in_use, is_moving, no_memory, too_small}
+use Rattle.vmig_c.specs.Kept.{IsNew, KeptSeen, State, Still}
+use Rattle.vmig_c.specs.OnHandle.{ByState, OnHandle, RefusesBoth}
 
 -- A machine that was read for its stream is unchanged, but for the counts of its disks' calls.
 pub record IsKept (old new : Seen) : Type 0 where
@@ -34,39 +33,20 @@ pub record IsSaved (m : Seen) (status len : ℕ) (buf new_buf : List ℕ) : Type
   pub len_is : len ≡ length stream
   pub put : PutIf (nat_lt (length buf) (length stream)) stream status buf new_buf
 
--- Memory was refused, and nothing changed.
-pub record IsUnsaved (status len old_len : ℕ) (buf new_buf : List ℕ) : Type 0 where
-  pub status_is : status ≡ no_memory
-  pub len_same : len ≡ old_len
-  pub buf_same : new_buf ≡ buf
-
+-- As above, unless memory was refused.
 pub record Saves (m : Seen) (status len old_len : ℕ) (buf new_buf : List ℕ) (next : Seen) : Type 0 where
   pub kept : IsKept m next
-  pub told : IsSaved m status len buf new_buf ⊎ IsUnsaved status len old_len buf new_buf
+  pub told : IsSaved m status len buf new_buf ⊎ RefusesBoth status len old_len new_buf buf no_memory
 
--- A machine that is being migrated is not saved, and nothing changed.
-pub record IsNotSaved (l : LiveSeen) (status len old_len : ℕ) (buf new_buf : List ℕ) (next : LiveSeen) : Type 0 where
-  pub status_is : status ≡ is_moving
-  pub len_same : len ≡ old_len
-  pub buf_same : new_buf ≡ buf
-  pub same : next ≡ l
-
+-- A machine that is being migrated is not saved.
 abbrev pub SavesKept : State → ℕ → ℕ → ℕ → List ℕ → List ℕ → State → Type 0
-SavesKept (Still m) status len old_len buf new_buf (Still next) = Saves m status len old_len buf new_buf next
-SavesKept (Moving l) status len old_len buf new_buf (Moving next) = IsNotSaved l status len old_len buf new_buf next
-SavesKept (Arriving r) status len old_len buf new_buf (Arriving next) = IsNotThere r status next × (len ≡ old_len) × (new_buf ≡ buf)
-SavesKept (Lent x) status len old_len buf new_buf (Lent next) = IsOut x status next × (len ≡ old_len) × (new_buf ≡ buf)
-SavesKept _ status len old_len buf new_buf _ = ⊥
+SavesKept k status len old_len buf new_buf next =
+    let refused = RefusesBoth status len old_len new_buf buf in
+    ByState refused (λ m after. Saves m status len old_len buf new_buf after) (λ l after. refused is_moving × (after ≡ l)) k next
 
-pub record HasSaved (k : KeptSeen) (status len old_len : ℕ) (buf new_buf : List ℕ) (after : Option KeptSeen) : Type 0 where
-  pub next : State
-  pub is_next : after ≡ Some (record k { state = next })
-  pub saves : SavesKept k.state status len old_len buf new_buf next
-
--- The machine behind a handle was saved. Where there is none, nothing changed.
+-- The machine behind a handle was saved.
 abbrev pub Saved : Option KeptSeen → ℕ → ℕ → ℕ → List ℕ → List ℕ → Option KeptSeen → Type 0
-Saved None status len old_len buf new_buf after = (status ≡ no_machine) × (len ≡ old_len) × (new_buf ≡ buf) × (after ≡ None)
-Saved (Some k) status len old_len buf new_buf after = HasSaved k status len old_len buf new_buf after
+Saved k status len old_len buf new_buf after = OnHandle (RefusesBoth status len old_len new_buf buf) (λ old next. SavesKept old.state status len old_len buf new_buf next) k after
 
 -- The bytes are a stream of this machine, in which n rounds ended. Its RAM begins at address 0, and its disks lie in memory.
 pub record IsReceivedAs (bytes : List ℕ) (m : Seen) (n : ℕ) : Type 0 where

@@ -9,6 +9,7 @@ use Rattle.receiver.specs.Receiving.{Received}
 use Rattle.vmig_c.specs.ArrivalSeen.{ArrivalSeen, Over}
 use Rattle.vmig_c.specs.Kept.{KeptSeen, State, Still, Moving, Arriving, Lent}
 use Rattle.vmig_c.specs.Mapping.{contents, counts}
+use Rattle.vmig_c.specs.OnHandle.{RefusesBoth, Unless}
 use Rattle.vmig_c.specs.Status.{bad_images, done, lent, no_machine, not_mapped, too_small}
 
 -- The sectors of the devices that have a disk, in their order.
@@ -74,10 +75,6 @@ own_refusal_of _ = Some not_mapped
 abbrev pub unmap_refusal_of : KeptSeen → List Image → Option ℕ
 unmap_refusal_of k images = if k.is_mapped then mapped_refusal_of k.state images else own_refusal_of k.state
 
-abbrev pub unmap_refusal : Option KeptSeen → List Image → Option ℕ
-unmap_refusal None images = Some no_machine
-unmap_refusal (Some k) images = unmap_refusal_of k images
-
 -- The first slots have what the disks hold over which a machine was to arrive, and the others are of no sectors.
 pub record HasGivenUp (r : Received) (images new_images : List Image) : Type 0 where
   pub rest : List (List (List ℕ))
@@ -100,17 +97,7 @@ pub record IsUnmapped (k : KeptSeen) (images new_images : List Image) (status : 
   pub gone : after ≡ None
   pub has : HasUnmappedState k.state images new_images
 
--- It was refused, and nothing changed.
-pub record IsStillMapped (refusal : ℕ) (old : Option KeptSeen) (images new_images : List Image) (status : ℕ) (after : Option KeptSeen) : Type 0 where
-  pub status_is : status ≡ refusal
-  pub same : after ≡ old
-  pub images_same : new_images ≡ images
-
-abbrev pub UnmapsBy : Option ℕ → Option KeptSeen → List Image → List Image → ℕ → Option KeptSeen → Type 0
-UnmapsBy (Some refusal) old images new_images status after = IsStillMapped refusal old images new_images status after
-UnmapsBy None None images new_images status after = ⊥
-UnmapsBy None (Some k) images new_images status after = IsUnmapped k images new_images status after
-
--- The machine is gone, and its images are back; or the status says why not.
+-- The machine is gone, and its images are back; or the status says why not, and nothing changed.
 abbrev pub Unmaps : Option KeptSeen → List Image → List Image → ℕ → Option KeptSeen → Type 0
-Unmaps old images new_images status after = UnmapsBy (unmap_refusal old images) old images new_images status after
+Unmaps None images new_images status after = RefusesBoth status after None new_images images no_machine
+Unmaps (Some k) images new_images status after = Unless (unmap_refusal_of k images) (RefusesBoth status after (Some k) new_images images) (IsUnmapped k images new_images status after)

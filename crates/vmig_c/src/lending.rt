@@ -13,7 +13,7 @@ ghost use Rattle.region.specs.Empty.{empty_slot};
 ghost use Rattle.region.specs.Slot.{region_of};
 ghost use Rattle.vmig_c.specs.Kept.{are_mapped, is_loan_mapped, loan_of, parked_in, state_in};
 ghost use Rattle.vmig_c.specs.declared.kept.Contents.TheVariants as contents;
-ghost use Rattle.vmig_c.specs.Lent.{ComesBack, ComesBackMarked, ComesBackWhole, HasComeBack, IsBackWith, IsLiveLoan, LendsBy, LendsKept, back_refusal_of, lend_refusal_of, lent_pages, mark_refusal_of, return_refusal_of};
+ghost use Rattle.vmig_c.specs.Lent.{ComesBack, ComesBackMarked, ComesBackWhole, HasComeBack, IsBackWith, IsLiveLoan, LendsIfOver, LendsKept, back_refusal_of, lend_refusal_of, lent_pages, mark_refusal_of, return_refusal_of};
 ghost use Rattle.vmig_c.specs.Mirror.{are_pages};
 
 use crate::kept::{Contents, Kept, Moving};
@@ -65,7 +65,7 @@ fn lend_refusal(kept: &Kept, ram: &mut Slot) -> Option<u32>
 
 fn lent(old: Contents, ram: &mut Slot) -> (Contents, u32)
     requires { lend_refusal_of (state_in old) (length ram.old.content) ≡ None }
-    ensures lends { LendsBy None (state_in old) ram.old result.1 ram.new (state_in result.0) }
+    ensures lends { LendsIfOver (state_in old) ram.old result.1 ram.new (state_in result.0) }
     ensures kind { are_mapped result.0 ≡ are_mapped old }
 {
     match old {

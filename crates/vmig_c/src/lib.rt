@@ -9,6 +9,8 @@
 //!   making (`specs/Making`, `specs/Setup`) or its stream (`specs/Moving`), by the status that it returns. The statuses are in
 //!   one table (`specs/Status`): from 1 to 63 nothing has changed, but for 20 (the writer failed) and for a stream that is
 //!   refused as it arrives. `vmig_step` is not done where what it sends might not fit.
+//! - What a call does to a handle, and by the state of its machine, is said once for all (`specs/OnHandle`). On a handle without a machine
+//!   it is refused; on another it changes the state of the machine alone.
 //! - `vmig_next_work` names the next step that has something to do (`specs/NextWork`). `vmig_must_sync` says of a step whether it makes
 //!   a flush, or ends a write that the driver then takes for durable; after `vmig_sync_failed` the disk is lost for as long as the
 //!   handle has the machine: each flush of it is made as one whose disk failed, and such a write does not end (`specs/Durable`).
@@ -199,7 +201,7 @@ pub extern "C" fn vmig_free(alloc: Global, machine: &mut Handle)
 
 /// The driver reads a register.
 #[unsafe(no_mangle)]
-#[tactic(auto, using(crate::proofs::ByHandle::told_none, crate::proofs::ByHandle::told_some))]
+#[tactic(auto, using(crate::proofs::OnHandle::on_none, crate::proofs::OnHandle::on_some))]
 pub extern "C" fn vmig_reg_read(
     machine: &mut Handle,
     dev: u8,
@@ -217,7 +219,7 @@ pub extern "C" fn vmig_reg_read(
 
 /// The driver writes a register.
 #[unsafe(no_mangle)]
-#[tactic(auto, using(crate::proofs::ByHandle::told_none, crate::proofs::ByHandle::told_some))]
+#[tactic(auto, using(crate::proofs::OnHandle::on_none, crate::proofs::OnHandle::on_some))]
 pub extern "C" fn vmig_reg_write(
     machine: &mut Handle,
     dev: u8,
@@ -236,7 +238,7 @@ pub extern "C" fn vmig_reg_write(
 
 /// The guest reads RAM. It takes no memory, and reads also a machine that was stopped.
 #[unsafe(no_mangle)]
-#[tactic(auto, using(crate::proofs::ByHandle::read_none, crate::proofs::ByHandle::read_some))]
+#[tactic(auto, using(crate::proofs::OnHandle::of_none, crate::proofs::OnHandle::of_some))]
 pub extern "C" fn vmig_ram_read(machine: &mut Handle, addr: u64, buf: &mut [u8]) -> u32
     ensures read { Read machine.old.machine addr result buf.old buf.new }
     ensures same { machine.new.machine ≡ machine.old.machine }
@@ -249,7 +251,7 @@ pub extern "C" fn vmig_ram_read(machine: &mut Handle, addr: u64, buf: &mut [u8])
 
 /// The guest writes RAM. It takes no memory.
 #[unsafe(no_mangle)]
-#[tactic(auto, using(crate::proofs::ByHandle::told_none, crate::proofs::ByHandle::told_some))]
+#[tactic(auto, using(crate::proofs::OnHandle::on_none, crate::proofs::OnHandle::on_some))]
 pub extern "C" fn vmig_ram_write(machine: &mut Handle, addr: u64, bytes: &[u8]) -> u32
     ensures { ToldSo machine.old.machine (events.MemWrite addr bytes.now) result machine.new.machine }
 {
@@ -261,7 +263,7 @@ pub extern "C" fn vmig_ram_write(machine: &mut Handle, addr: u64, bytes: &[u8]) 
 
 /// Copies the pages with these numbers from the caller's RAM into the machine's, and notes their versions. It takes no memory.
 #[unsafe(no_mangle)]
-#[tactic(auto, using(crate::proofs::Mirroring::pushed_none, crate::proofs::Mirroring::pushed_some))]
+#[tactic(auto, using(crate::proofs::OnHandle::on_none, crate::proofs::OnHandle::on_some))]
 pub extern "C" fn vmig_push(
     machine: &mut Handle,
     pages: &[u32],
@@ -279,7 +281,7 @@ pub extern "C" fn vmig_push(
 /// Copies into the caller's RAM each page whose version is not the one that the caller noted, or is the greatest, and notes its
 /// version. It takes no memory.
 #[unsafe(no_mangle)]
-#[tactic(auto, using(crate::proofs::Mirroring::pulled_none, crate::proofs::Mirroring::pulled_some))]
+#[tactic(auto, using(crate::proofs::OnHandle::of_none, crate::proofs::OnHandle::of_some))]
 pub extern "C" fn vmig_pull(
     machine: &mut Handle,
     ram: &mut [u8],
@@ -298,7 +300,7 @@ pub extern "C" fn vmig_pull(
 /// Lends the RAM of the machine to the caller, in whose memory it lies: it goes into the slot, which has to be free. It takes no memory,
 /// and no longer for a larger RAM.
 #[unsafe(no_mangle)]
-#[tactic(auto, using(crate::proofs::LentCalls::lends_none, crate::proofs::LentCalls::lends_some))]
+#[tactic(auto, using(crate::proofs::OnHandle::on_none, crate::proofs::OnHandle::on_some))]
 pub extern "C" fn vmig_lend(alloc: Global, machine: &mut Handle, ram: &mut Slot) -> u32
     ensures { Lends machine.old.machine ram.old result ram.new machine.new.machine }
 {
@@ -311,7 +313,7 @@ pub extern "C" fn vmig_lend(alloc: Global, machine: &mut Handle, ram: &mut Slot)
 /// Gives the RAM back that lies in the slot, and in which the pages with these numbers were written. It takes no memory, and time for
 /// these pages alone.
 #[unsafe(no_mangle)]
-#[tactic(auto, using(crate::proofs::LentCalls::backs_none, crate::proofs::LentCalls::backs_some))]
+#[tactic(auto, using(crate::proofs::OnHandle::on_none, crate::proofs::OnHandle::on_some))]
 pub extern "C" fn vmig_give_back(
     alloc: Global,
     machine: &mut Handle,
@@ -328,7 +330,7 @@ pub extern "C" fn vmig_give_back(
 
 /// As above, with the pages that are marked in a bitmap: page n by bit n, the lowest bit of the first word first.
 #[unsafe(no_mangle)]
-#[tactic(auto, using(crate::proofs::LentCalls::marks_none, crate::proofs::LentCalls::marks_some))]
+#[tactic(auto, using(crate::proofs::OnHandle::on_none, crate::proofs::OnHandle::on_some))]
 pub extern "C" fn vmig_give_back_marked(
     alloc: Global,
     machine: &mut Handle,
@@ -345,7 +347,7 @@ pub extern "C" fn vmig_give_back_marked(
 
 /// As above, with all pages.
 #[unsafe(no_mangle)]
-#[tactic(auto, using(crate::proofs::LentCalls::whole_none, crate::proofs::LentCalls::whole_some))]
+#[tactic(auto, using(crate::proofs::OnHandle::on_none, crate::proofs::OnHandle::on_some))]
 pub extern "C" fn vmig_give_back_all(alloc: Global, machine: &mut Handle, ram: &mut Slot) -> u32
     ensures { GivesBackWhole machine.old.machine ram.old result ram.new machine.new.machine }
 {
@@ -358,7 +360,7 @@ pub extern "C" fn vmig_give_back_all(alloc: Global, machine: &mut Handle, ram: &
 /// A device does one piece of its work. What it sends goes to the front of the buffer; a step that may send more than the
 /// buffer holds is not done. Where its disk is lost, a flush fails, and a write that the driver would then take for durable does not end.
 #[unsafe(no_mangle)]
-#[tactic(auto, using(crate::proofs::ByHandle::stepped_none, crate::proofs::ByHandle::stepped_some))]
+#[tactic(auto, using(crate::proofs::OnHandle::on_none, crate::proofs::OnHandle::on_some))]
 pub extern "C" fn vmig_step(
     machine: &mut Handle,
     dev: u8,
@@ -376,7 +378,7 @@ pub extern "C" fn vmig_step(
 
 /// Finds a step that has something to do: the first in turn after the one that the two numbers name. It takes no memory.
 #[unsafe(no_mangle)]
-#[tactic(auto, using(crate::proofs::NextWork::found_none, crate::proofs::NextWork::found_some))]
+#[tactic(auto, using(crate::proofs::OnHandle::of_none, crate::proofs::OnHandle::of_some))]
 pub extern "C" fn vmig_next_work(machine: &mut Handle, dev: &mut u8, pick: &mut u8) -> u32
     ensures found { FoundWork machine.old.machine result dev.new dev.old pick.new pick.old }
     ensures same { machine.new.machine ≡ machine.old.machine }
@@ -389,7 +391,7 @@ pub extern "C" fn vmig_next_work(machine: &mut Handle, dev: &mut u8, pick: &mut 
 
 /// The host puts bytes in. It takes no memory.
 #[unsafe(no_mangle)]
-#[tactic(auto, using(crate::proofs::ByHandle::told_none, crate::proofs::ByHandle::told_some))]
+#[tactic(auto, using(crate::proofs::OnHandle::on_none, crate::proofs::OnHandle::on_some))]
 pub extern "C" fn vmig_input(machine: &mut Handle, dev: u8, bytes: &[u8], accepted: &mut u32) -> u32
     ensures { Told machine.old.machine (events.Input dev bytes.now) result accepted.new accepted.old machine.new.machine }
 {
@@ -401,7 +403,7 @@ pub extern "C" fn vmig_input(machine: &mut Handle, dev: u8, bytes: &[u8], accept
 
 /// The host sets the size of a console, in characters.
 #[unsafe(no_mangle)]
-#[tactic(auto, using(crate::proofs::ByHandle::told_none, crate::proofs::ByHandle::told_some))]
+#[tactic(auto, using(crate::proofs::OnHandle::on_none, crate::proofs::OnHandle::on_some))]
 pub extern "C" fn vmig_resize(machine: &mut Handle, dev: u8, cols: u16, rows: u16) -> u32
     ensures { ToldSo machine.old.machine (events.Resize dev cols rows) result machine.new.machine }
 {
@@ -426,7 +428,7 @@ pub extern "C" fn vmig_lines(machine: &mut Handle) -> u16
 
 /// Reads a sector of a disk into the front of a buffer.
 #[unsafe(no_mangle)]
-#[tactic(auto, using(crate::proofs::Imaging::sector_none, crate::proofs::Imaging::sector_some))]
+#[tactic(auto, using(crate::proofs::OnHandle::on_none, crate::proofs::OnHandle::on_some))]
 pub extern "C" fn vmig_sector_read(
     machine: &mut Handle,
     dev: u8,
@@ -470,7 +472,7 @@ pub extern "C" fn vmig_sync_failed(machine: &mut Handle, dev: u8, pick: u8) -> u
 
 /// How many pages and devices the machine has. It takes no memory.
 #[unsafe(no_mangle)]
-#[tactic(auto, using(crate::proofs::Descriptions::sized_none, crate::proofs::Descriptions::sized_some))]
+#[tactic(auto, using(crate::proofs::OnHandle::of_none, crate::proofs::OnHandle::of_some))]
 pub extern "C" fn vmig_size(machine: &mut Handle, pages: &mut u32, devices: &mut u32) -> u32
     ensures sized { Sizes machine.old.machine result pages.new pages.old devices.new devices.old }
     ensures same { machine.new.machine ≡ machine.old.machine }
@@ -483,7 +485,7 @@ pub extern "C" fn vmig_size(machine: &mut Handle, pages: &mut u32, devices: &mut
 
 /// The guest-physical address at which the machine's RAM begins. It takes no memory.
 #[unsafe(no_mangle)]
-#[tactic(auto, using(crate::proofs::Descriptions::based_none, crate::proofs::Descriptions::based_some))]
+#[tactic(auto, using(crate::proofs::OnHandle::of_none, crate::proofs::OnHandle::of_some))]
 pub extern "C" fn vmig_base(machine: &mut Handle, base: &mut u64) -> u32
     ensures based { Bases machine.old.machine result base.new base.old }
     ensures same { machine.new.machine ≡ machine.old.machine }
@@ -496,7 +498,7 @@ pub extern "C" fn vmig_base(machine: &mut Handle, base: &mut u64) -> u32
 
 /// What a device of the machine was made as. It takes no memory.
 #[unsafe(no_mangle)]
-#[tactic(auto, using(crate::proofs::Descriptions::described_none, crate::proofs::Descriptions::described_some))]
+#[tactic(auto, using(crate::proofs::OnHandle::of_none, crate::proofs::OnHandle::of_some))]
 pub extern "C" fn vmig_device(machine: &mut Handle, dev: u8, shape: &mut DeviceShape) -> u32
     ensures described { Describes machine.old.machine dev result shape.new shape.old }
     ensures same { machine.new.machine ≡ machine.old.machine }
@@ -536,7 +538,7 @@ pub extern "C" fn vmig_stream_device(
 
 /// The length of the machine's stream, in bytes. It looks at each page of RAM once. No stream is made, and no memory taken.
 #[unsafe(no_mangle)]
-#[tactic(auto, using(crate::proofs::Lengths::measured_none, crate::proofs::Lengths::measured_some))]
+#[tactic(auto, using(crate::proofs::OnHandle::of_none, crate::proofs::OnHandle::of_some))]
 pub extern "C" fn vmig_saved_len(machine: &mut Handle, len: &mut usize) -> u32
     ensures measured { Measured machine.old.machine result len.new len.old }
     ensures same { machine.new.machine ≡ machine.old.machine }
@@ -549,7 +551,7 @@ pub extern "C" fn vmig_saved_len(machine: &mut Handle, len: &mut usize) -> u32
 
 /// Saves the machine into a buffer. `len` becomes the length of its stream in bytes, also if the buffer is too small for it.
 #[unsafe(no_mangle)]
-#[tactic(auto, using(crate::proofs::ByHandle::saved_none, crate::proofs::ByHandle::saved_some))]
+#[tactic(auto, using(crate::proofs::OnHandle::on_none, crate::proofs::OnHandle::on_some))]
 pub extern "C" fn vmig_save(
     alloc: Global,
     machine: &mut Handle,
@@ -590,7 +592,7 @@ pub extern "C" fn vmig_receive(
 
 /// Begins the migration of the machine. The bytes written for it wait until they are taken.
 #[unsafe(no_mangle)]
-#[tactic(auto, using(crate::proofs::MigrationCalls::begun_none, crate::proofs::MigrationCalls::begun_some))]
+#[tactic(auto, using(crate::proofs::OnHandle::on_none, crate::proofs::OnHandle::on_some))]
 pub extern "C" fn vmig_begin(alloc: Global, machine: &mut Handle) -> u32
     ensures { Begun machine.old.machine result machine.new.machine }
 {
@@ -602,7 +604,7 @@ pub extern "C" fn vmig_begin(alloc: Global, machine: &mut Handle) -> u32
 
 /// Sends the least due item, and reports which it is.
 #[unsafe(no_mangle)]
-#[tactic(auto, using(crate::proofs::MigrationCalls::copied_none, crate::proofs::MigrationCalls::copied_some))]
+#[tactic(auto, using(crate::proofs::OnHandle::on_none, crate::proofs::OnHandle::on_some))]
 pub extern "C" fn vmig_copy(machine: &mut Handle, dev: &mut u8, number: &mut u32) -> u32
     ensures { Copied machine.old.machine result dev.new dev.old number.new number.old machine.new.machine }
 {
@@ -614,7 +616,7 @@ pub extern "C" fn vmig_copy(machine: &mut Handle, dev: &mut u8, number: &mut u32
 
 /// Ends a round: what was touched since becomes due.
 #[unsafe(no_mangle)]
-#[tactic(auto, using(crate::proofs::MigrationCalls::ended_round_none, crate::proofs::MigrationCalls::ended_round_some))]
+#[tactic(auto, using(crate::proofs::OnHandle::on_none, crate::proofs::OnHandle::on_some))]
 pub extern "C" fn vmig_end_round(machine: &mut Handle, round: &mut u32) -> u32
     ensures { EndedRound machine.old.machine result round.new round.old machine.new.machine }
 {
@@ -626,7 +628,7 @@ pub extern "C" fn vmig_end_round(machine: &mut Handle, round: &mut u32) -> u32
 
 /// Sends what is left, and closes the stream.
 #[unsafe(no_mangle)]
-#[tactic(auto, using(crate::proofs::MigrationCalls::has_been_stopped_none, crate::proofs::MigrationCalls::has_been_stopped_some))]
+#[tactic(auto, using(crate::proofs::OnHandle::on_none, crate::proofs::OnHandle::on_some))]
 pub extern "C" fn vmig_stop(machine: &mut Handle, pages: &mut u64, sectors: &mut u64) -> u32
     ensures { HasBeenStopped machine.old.machine result pages.new pages.old sectors.new sectors.old machine.new.machine }
 {
@@ -638,7 +640,7 @@ pub extern "C" fn vmig_stop(machine: &mut Handle, pages: &mut u64, sectors: &mut
 
 /// Ends the migration; the machine stays as it is.
 #[unsafe(no_mangle)]
-#[tactic(auto, using(crate::proofs::MigrationCalls::aborted_none, crate::proofs::MigrationCalls::aborted_some))]
+#[tactic(auto, using(crate::proofs::OnHandle::on_none, crate::proofs::OnHandle::on_some))]
 pub extern "C" fn vmig_abort(alloc: Global, machine: &mut Handle) -> u32
     ensures { Aborted machine.old.machine result machine.new.machine }
 {
@@ -650,7 +652,7 @@ pub extern "C" fn vmig_abort(alloc: Global, machine: &mut Handle) -> u32
 
 /// How many items are due, and how many are dirty.
 #[unsafe(no_mangle)]
-#[tactic(auto, using(crate::proofs::MigrationCalls::remaining_none, crate::proofs::MigrationCalls::remaining_some))]
+#[tactic(auto, using(crate::proofs::OnHandle::of_none, crate::proofs::OnHandle::of_some))]
 pub extern "C" fn vmig_remaining(machine: &mut Handle, due: &mut u64, dirty: &mut u64) -> u32
     ensures counts { Remaining machine.old.machine result due.new due.old dirty.new dirty.old }
     ensures same { machine.new.machine ≡ machine.old.machine }
@@ -663,7 +665,7 @@ pub extern "C" fn vmig_remaining(machine: &mut Handle, due: &mut u64, dirty: &mu
 
 /// Takes the first of the bytes that wait.
 #[unsafe(no_mangle)]
-#[tactic(auto, using(crate::proofs::MigrationCalls::taken_none, crate::proofs::MigrationCalls::taken_some))]
+#[tactic(auto, using(crate::proofs::OnHandle::on_none, crate::proofs::OnHandle::on_some))]
 pub extern "C" fn vmig_take(machine: &mut Handle, buf: &mut [u8], got: &mut usize) -> u32
     ensures { Taken machine.old.machine result got.new got.old buf.old buf.new machine.new.machine }
 {
@@ -708,7 +710,7 @@ pub extern "C" fn vmig_feed(alloc: Global, machine: &mut Handle, bytes: &[u8]) -
 
 /// Ends an arrival after its last piece: the handle has the machine, or its stream is refused.
 #[unsafe(no_mangle)]
-#[tactic(auto, using(crate::proofs::ArrivalCalls::finished_none, crate::proofs::ArrivalCalls::finished_some))]
+#[tactic(auto, using(crate::proofs::OnHandle::on_none, crate::proofs::OnHandle::on_some))]
 pub extern "C" fn vmig_finish(alloc: Global, machine: &mut Handle) -> u32
     ensures { Finished machine.old.machine result machine.new.machine }
 {
@@ -720,7 +722,7 @@ pub extern "C" fn vmig_finish(alloc: Global, machine: &mut Handle) -> u32
 
 /// The number of rounds that ended in the bytes that arrived.
 #[unsafe(no_mangle)]
-#[tactic(auto, using(crate::proofs::ArrivalCalls::counted_none, crate::proofs::ArrivalCalls::counted_some))]
+#[tactic(auto, using(crate::proofs::OnHandle::of_none, crate::proofs::OnHandle::of_some))]
 pub extern "C" fn vmig_rounds(machine: &mut Handle, ended: &mut u32) -> u32
     ensures rounds { Counted machine.old.machine result ended.new ended.old }
     ensures same { machine.new.machine ≡ machine.old.machine }
@@ -733,7 +735,7 @@ pub extern "C" fn vmig_rounds(machine: &mut Handle, ended: &mut u32) -> u32
 
 /// Whether the end of the stream has arrived, and nothing was refused: 1, or 0.
 #[unsafe(no_mangle)]
-#[tactic(auto, using(crate::proofs::ArrivalCalls::whole_none, crate::proofs::ArrivalCalls::whole_some))]
+#[tactic(auto, using(crate::proofs::OnHandle::of_none, crate::proofs::OnHandle::of_some))]
 pub extern "C" fn vmig_is_whole(machine: &mut Handle, whole: &mut u32) -> u32
     ensures whole { ToldWhole machine.old.machine result whole.new whole.old }
     ensures same { machine.new.machine ≡ machine.old.machine }

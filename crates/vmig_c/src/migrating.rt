@@ -101,7 +101,7 @@ fn begun_again<D: Disk>(live: Moving<D>) -> (Moving<D>, u32)
 }
 
 /// Sends the least due item.
-#[tactic(auto, using(crate::proofs::Migration::still_copies, crate::proofs::Migration::moving_copies))]
+#[tactic(auto, using(crate::proofs::OnHandle::by_still, crate::proofs::OnHandle::by_moving))]
 pub(crate) fn copy(kept: &mut Kept, dev: &mut u8, number: &mut u32) -> u32
     ensures copies { CopiesKept kept.old.state result dev.new dev.old number.new number.old kept.new.state }
     ensures kind { kept.new ≡ record kept.old { state = kept.new.state } }
@@ -133,7 +133,7 @@ fn copy_status<D: Disk>(live: &mut Moving<D>, dev: &mut u8, number: &mut u32) ->
 }
 
 /// Ends a round.
-#[tactic(auto, using(crate::proofs::Migration::still_ends, crate::proofs::Migration::moving_ends))]
+#[tactic(auto, using(crate::proofs::OnHandle::by_still, crate::proofs::OnHandle::by_moving))]
 pub(crate) fn end_round(kept: &mut Kept, round: &mut u32) -> u32
     ensures ends { EndsKept kept.old.state result round.new round.old kept.new.state }
     ensures kind { kept.new ≡ record kept.old { state = kept.new.state } }
@@ -160,7 +160,7 @@ fn end_status<D: Disk>(live: &mut Moving<D>, round: &mut u32) -> u32
 }
 
 /// Sends what is left, and closes the stream.
-#[tactic(auto, using(crate::proofs::Migration::still_stops, crate::proofs::Migration::moving_stops))]
+#[tactic(auto, using(crate::proofs::OnHandle::by_still, crate::proofs::OnHandle::by_moving))]
 pub(crate) fn stop(kept: &mut Kept, pages: &mut u64, sectors: &mut u64) -> u32
     ensures stops { StopsKept kept.old.state result pages.new pages.old sectors.new sectors.old kept.new.state }
     ensures kind { kept.new ≡ record kept.old { state = kept.new.state } }

@@ -11,7 +11,7 @@ use crate::stepping::reply_status;
 use machine::Disk;
 
 /// The driver reads a register.
-#[tactic(auto, using(crate::proofs::ByKept::still, crate::proofs::ByKept::moving))]
+#[tactic(auto, using(crate::proofs::OnHandle::by_still, crate::proofs::OnHandle::by_moving, crate::proofs::ByKept::told))]
 pub(crate) fn read_register(kept: &mut Kept, dev: u8, off: u32, width: u8, value: &mut u32) -> u32
     ensures told { Tells kept.old.state (events.RegRead dev off width) result value.new value.old kept.new.state }
     ensures kind { kept.new ≡ record kept.old { state = kept.new.state } }
@@ -32,7 +32,7 @@ fn value_status<D: Disk>(live: &mut Moving<D>, dev: u8, off: u32, width: u8, val
 }
 
 /// The driver writes a register.
-#[tactic(auto, using(crate::proofs::ByKept::still, crate::proofs::ByKept::moving))]
+#[tactic(auto, using(crate::proofs::OnHandle::by_still, crate::proofs::OnHandle::by_moving, crate::proofs::ByKept::told))]
 pub(crate) fn write_register(
     kept: &mut Kept,
     dev: u8,
@@ -89,7 +89,7 @@ pub(crate) fn lines(kept: &Kept) -> u16
 }
 
 /// The guest writes RAM.
-#[tactic(auto, using(crate::proofs::ByKept::still_so, crate::proofs::ByKept::moving))]
+#[tactic(auto, using(crate::proofs::OnHandle::by_still, crate::proofs::OnHandle::by_moving, crate::proofs::ByKept::told_so))]
 pub(crate) fn write_ram(kept: &mut Kept, addr: u64, bytes: &[u8]) -> u32
     ensures told { TellsSo kept.old.state (events.MemWrite addr bytes.now) result kept.new.state }
     ensures kind { kept.new ≡ record kept.old { state = kept.new.state } }
@@ -111,7 +111,7 @@ fn write_status<D: Disk>(live: &mut Moving<D>, addr: u64, bytes: &[u8]) -> u32
 }
 
 /// The host puts bytes in.
-#[tactic(auto, using(crate::proofs::ByKept::still, crate::proofs::ByKept::moving))]
+#[tactic(auto, using(crate::proofs::OnHandle::by_still, crate::proofs::OnHandle::by_moving, crate::proofs::ByKept::told))]
 pub(crate) fn input(kept: &mut Kept, dev: u8, bytes: &[u8], accepted: &mut u32) -> u32
     ensures told { Tells kept.old.state (events.Input dev bytes.now) result accepted.new accepted.old kept.new.state }
     ensures kind { kept.new ≡ record kept.old { state = kept.new.state } }
@@ -132,7 +132,7 @@ fn input_status<D: Disk>(live: &mut Moving<D>, dev: u8, bytes: &[u8], accepted: 
 }
 
 /// The host sets the size of a console.
-#[tactic(auto, using(crate::proofs::ByKept::still_so, crate::proofs::ByKept::moving))]
+#[tactic(auto, using(crate::proofs::OnHandle::by_still, crate::proofs::OnHandle::by_moving, crate::proofs::ByKept::told_so))]
 pub(crate) fn resize(kept: &mut Kept, dev: u8, cols: u16, rows: u16) -> u32
     ensures told { TellsSo kept.old.state (events.Resize dev cols rows) result kept.new.state }
     ensures kind { kept.new ≡ record kept.old { state = kept.new.state } }

@@ -67,8 +67,8 @@ pub use numbers::{u8_at, u32_at};
 pub use record::{Record, decode_record, has_record};
 pub use record_head::{
     BAD_SECTOR_RECORD, BODY_MAX, COMMIT_RECORD, COMMIT_TAG, DEVICE_TAG, FoundHead,
-    GOOD_SECTOR_RECORD, HEAD_MAX, PAGE_TAG, RECORD_MAX, ROUND_END_TAG, RecordHead, SECTOR_TAG,
-    ZERO_PAGE_TAG, read_head,
+    GOOD_SECTOR_RECORD, HEAD_MAX, PAGE_RECORD, PAGE_TAG, RECORD_MAX, ROUND_END_TAG, RecordHead,
+    SECTOR_TAG, ZERO_PAGE_TAG, read_head,
 };
 pub use sector_writing::encode_sector;
 pub use shape_spelling::{shape_at, shape_len};

@@ -57,6 +57,7 @@ impl<D: Disk> Machine<D> {
             Event::Resize { dev, cols, rows } => {
                 Reply::from_done(self.resize(*dev, *cols, *rows))
             }
+            Event::Drop { dev } => Reply::from_done(self.drop_input(*dev)),
         }
     }
 

@@ -105,6 +105,19 @@ impl<D: Disk> Machine<D> {
         self.devices[dev].input(bytes)
     }
 
+    /// The host drops what it has put in and the guest has not yet taken: the pool of an entropy device, the input of a console,
+    /// the frames of a network device. A block device has none of it.
+    pub fn drop_input(&mut self, dev: u8) -> Result<(), Refusal>
+        ensures applied { IsApplied self.old (events.Drop dev) (done_reply result) self.new }
+        ensures calls { HasCalled D.called self.old (events.Drop dev) (done_reply result) self.new }
+    {
+        let dev = dev as usize;
+        if dev >= self.devices.len() {
+            return Err(Refusal::NoDevice);
+        }
+        self.devices[dev].drop_input()
+    }
+
     /// A device does one piece of its work, which the pick names.
     pub fn step(&mut self, dev: u8, pick: u8) -> Reply
         ensures applied { IsApplied self.old (events.Step dev pick) result self.new }

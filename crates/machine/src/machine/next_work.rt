@@ -4,10 +4,11 @@
 //! step then clears the flag. In turn are all picks of a device, then the next device, from the step after the last one made:
 //! so nobody is left out, and the caller keeps two bytes.
 
-ghost use Rattle.std.specs.Prelude.{◌≡◌, ◌+◌, ◌-◌, ◌*◌, ◌<◌, ◌≤◌, List, true, None, IfSome, length};
-ghost use Rattle.machine.specs.NextWork.{HaveNoWork, has_work_at, next_from, next_work};
+ghost use Rattle.std.specs.Prelude.{◌≡◌, ◌+◌, ◌-◌, ◌*◌, ◌<◌, ◌≤◌, Bool, true, false, None, IfSome, slice_index_or};
+ghost use Rattle.std.specs.List.{find};
+ghost use Rattle.machine.specs.NextWork.{HaveNoWork, NoneCanWork, can_work_at, has_work_at, in_turn_after, next_from, next_work, next_work_with_lost};
 ghost use Rattle.machine.specs.Seen.{state_of};
-ghost use Rattle.machine.specs.State.{DeviceState};
+ghost use Rattle.machine.specs.declared.work.Work.{Work};
 
 use crate::machine::{DEVICES_MAX, Machine};
 use crate::work::Work;
@@ -26,13 +27,24 @@ impl<D: Disk> Machine<D> {
         ensures some { IfSome result (λ work. has_work_at (state_of self.now).devices work ≡ true) }
         ensures none { result ≡ None → HaveNoWork (state_of self.now).devices }
     {
+        self.next_work_with_lost(last, &[])
+    }
+
+    /// As `next_work`, where some disks are lost: their bytes did not reach what holds them. A step that ends a write of a driver that
+    /// did not accept FLUSH (`SyncOwed::EndOfWrite`) is passed over then, since that driver would take the write for durable. For each
+    /// device the list says whether its disk is lost; one past its end is not.
+    pub fn next_work_with_lost(&self, last: Work, lost: &[bool]) -> Option<Work>
+        ensures next { result ≡ next_work_with_lost (state_of self.now).devices lost.now last }
+        ensures some { IfSome result (λ work. can_work_at lost.now (state_of self.now).devices work ≡ true) }
+        ensures none { result ≡ None → NoneCanWork lost.now (state_of self.now).devices }
+    {
         let devices = self.shapes().len();
         let (first, pick) = first_in_turn(last, devices);
         let mut from = pick;
         // Once around, and then the first device once more, for its picks up to the last one.
         for turn in first..first + devices + 1 {
             let dev = device_in_turn(turn, devices);
-            if let Some(pick) = self.state(dev).first_pick(from) {
+            if let Some(pick) = self.state(dev).first_pick(from, is_lost(lost, dev)) {
                 return Some(Work { dev, pick });
             }
             from = 0;
@@ -46,7 +58,7 @@ fn first_in_turn(last: Work, devices: usize) -> (usize, u8)
     requires { devices ≤ DEVICES_MAX }
     ensures there { 0 < devices → result.0 < devices }
     ensures low { result.0 ≤ devices }
-    ensures order { (states : List DeviceState) → length states ≡ devices → next_work states last ≡ next_from states (256 * result.0 + result.1) }
+    ensures order { (p : Work → Bool) → find p (in_turn_after last devices) ≡ next_from p devices (256 * result.0 + result.1) }
 {
     let first = 256 * last.dev as usize + last.pick as usize + 1;
     if first >= 256 * devices {
@@ -67,5 +79,15 @@ fn device_in_turn(turn: usize, devices: usize) -> u8
         turn as u8
     } else {
         (turn - devices) as u8
+    }
+}
+
+/// Whether the disk of a device is lost, by such a list.
+fn is_lost(lost: &[bool], dev: u8) -> bool
+    ensures { result ≡ slice_index_or lost.now dev false }
+{
+    match lost.get(dev as usize) {
+        Some(lost) => *lost,
+        None => false,
     }
 }

@@ -4,19 +4,20 @@ ghost use Rattle.std.specs.Prelude.{◌≡◌, ◌≤◌, ℕ, false};
 ghost use Rattle.std.specs.List.{find};
 ghost use Rattle.std.specs.Option.{is_some};
 ghost use Rattle.machine.specs.DeviceStep.{advanced_at, looked_at};
-ghost use Rattle.machine.specs.NextWork.{has_work_with, picks_from};
+ghost use Rattle.machine.specs.NextWork.{can_work_with, has_work_with, is_end_owed, picks_from};
 ghost use Rattle.machine.specs.Sound.{IsSoundDevice};
 
 use crate::state::DeviceState;
+use blk::SyncOwed;
 
 impl DeviceState {
-    /// The first pick, from this one on, with which the device has something to do.
-    pub(crate) fn first_pick(&self, from: u8) -> Option<u8>
+    /// The first pick, from this one on, with which the device has something to do, and that may be made if its disk is lost.
+    pub(crate) fn first_pick(&self, from: u8, is_lost: bool) -> Option<u8>
         requires sound { (len : ℕ) × IsSoundDevice self.now.registers.ram_base len self.now }
-        ensures { result ≡ find (has_work_with self.now) (picks_from from) }
+        ensures { result ≡ find (can_work_with is_lost self.now) (picks_from from) }
     {
         for pick in from..self.picks() {
-            if self.has_work_with(pick) {
+            if self.can_work_with(pick, is_lost) {
                 return Some(pick);
             }
         }
@@ -35,6 +36,14 @@ impl DeviceState {
         } else {
             requests as u8 + 1
         }
+    }
+
+    /// Whether the device has something to do with this pick, and it may be made.
+    fn can_work_with(&self, pick: u8, is_lost: bool) -> bool
+        requires sound { (len : ℕ) × IsSoundDevice self.now.registers.ram_base len self.now }
+        ensures { result ≡ can_work_with is_lost self.now pick }
+    {
+        !(is_lost && is_end_owed(self.must_sync(pick))) && self.has_work_with(pick)
     }
 
     /// Whether the device has something to do with this pick.
@@ -57,4 +66,11 @@ impl DeviceState {
         }
         self.looks(pick, &queues[number])
     }
+}
+
+/// Whether a step ends a write that its driver takes for durable.
+fn is_end_owed(owed: SyncOwed) -> bool
+    ensures { result ≡ is_end_owed owed }
+{
+    matches!(owed, SyncOwed::EndOfWrite)
 }

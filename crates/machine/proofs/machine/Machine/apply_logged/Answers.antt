@@ -15,3 +15,6 @@ returns-in-Input-clause-applied g c = rw (c.in-Input.is, c.from_accepted.ensures
 
 pub returns-in-Resize-clause-applied : goal.returns-in-Resize-clause-applied
 returns-in-Resize-clause-applied g c = rw (c.in-Resize.is, c.from_done-in-Resize.ensures) (unlogged g.L.TouchLog.after c.args.self.now c.resize.new.self c.args.log.now _ _ tt c.resize.ensures.applied)
+
+pub returns-in-Drop-clause-applied : goal.returns-in-Drop-clause-applied
+returns-in-Drop-clause-applied g c = rw (c.in-Drop.is, c.from_done-in-Drop.ensures) (unlogged g.L.TouchLog.after c.args.self.now c.drop_input.new.self c.args.log.now _ _ tt c.drop_input.ensures.applied)

@@ -1,70 +1,20 @@
-use Rattle.std.proofs.Common.{◌≡◌, ◌<◌, length, Some, sym, ap, ◌∙◌, arith}
-use Rattle.std.proofs.lemmas.List.{length-map}
+use Rattle.std.proofs.Common.{◌≡◌, length, sym, ◌∙◌}
 use Rattle.machine.specs.NextWork.{has_work_at, in_turn_after, next_work}
 use Rattle.machine.specs.Seen.{state_of}
-use Rattle.machine.specs.Shapes.{made_as}
-use Rattle.machine.specs.State.{DeviceState}
-use Rattle.machine.proofs.NextWork.{found_has, found_in_turn, none_has, none_in_turns, none_of_device, not_searched, searched_on, some_of_device, sound_of}
+use Rattle.machine.proofs.NextWork.{found_has, none_has, none_lost}
 use Rattle.machine.proofs.machine.Machine.next_work.Goals as goal
 
-pub loop-turn-init : goal.loop-turn-init
-loop-turn-init g c = not_searched (has_work_at (state_of c.args.self.now).devices) _ c.first_in_turn-first.result.0 c.first_in_turn-first.result.1 c.first_in_turn-first.ensures.low (omega arith)
-
-pub first_pick-requires : goal.first_pick-requires
-first_pick-requires g c =
-    let m = state_of c.args.self.now in
-    record { sound = (length m.ram, sound_of m c.device_in_turn-dev.result c.state.result.now c.shapes-devices.ensures.sound c.state.ensures) }
-
-pub returns-in-Some-clause-next : goal.returns-in-Some-clause-next
-returns-in-Some-clause-next g c =
-    let m = state_of c.args.self.now in
-    let i = c.loop-turn in
-    let dev = c.device_in_turn-dev.result in
-    let count : length m.devices ≡ length c.shapes-devices.result.now = sym (ap length c.shapes-devices.ensures.shapes ∙ length-map m.devices (λ (d : DeviceState). made_as d.kind)) in
-    let some : 0 < length c.shapes-devices.result.now = omega (arith, count, c.shapes-devices.ensures.sound.some_devices) in
-    let first : c.first_in_turn-first.result.0 < length c.shapes-devices.result.now = c.first_in_turn-first.ensures.there some in
-    sym (c.first_in_turn-first.ensures.order m.devices count
-    ∙ found_in_turn m.devices _ c.first_in_turn-first.result.0 c.first_in_turn-first.result.1 i.turn i.from dev (record { dev = dev; pick = c.in-Some.pick }) count first (omega arith) (omega arith) c.device_in_turn-dev.ensures.before c.device_in_turn-dev.ensures.around
-    i.invariant (some_of_device m.devices dev i.from c.in-Some.pick c.state.result.now c.first_pick.result c.state.ensures i.invariant.few c.first_pick.ensures c.in-Some.is))
-
-pub returns-in-Some-clause-some : goal.returns-in-Some-clause-some
-returns-in-Some-clause-some g c =
-    let m = state_of c.args.self.now in
-    let i = c.loop-turn in
-    let dev = c.device_in_turn-dev.result in
-    let count : length m.devices ≡ length c.shapes-devices.result.now = sym (ap length c.shapes-devices.ensures.shapes ∙ length-map m.devices (λ (d : DeviceState). made_as d.kind)) in
-    let some : 0 < length c.shapes-devices.result.now = omega (arith, count, c.shapes-devices.ensures.sound.some_devices) in
-    let first : c.first_in_turn-first.result.0 < length c.shapes-devices.result.now = c.first_in_turn-first.ensures.there some in
-    let found : next_work m.devices c.args.last ≡ Some (record { dev = dev; pick = c.in-Some.pick }) =
-    c.first_in_turn-first.ensures.order m.devices count
-    ∙ found_in_turn m.devices _ c.first_in_turn-first.result.0 c.first_in_turn-first.result.1 i.turn i.from dev (record { dev = dev; pick = c.in-Some.pick }) count first (omega arith) (omega arith) c.device_in_turn-dev.ensures.before c.device_in_turn-dev.ensures.around
-    i.invariant (some_of_device m.devices dev i.from c.in-Some.pick c.state.result.now c.first_pick.result c.state.ensures i.invariant.few c.first_pick.ensures c.in-Some.is) in
-    rw found at (found_has (has_work_at m.devices) (in_turn_after c.args.last (length m.devices)))
-
-pub loop-turn-preserved : goal.loop-turn-preserved
-loop-turn-preserved g c =
-    let m = state_of c.args.self.now in
-    let i = c.loop-turn in
-    let dev = c.device_in_turn-dev.result in
-    let count : length m.devices ≡ length c.shapes-devices.result.now = sym (ap length c.shapes-devices.ensures.shapes ∙ length-map m.devices (λ (d : DeviceState). made_as d.kind)) in
-    let some : 0 < length c.shapes-devices.result.now = omega (arith, count, c.shapes-devices.ensures.sound.some_devices) in
-    searched_on (has_work_at m.devices) _ c.first_in_turn-first.result.0 c.first_in_turn-first.result.1 i.turn i.from dev (c.first_in_turn-first.ensures.there some) c.device_in_turn-dev.ensures.before c.device_in_turn-dev.ensures.around
-    i.invariant (none_of_device m.devices dev i.from c.state.result.now c.first_pick.result c.state.ensures i.invariant.few c.first_pick.ensures c.in_default.is)
-
 pub returns-clause-next : goal.returns-clause-next
-returns-clause-next g c =
+returns-clause-next g c = c.next_work_with_lost.ensures.next ∙ none_lost (state_of c.args.self.now).devices c.args.last
+
+pub returns-clause-some : goal.returns-clause-some
+returns-clause-some g c =
     let m = state_of c.args.self.now in
-    let i = c.loop-turn in
-    let count : length m.devices ≡ length c.shapes-devices.result.now = sym (ap length c.shapes-devices.ensures.shapes ∙ length-map m.devices (λ (d : DeviceState). made_as d.kind)) in
-    let some : 0 < length c.shapes-devices.result.now = omega (arith, count, c.shapes-devices.ensures.sound.some_devices) in
-    sym (c.first_in_turn-first.ensures.order m.devices count
-    ∙ none_in_turns m.devices _ c.first_in_turn-first.result.0 c.first_in_turn-first.result.1 i.turn i.from count (c.first_in_turn-first.ensures.there some) (omega arith) c.loop-turn-test.false i.invariant)
+    let is : c.next_work_with_lost.result ≡ next_work m.devices c.args.last = c.next_work_with_lost.ensures.next ∙ none_lost m.devices c.args.last in
+    rw is (found_has (has_work_at m.devices) (in_turn_after c.args.last (length m.devices)))
 
 pub returns-clause-none : goal.returns-clause-none
-returns-clause-none g c = λ _.
+returns-clause-none g c = λ none.
     let m = state_of c.args.self.now in
-    let i = c.loop-turn in
-    let count : length m.devices ≡ length c.shapes-devices.result.now = sym (ap length c.shapes-devices.ensures.shapes ∙ length-map m.devices (λ (d : DeviceState). made_as d.kind)) in
-    let some : 0 < length c.shapes-devices.result.now = omega (arith, count, c.shapes-devices.ensures.sound.some_devices) in
-    none_has m.devices c.args.last (c.first_in_turn-first.ensures.order m.devices count
-    ∙ none_in_turns m.devices _ c.first_in_turn-first.result.0 c.first_in_turn-first.result.1 i.turn i.from count (c.first_in_turn-first.ensures.there some) (omega arith) c.loop-turn-test.false i.invariant)
+    let is : c.next_work_with_lost.result ≡ next_work m.devices c.args.last = c.next_work_with_lost.ensures.next ∙ none_lost m.devices c.args.last in
+    none_has m.devices c.args.last (sym is ∙ none)

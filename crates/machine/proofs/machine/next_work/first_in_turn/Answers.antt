@@ -3,4 +3,4 @@ use Rattle.machine.proofs.NextWork.{from_start}
 use Rattle.machine.proofs.machine.next_work.first_in_turn.Goals as goal
 
 pub returns-then-first-devices-clause-order : goal.returns-then-first-devices-clause-order
-returns-then-first-devices-clause-order c = λ states long. from_start states c.args.last (omega (arith, long, c.if-first-devices.true))
+returns-then-first-devices-clause-order c = λ p. from_start p c.args.last c.args.devices (omega (arith, c.if-first-devices.true))

@@ -1,0 +1,49 @@
+-- What a call does to a handle, and what it tells of one.
+use Rattle.std.specs.Prelude.{◌≡◌, ℕ, Option, Some, None}
+use Rattle.machine.specs.Seen.{Seen}
+use Rattle.sender.specs.LiveState.{LiveSeen}
+use Rattle.vmig_c.specs.Kept.{KeptSeen, State, Still, Moving, Arriving, Lent}
+use Rattle.vmig_c.specs.Status.{lent, no_machine}
+
+-- A call that is refused has a status that says why, and what it would change is as it was: one thing, or two.
+abbrev pub Refuses : {A : Type 0} → ℕ → A → A → ℕ → Type 0
+Refuses status new old reason = (status ≡ reason) × (new ≡ old)
+
+abbrev pub RefusesBoth : {A B : Type 0} → ℕ → A → A → B → B → ℕ → Type 0
+RefusesBoth status new old other old_other reason = (status ≡ reason) × (new ≡ old) × (other ≡ old_other)
+
+-- What a call does by the state that it finds: to a machine that is not being migrated, and to one that is. Where one arrives or has lent
+-- its RAM the call is refused, for a reason that is a status, and nothing changes. No such call turns one state into another.
+abbrev pub ByState : (ℕ → Type 0) → (Seen → Seen → Type 0) → (LiveSeen → LiveSeen → Type 0) → State → State → Type 0
+ByState refused still moving (Still m) (Still next) = still m next
+ByState refused still moving (Moving l) (Moving next) = moving l next
+ByState refused still moving (Arriving r) (Arriving next) = refused no_machine × (next ≡ r)
+ByState refused still moving (Lent x) (Lent next) = refused lent × (next ≡ x)
+ByState refused still moving _ _ = ⊥
+
+-- As above, for a call that changes nothing.
+abbrev pub OfState : (ℕ → Type 0) → (Seen → Type 0) → (LiveSeen → Type 0) → State → Type 0
+OfState refused still moving (Still m) = still m
+OfState refused still moving (Moving l) = moving l
+OfState refused still moving (Arriving r) = refused no_machine
+OfState refused still moving (Lent x) = refused lent
+
+-- What a call does to a handle: to the state of what it holds, and to nothing else. On a handle without a machine it is refused.
+pub record OnKept (does : KeptSeen → State → Type 0) (k : KeptSeen) (after : Option KeptSeen) : Type 0 where
+  pub next : State
+  pub is_next : after ≡ Some (record k { state = next })
+  pub done : does k next
+
+abbrev pub OnHandle : (ℕ → Type 0) → (KeptSeen → State → Type 0) → Option KeptSeen → Option KeptSeen → Type 0
+OnHandle refused does None after = refused no_machine × (after ≡ None)
+OnHandle refused does (Some k) after = OnKept does k after
+
+-- What a call tells of a handle, and leaves as it is.
+abbrev pub OfHandle : (ℕ → Type 0) → (State → Type 0) → Option KeptSeen → Type 0
+OfHandle refused tells None = refused no_machine
+OfHandle refused tells (Some k) = tells k.state
+
+-- A refusal, or else this.
+abbrev pub Unless : Option ℕ → (ℕ → Type 0) → Type 0 → Type 0
+Unless (Some reason) refused does = refused reason
+Unless None refused does = does
