@@ -34,10 +34,10 @@ int main(void)
     static const uint8_t zeros[512];
     vmig_machine m = VMIG_NONE;
     uint8_t written[512], back[512];
-    uint32_t number;
+    size_t kept;
 
     for (size_t i = 0; i < 512; i++) written[i] = (uint8_t)(7 * i + 1);
-    expect("make", vmig_make(16, shapes, 1, &m), VMIG_OK);
+    expect("make", make_new(16, shapes, 1, &m), VMIG_OK);
     expect("sectors", read_reg(&m, 0x100), 8);
     set_up(&m, 1);
 
@@ -52,7 +52,7 @@ int main(void)
     expect("read", vmig_ram_read(&m, DATA, back, 512), VMIG_OK);
     expect("the sector", (uint64_t)memcmp(back, written, 512), 0);
 
-    expect("a disk takes no input", vmig_input(&m, 0, written, 512, &number), VMIG_WRONG_KIND);
+    expect("a disk takes no input", vmig_input(&m, 0, written, 512, &kept), VMIG_WRONG_KIND);
     vmig_free(&m);
     return ended("disk");
 }

@@ -24,44 +24,107 @@ static inline int ended(const char *name)
     return failures != 0;
 }
 
-/* A machine over disks that hold the contents; over images; and over RAM of the program, with images or none. */
-static inline uint32_t make_with(uint32_t pages, const vmig_shape *shapes, size_t count, const uint8_t *contents, size_t len, vmig_machine *m)
+/* A machine with RAM and disks of zeros; over disks that hold the contents; over images; and over RAM of the program, with images or
+ * none. */
+static inline vmig_status make_with(uint32_t pages, const vmig_shape *shapes, size_t count, const uint8_t *contents, size_t len, vmig_machine *m)
 {
     vmig_setup setup = VMIG_SETUP;
     setup.pages = pages, setup.shapes = shapes, setup.count = count, setup.contents = contents, setup.len = len;
-    return vmig_make_as(&setup, m);
+    return vmig_make(&setup, m);
 }
 
-static inline uint32_t make_mapped(uint32_t pages, const vmig_shape *shapes, size_t count, vmig_image *images, size_t count_images, vmig_machine *m)
+static inline vmig_status make_new(uint32_t pages, const vmig_shape *shapes, size_t count, vmig_machine *m)
+{
+    return make_with(pages, shapes, count, NULL, 0, m);
+}
+
+static inline vmig_status make_mapped(uint32_t pages, const vmig_shape *shapes, size_t count, vmig_image *images, size_t count_images, vmig_machine *m)
 {
     vmig_setup setup = VMIG_SETUP;
     setup.pages = pages, setup.shapes = shapes, setup.count = count, setup.images = images, setup.count_images = count_images;
-    return vmig_make_as(&setup, m);
+    return vmig_make(&setup, m);
 }
 
-static inline uint32_t make_over(vmig_ram *ram, const vmig_shape *shapes, size_t count, vmig_image *images, size_t count_images, vmig_machine *m)
+static inline vmig_status make_over(vmig_ram *ram, const vmig_shape *shapes, size_t count, vmig_image *images, size_t count_images, vmig_machine *m)
 {
     vmig_setup setup = VMIG_SETUP;
     setup.shapes = shapes, setup.count = count, setup.images = images, setup.count_images = count_images, setup.ram = *ram;
-    uint32_t status = vmig_make_as(&setup, m);
+    vmig_status status = vmig_make(&setup, m);
     *ram = setup.ram;
     return status;
 }
 
-/* A machine will arrive over images; and in RAM of the program, with images or none. */
-static inline uint32_t arrive_over(vmig_ram *ram, vmig_image *images, size_t count_images, vmig_machine *m)
+/* A machine will arrive in RAM of the program, if there is some, and over images, if there are some. What comes here was sent by these
+ * programs, so the rest may be as large as that of any machine. */
+static inline vmig_status arrive_over(vmig_ram *ram, vmig_image *images, size_t count_images, vmig_machine *m)
 {
     vmig_arrival arrival = VMIG_ARRIVAL;
+    if (ram->len == 0) arrival.most_pages = 16384;
+    if (count_images == 0) arrival.most_sectors = 16 * 2097152;
     arrival.images = images, arrival.count_images = count_images, arrival.ram = *ram;
-    uint32_t status = vmig_arrive(&arrival, m);
+    vmig_status status = vmig_arrive(&arrival, m);
     *ram = arrival.ram;
     return status;
 }
 
-static inline uint32_t arrive_mapped(vmig_image *images, size_t count_images, vmig_machine *m)
+static inline vmig_status arrive_mapped(vmig_image *images, size_t count_images, vmig_machine *m)
 {
     vmig_ram none = VMIG_NO_RAM;
     return arrive_over(&none, images, count_images, m);
+}
+
+static inline vmig_status arrive_any(vmig_machine *m)
+{
+    return arrive_mapped(NULL, 0, m);
+}
+
+static inline vmig_description description_of(const vmig_machine *m)
+{
+    vmig_description found;
+    vmig_describe(m, &found);
+    return found;
+}
+
+/* The machine of a whole stream, and how many rounds ended in it. Where it is refused there is none. */
+static inline vmig_status receive(const uint8_t *bytes, size_t len, vmig_machine *m, uint32_t *rounds)
+{
+    uint32_t ended;
+    vmig_status status = arrive_any(m);
+    if (status != VMIG_OK) return status;
+    status = vmig_feed(m, bytes, len);
+    ended = description_of(m).rounds;
+    if (!vmig_refused(status)) status = vmig_finish(m);
+    if (status == VMIG_OK) *rounds = ended;
+    else vmig_free(m);
+    return status;
+}
+
+/* RAM is given back with the pages of a list, or of a bitmap, or with all; and the pages of a list are handed in. */
+static inline vmig_status give_back_list(vmig_machine *m, vmig_ram *ram, const uint32_t *list, size_t count)
+{
+    vmig_pages written = VMIG_NO_PAGES;
+    written.list = list, written.count = count;
+    return vmig_give_back(m, ram, &written);
+}
+
+static inline vmig_status give_back_marked(vmig_machine *m, vmig_ram *ram, const uint64_t *words, size_t count)
+{
+    vmig_pages written = VMIG_NO_PAGES;
+    written.words = words, written.count_words = count;
+    return vmig_give_back(m, ram, &written);
+}
+
+static inline vmig_status give_back_all(vmig_machine *m, vmig_ram *ram)
+{
+    static const vmig_pages all = VMIG_ALL_PAGES;
+    return vmig_give_back(m, ram, &all);
+}
+
+static inline vmig_status push_list(vmig_machine *m, const uint32_t *list, size_t count, const uint8_t *ram, size_t len, uint64_t *seen, size_t count_seen)
+{
+    vmig_pages written = VMIG_NO_PAGES;
+    written.list = list, written.count = count;
+    return vmig_push(m, &written, ram, len, seen, count_seen);
 }
 
 static inline uint32_t read_reg_of(vmig_machine *m, uint8_t dev, uint32_t off)
@@ -73,8 +136,9 @@ static inline uint32_t read_reg_of(vmig_machine *m, uint8_t dev, uint32_t off)
 
 static inline void write_reg_of(vmig_machine *m, uint8_t dev, uint32_t off, uint32_t value)
 {
-    uint32_t out = 0;
-    expect("status of a register write", vmig_reg_write(m, dev, off, 4, value, &out), VMIG_OK);
+    uint32_t byte = 77;
+    expect("status of a register write", vmig_reg_write(m, dev, off, 4, value, &byte), VMIG_OK);
+    expect("no byte for a terminal", byte, VMIG_NO_BYTE);
 }
 
 /* The same of device 0. */
@@ -170,6 +234,13 @@ static inline void set_up(vmig_machine *m, uint32_t queues)
     set_up_with(m, queues, 0);
 }
 
+/* Whether a step has something to do, which *dev and *pick name then. A disk in memory of the library needs no sync before it. */
+static inline int has_work(const vmig_machine *m, uint8_t *dev, uint8_t *pick)
+{
+    vmig_status status = vmig_next(m, dev, pick);
+    return status == VMIG_WORK || status == VMIG_SYNC;
+}
+
 /* Makes each step that has something to do, until none has. Returns the number of steps. */
 static inline uint32_t serve(vmig_machine *m)
 {
@@ -177,9 +248,9 @@ static inline uint32_t serve(vmig_machine *m)
     uint8_t dev = 0, pick = 0;
     uint32_t len, steps = 0;
 
-    while (vmig_next_work(m, &dev, &pick) == VMIG_WORK) {
-        uint32_t status = vmig_step(m, dev, pick, buf, sizeof buf, &len);
-        if (status < 64) {
+    while (has_work(m, &dev, &pick)) {
+        vmig_status status = vmig_step(m, dev, pick, buf, sizeof buf, &len);
+        if (vmig_refused(status)) {
             expect("a step of its work", status, VMIG_COMPLETED);
             break;
         }

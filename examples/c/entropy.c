@@ -9,16 +9,19 @@ int main(void)
     static const uint8_t used[12] = {0, 0, 1, 0, 0, 0, 0, 0, 16, 0, 0, 0};
     vmig_machine m = VMIG_NONE;
     uint32_t number = 77;
+    size_t kept = 77, room = 77;
     uint8_t buf[16];
 
-    expect("make", vmig_make(16, shapes, 1, &m), VMIG_OK);
+    expect("make", make_new(16, shapes, 1, &m), VMIG_OK);
     set_up(&m, 1);
     describe(&m, 0, 0, DATA, 16, WRITABLE, 0);
     offer(&m, 0, 1, 0);
     expect("nothing put in", vmig_step(&m, 0, 0, buf, 0, &number), VMIG_IDLE);
     expect("its number", number, 77);
-    expect("input", vmig_input(&m, 0, entropy, sizeof entropy, &number), VMIG_OK);
-    expect("all kept", number, sizeof entropy);
+    expect("input", vmig_input(&m, 0, entropy, sizeof entropy, &kept), VMIG_OK);
+    expect("all kept", kept, sizeof entropy);
+    expect("room", vmig_room(&m, 0, &room), VMIG_OK);
+    expect("for the rest of the pool", room, 4096 - sizeof entropy);
     expect("step", vmig_step(&m, 0, 0, buf, 0, &number), VMIG_COMPLETED);
     expect("used length", number, 16);
     expect("line", vmig_lines(&m), 1);

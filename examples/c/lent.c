@@ -109,7 +109,7 @@ static void act(struct host *h)
 
 /* RAM is given back with the log: a list, from the last page on, which it names twice; a bitmap, with bits past the last page; or
  * all pages. */
-static uint32_t give_back_log(struct host *h)
+static vmig_status give_back_log(struct host *h)
 {
     uint64_t words[] = {~(uint64_t)0 << PAGES, ~(uint64_t)0};
     uint32_t pages[PAGES + 1];
@@ -120,9 +120,9 @@ static uint32_t give_back_log(struct host *h)
         if (h->dirty[page]) pages[count++] = page;
     }
     if (count > 0) pages[count++] = pages[0];
-    if (!h->leaves_out && draw(8) == 0) return vmig_give_back_all(&h->machine, &h->ram);
-    if (draw(2) == 0) return vmig_give_back_marked(&h->machine, &h->ram, words, 1 + draw(2));
-    return vmig_give_back(&h->machine, &h->ram, pages, count);
+    if (!h->leaves_out && draw(8) == 0) return give_back_all(&h->machine, &h->ram);
+    if (draw(2) == 0) return give_back_marked(&h->machine, &h->ram, words, 1 + draw(2));
+    return give_back_list(&h->machine, &h->ram, pages, count);
 }
 
 /* The twin is handed what the guest wrote, and RAM is given back, with the log or before it is read. */
@@ -133,14 +133,14 @@ static void give_back(struct host *h, int reads_log)
             expect("handed", vmig_ram_write(&h->twin, page * PAGE, rooms[h->room] + page * PAGE, PAGE), VMIG_OK);
     memset(h->written, 0, sizeof h->written);
     if (h->leaves_out) h->dirty[LATE] = 0;
-    expect("give back", reads_log ? give_back_log(h) : vmig_give_back(&h->machine, &h->ram, NULL, 0), VMIG_OK);
+    expect("give back", reads_log ? give_back_log(h) : give_back_list(&h->machine, &h->ram, NULL, 0), VMIG_OK);
     if (reads_log) memset(h->dirty, 0, sizeof h->dirty);
     expect("no RAM is out", h->ram.at == NULL && h->ram.len == 0, 1);
 }
 
 static void lend(struct host *h)
 {
-    uint16_t lines = vmig_lines(&h->machine);
+    uint32_t lines = vmig_lines(&h->machine);
 
     expect("lend", vmig_lend(&h->machine, &h->ram), VMIG_OK);
     expect("RAM", h->ram.at == rooms[h->room] && h->ram.len == RAM, 1);
@@ -161,10 +161,10 @@ static void move_ram(struct host *h)
 /* A driver writes a register, and reads one, of both. */
 static void write_both(struct host *h, uint8_t dev, uint32_t off, uint32_t value)
 {
-    uint32_t out = 77, read = 77, twin_read = 77, other = 4 * draw(80);
+    uint32_t byte = 77, read = 77, twin_read = 77, other = 4 * draw(80);
 
-    expect("register write", vmig_reg_write(&h->machine, dev, off, 4, value, &out), VMIG_OK);
-    expect("register write", vmig_reg_write(&h->twin, dev, off, 4, value, &out), VMIG_OK);
+    expect("register write", vmig_reg_write(&h->machine, dev, off, 4, value, &byte), VMIG_OK);
+    expect("register write", vmig_reg_write(&h->twin, dev, off, 4, value, &byte), VMIG_OK);
     expect("register read", vmig_reg_read(&h->machine, dev, other, 4, &read), VMIG_OK);
     expect("register read", vmig_reg_read(&h->twin, dev, other, 4, &twin_read), VMIG_OK);
     expect("the same value", twin_read, read);
@@ -173,7 +173,8 @@ static void write_both(struct host *h, uint8_t dev, uint32_t off, uint32_t value
 static void input_both(struct host *h, uint8_t dev)
 {
     uint8_t bytes[100];
-    uint32_t len = draw(sizeof bytes), kept = 77, twin_kept = 77;
+    uint32_t len = draw(sizeof bytes);
+    size_t kept = 77, twin_kept = 77;
 
     for (uint32_t i = 0; i < len; i++) bytes[i] = (uint8_t)draw(256);
     expect("input", vmig_input(&h->machine, dev, bytes, len, &kept), VMIG_OK);
@@ -186,19 +187,20 @@ static void serve_both(struct host *h)
 {
     static uint8_t sent[VMIG_SENT_MAX], twin_sent[VMIG_SENT_MAX];
     uint8_t dev = 0, pick = 0, twin_dev = 0, twin_pick = 0;
-    uint32_t len = 77, twin_len = 77, status;
+    uint32_t len = 77, twin_len = 77;
+    vmig_status status;
 
-    while ((status = vmig_next_work(&h->machine, &dev, &pick)) == VMIG_WORK) {
-        expect("work", vmig_next_work(&h->twin, &twin_dev, &twin_pick), VMIG_WORK);
+    while ((status = vmig_next(&h->machine, &dev, &pick)) == VMIG_WORK || status == VMIG_SYNC) {
+        expect("work", vmig_next(&h->twin, &twin_dev, &twin_pick), status);
         expect("the same step", twin_dev == dev && twin_pick == pick, 1);
         status = vmig_step(&h->machine, dev, pick, sent, sizeof sent, &len);
         expect("answers alike", vmig_step(&h->twin, dev, pick, twin_sent, sizeof twin_sent, &twin_len), status);
         expect("a length", twin_len, len);
         if (status == VMIG_SENT) expect("a message", (uint64_t)memcmp(sent, twin_sent, len), 0);
         expect("lines", vmig_lines(&h->twin), vmig_lines(&h->machine));
-        if (status < 64 || failures != 0) break;
+        if (vmig_refused(status) || failures != 0) break;
     }
-    expect("no work is left", vmig_next_work(&h->twin, &twin_dev, &twin_pick), status);
+    expect("no work is left", vmig_next(&h->twin, &twin_dev, &twin_pick), status);
 }
 
 /* Takes some of what waits, and feeds it to the machine that arrives. Returns whether there was any. */
@@ -207,8 +209,8 @@ static int hand_over(struct host *h, vmig_machine *target)
     uint8_t piece[9000];
     size_t got = 0;
 
-    expect("take", vmig_take(&h->machine, piece, 1 + draw(sizeof piece), &got), VMIG_OK);
-    expect("feed", vmig_feed(target, piece, got), VMIG_OK);
+    expect("take", vmig_send_take(&h->machine, piece, 1 + draw(sizeof piece), &got), VMIG_OK);
+    expect("feed", (uint64_t)vmig_refused(vmig_feed(target, piece, got)), 0);
     return got > 0;
 }
 
@@ -240,13 +242,12 @@ static void read_log(struct host *h)
 /* Sends what is due in this round, some items at a time, while the guest runs. Some of what waits is handed over. */
 static void send_round(struct host *h, vmig_machine *target)
 {
-    uint32_t number = 77, status;
-    uint8_t dev = 77;
+    vmig_status status;
 
     do {
         turn(h, target, 0);
-        for (uint32_t most = draw(40); (status = vmig_copy(&h->machine, &dev, &number)) != VMIG_ROUND_DONE && most > 0; most--) {
-            expect("copied", status == VMIG_PAGE || status == VMIG_SECTOR, 1);
+        for (uint32_t times = draw(8); (status = vmig_send_some(&h->machine, draw(12))) != VMIG_ROUND_DONE && times > 0; times--) {
+            expect("copied", status, VMIG_OK);
             if (draw(3) == 0) hand_over(h, target);
         }
     } while (status != VMIG_ROUND_DONE);
@@ -280,7 +281,7 @@ static void go_on_with(struct host *h, vmig_machine target, int room)
 {
     vmig_image image = VMIG_NO_IMAGE;
 
-    expect("unmap", vmig_unmap(&h->machine, &image, 1), VMIG_OK);
+    expect("release", vmig_release(&h->machine, &image, 1), VMIG_OK);
     expect("its image", image.at == disks[h->disk] && image.sectors == SECTORS, 1);
     expect("RAM as it was", differing(h, rooms[h->room]), 0);
     memset(rooms[h->room], 0x11, RAM);
@@ -298,26 +299,25 @@ static int move(struct host *h)
     vmig_ram ram = {rooms[room], RAM};
     vmig_image image = {disks[1 - h->disk], SECTORS};
     uint64_t pages = 77, sectors = 77;
-    uint32_t round = 77;
 
     expect("arrive", arrive_over(&ram, &image, 1, &target), VMIG_OK);
     expect("all is taken", ram.at == NULL && ram.len == 0 && image.sectors == 0, 1);
-    expect("begin", vmig_begin(&h->machine), VMIG_OK);
+    expect("begin", vmig_send_begin(&h->machine), VMIG_OK);
     send_round(h, &target);
     turn(h, &target, 1);
     for (uint32_t rounds = draw(4); rounds > 0; rounds--) {
         read_log(h);
-        expect("end of the round", vmig_end_round(&h->machine, &round), VMIG_OK);
+        expect("end of the round", vmig_send_round(&h->machine), VMIG_OK);
         send_round(h, &target);
     }
     if (!h->leaves_out && draw(8) == 0) {
-        expect("abort", vmig_abort(&h->machine), VMIG_OK);
+        expect("abort", vmig_send_abort(&h->machine), VMIG_OK);
         vmig_free(&target);
         return 0;
     }
     turn(h, &target, 0);
     read_log(h);
-    expect("stop", vmig_stop(&h->machine, &pages, &sectors), VMIG_OK);
+    expect("stop", vmig_send_stop(&h->machine, &pages, &sectors), VMIG_OK);
     while (hand_over(h, &target)) continue;
     expect("finish", vmig_finish(&target), VMIG_OK);
     go_on_with(h, target, room);

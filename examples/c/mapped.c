@@ -24,30 +24,35 @@ static int bring(uint8_t *at)
     return msync(at, LENGTH, MS_SYNC);
 }
 
-/* A step of the first request. The file has what the driver takes for durable once the step is made. */
-static uint32_t make_step(vmig_machine *m, uint8_t *at)
+/* What is said of the next step of the first request: VMIG_WORK, or VMIG_SYNC, or VMIG_IDLE where it is not named. */
+static vmig_status said_of_request(const vmig_machine *m)
+{
+    uint8_t dev = 0, pick = 0;
+    vmig_status status = vmig_next(m, &dev, &pick);
+
+    return dev == 0 && pick == 1 ? status : VMIG_IDLE;
+}
+
+/* A step of the first request. The file has what the driver takes for durable once the step is made; else the disk is lost. */
+static vmig_status make_step(vmig_machine *m, uint8_t *at)
 {
     uint32_t len = 77;
     uint8_t none[1];
 
-    if (vmig_must_sync(m, 0, 1) == VMIG_SYNC && bring(at) != 0) {
-        uint32_t status = vmig_sync_failed(m, 0, 1);
-        return status == VMIG_SYNC_FAILED ? VMIG_DISK_LOST : status;
-    }
+    if (said_of_request(m) == VMIG_SYNC && bring(at) != 0) expect("it is lost", vmig_sync_failed(m, 0), VMIG_OK);
     return vmig_step(m, 0, 1, none, 0, &len);
 }
 
 /* The steps of one request, whose first unit is made with this status. */
-static void do_request(vmig_machine *m, uint8_t *at, uint32_t wanted)
+static void do_request(vmig_machine *m, uint8_t *at, vmig_status wanted)
 {
     uint32_t len = 77;
     uint8_t none[1];
 
-    expect("nothing is owed to take it", vmig_must_sync(m, 0, 0), VMIG_OK);
     expect("taken", vmig_step(m, 0, 0, none, 0, &len), VMIG_TAKEN);
     expect("its unit", make_step(m, at), wanted);
     expect("completed", make_step(m, at), VMIG_COMPLETED);
-    expect("no request is left", vmig_must_sync(m, 0, 1), VMIG_OK);
+    expect("no request is left", said_of_request(m), VMIG_IDLE);
 }
 
 /* The driver asks for a write of one sector, as its `count`-th request. */
@@ -83,7 +88,7 @@ static void ask_flush(vmig_machine *m, uint32_t count)
 }
 
 /* A flush, whose unit is made with this status. Returns the status that the device wrote. */
-static uint64_t flush(vmig_machine *m, uint32_t count, uint8_t *at, uint32_t wanted)
+static uint64_t flush(vmig_machine *m, uint32_t count, uint8_t *at, vmig_status wanted)
 {
     ask_flush(m, count);
     do_request(m, at, wanted);
@@ -104,8 +109,7 @@ static void is_durable(vmig_machine *m, const uint8_t *bytes, uint8_t *at)
     expect("it may wait", (uint64_t)brought, 1);
     expect("flush", flush(m, 2, at, VMIG_MOVED), 0);
     expect("it was brought to the file", (uint64_t)brought, 2);
-    expect("no such device", vmig_must_sync(m, 2, 1), VMIG_NO_DEVICE);
-    expect("a device without a disk", vmig_must_sync(m, 1, 1), VMIG_OK);
+    expect("no disk is lost", description_of(m).lost, 0);
 }
 
 /* A flush that failed moves with its machine: it ends with an error there, and here where the machine stays. That the disk is lost does
@@ -119,47 +123,66 @@ static void moves_failed(vmig_machine *m, uint32_t count)
     size_t got = 0;
     uint8_t none[1];
 
-    expect("begin", vmig_begin(m), VMIG_OK);
+    expect("begin", vmig_send_begin(m), VMIG_OK);
     ask_flush(m, count);
     expect("taken", vmig_step(m, 0, 0, none, 0, &len), VMIG_TAKEN);
-    expect("it fails", vmig_sync_failed(m, 0, 1), VMIG_DISK_FAILED);
-    expect("it fails once", vmig_sync_failed(m, 0, 1), VMIG_SYNC_FAILED);
-    expect("stop", vmig_stop(m, &pages, &sectors), VMIG_OK);
-    expect("take", vmig_take(m, stream, sizeof stream, &got), VMIG_OK);
-    expect("receive", vmig_receive(stream, got, &other, &rounds), VMIG_OK);
+    expect("no sync is asked for", said_of_request(m), VMIG_WORK);
+    expect("it fails", vmig_step(m, 0, 1, none, 0, &len), VMIG_DISK_FAILED);
+    expect("stop", vmig_send_stop(m, &pages, &sectors), VMIG_OK);
+    expect("take", vmig_send_take(m, stream, sizeof stream, &got), VMIG_OK);
+    expect("receive", receive(stream, got, &other, &rounds), VMIG_OK);
     expect("completed", vmig_step(&other, 0, 1, none, 0, &len), VMIG_COMPLETED);
     expect("with an error", get(&other, OUTCOME, 1), 1);
     ask_flush(&other, count + 1);
     expect("taken", vmig_step(&other, 0, 0, none, 0, &len), VMIG_TAKEN);
-    expect("that disk is not lost", vmig_must_sync(&other, 0, 1), VMIG_SYNC);
+    expect("that disk is not lost", description_of(&other).lost, 0);
+    expect("so a sync is asked for", said_of_request(&other), VMIG_SYNC);
     vmig_free(&other);
-    expect("abort", vmig_abort(m), VMIG_OK);
+    expect("abort", vmig_send_abort(m), VMIG_OK);
     expect("completed", vmig_step(m, 0, 1, none, 0, &len), VMIG_COMPLETED);
     expect("with an error", get(m, OUTCOME, 1), 1);
 }
 
 /* The driver has no feature FLUSH, and a write that is done does not end, however often it is tried. */
-static void does_not_end(vmig_machine *m, uint8_t *at)
+static void does_not_end(vmig_machine *m)
 {
     uint32_t len = 77;
     uint8_t none[1];
 
     for (int i = 0; i < 3; i++) {
-        expect("it is not asked for", vmig_must_sync(m, 0, 1), VMIG_DISK_LOST);
-        expect("its end", make_step(m, at), VMIG_DISK_LOST);
-        expect("its end", vmig_step(m, 0, 1, none, 0, &len), VMIG_DISK_LOST);
+        expect("its end is not named", said_of_request(m), VMIG_IDLE);
+        expect("nor made", vmig_step(m, 0, 1, none, 0, &len), VMIG_IDLE);
         expect("the driver knows of no end", get(m, OUTCOME, 1), 0xff);
         expect("nor is there a length", len, 77);
     }
 }
 
+/* The guest's driver has no feature FLUSH, and writes a sector: its write does not end. */
+static void writes_in_vain(vmig_machine *m, const uint8_t *bytes, uint8_t *at)
+{
+    uint32_t len = 77;
+    uint8_t none[1];
+
+    set_up(m, 1);
+    put(m, AVAIL + 2, 0, 2);
+    ask_write(m, 1, 2, bytes);
+    expect("taken", vmig_step(m, 0, 0, none, 0, &len), VMIG_TAKEN);
+    expect("written", make_step(m, at), VMIG_MOVED);
+    does_not_end(m);
+}
+
+/* Its driver has it. */
+static void flushes_in_vain(vmig_machine *m, uint8_t *at)
+{
+    set_up_with(m, 1, FLUSH_FEATURE);
+    put(m, AVAIL + 2, 0, 2);
+    expect("a flush", flush(m, 1, at, VMIG_DISK_FAILED), 1);
+}
+
 /* The file cannot be written once. It is never brought there again, and each later flush ends with an error: while the machine is
- * sent, after that, and after a reset. */
+ * sent, after that, and after a reset by the driver, or of the whole guest. */
 static void fails(vmig_machine *m, const uint8_t *bytes, uint8_t *at)
 {
-    uint8_t dev = 0, none[1];
-    uint32_t number = 0, len = 77;
-
     brought = 0;
     failing = 1;
     expect("a flush that fails", flush(m, 3, at, VMIG_DISK_FAILED), 1);
@@ -167,24 +190,23 @@ static void fails(vmig_machine *m, const uint8_t *bytes, uint8_t *at)
     expect("the driver repeats it", flush(m, 4, at, VMIG_DISK_FAILED), 1);
     expect("write", write_sector(m, 5, 2, bytes, at), 0);
     expect("and after a write", flush(m, 6, at, VMIG_DISK_FAILED), 1);
-    expect("begin", vmig_begin(m), VMIG_OK);
-    expect("copy", vmig_copy(m, &dev, &number), VMIG_PAGE);
+    expect("begin", vmig_send_begin(m), VMIG_OK);
+    expect("copy", vmig_send_some(m, 1), VMIG_OK);
     expect("while it is sent", flush(m, 7, at, VMIG_DISK_FAILED), 1);
-    expect("abort", vmig_abort(m), VMIG_OK);
+    expect("abort", vmig_send_abort(m), VMIG_OK);
     expect("and after that", flush(m, 8, at, VMIG_DISK_FAILED), 1);
     moves_failed(m, 9);
-    set_up_with(m, 1, FLUSH_FEATURE);
-    put(m, AVAIL + 2, 0, 2);
-    expect("and after a reset", flush(m, 1, at, VMIG_DISK_FAILED), 1);
-    set_up(m, 1);
-    put(m, AVAIL + 2, 0, 2);
-    ask_write(m, 1, 2, bytes);
-    expect("taken", vmig_step(m, 0, 0, none, 0, &len), VMIG_TAKEN);
-    expect("written", make_step(m, at), VMIG_MOVED);
-    does_not_end(m, at);
+    flushes_in_vain(m, at);
+    writes_in_vain(m, bytes, at);
+    expect("the guest reboots", vmig_reset(m), VMIG_OK);
+    flushes_in_vain(m, at);
+    expect("the guest reboots", vmig_reset(m), VMIG_OK);
+    writes_in_vain(m, bytes, at);
+    expect("told again", vmig_sync_failed(m, 0), VMIG_OK);
+    expect("it is lost", description_of(m).lost, 1);
     expect("nothing was brought", (uint64_t)brought, 0);
-    expect("no such device", vmig_sync_failed(m, 2, 1), VMIG_NO_DEVICE);
-    expect("a device without a disk", vmig_sync_failed(m, 1, 1), VMIG_WRONG_KIND);
+    expect("no such device", vmig_sync_failed(m, 2), VMIG_NO_DEVICE);
+    expect("a device without a disk", vmig_sync_failed(m, 1), VMIG_WRONG_KIND);
 }
 
 /* A sync of the host's own failed, without a step: the disk is lost all the same. */
@@ -196,9 +218,9 @@ static void fails_between(const vmig_shape *shapes, uint8_t *at)
     expect("make", make_mapped(16, shapes, 2, &image, 1, &m), VMIG_OK);
     set_up_with(&m, 1, FLUSH_FEATURE);
     failing = 0;
-    expect("no step", vmig_sync_failed(&m, 0, 0), VMIG_SYNC_FAILED);
+    expect("without a step", vmig_sync_failed(&m, 0), VMIG_OK);
     expect("flush", flush(&m, 1, at, VMIG_DISK_FAILED), 1);
-    expect("unmap", vmig_unmap(&m, &back, 1), VMIG_OK);
+    expect("release", vmig_release(&m, &back, 1), VMIG_OK);
 }
 
 static uint8_t buf[VMIG_SENT_MAX];
@@ -206,24 +228,20 @@ static uint8_t buf[VMIG_SENT_MAX];
 /* The step that had something to do last. It stays from turn to turn. */
 static uint8_t work_dev, work_pick;
 
-/* The work of a turn. A step that is not made does not end it. Returns the number of messages that were handed on. */
+/* The work of a turn, until none is left. Returns the number of messages that were handed on. */
 static uint32_t do_work(vmig_machine *m, uint8_t *at)
 {
-    uint32_t len = 0, status, messages = 0;
-    int left = -1;
+    vmig_status status = VMIG_WORK;
+    uint32_t len = 0, messages = 0;
 
-    for (int i = 0; i < 1000 && vmig_next_work(m, &work_dev, &work_pick) == VMIG_WORK; i++) {
-        if (left == work_dev * 256 + work_pick) break;
-        if (work_dev == 0 && work_pick == 1) status = make_step(m, at);
+    for (int left = 1000; left > 0 && !vmig_refused(status); left--) {
+        status = vmig_next(m, &work_dev, &work_pick);
+        if (status == VMIG_IDLE) return messages;
+        if (status == VMIG_SYNC && bring(at) != 0) status = vmig_sync_failed(m, work_dev);
         else status = vmig_step(m, work_dev, work_pick, buf, sizeof buf, &len);
-        if (status == VMIG_DISK_LOST) {
-            if (left < 0) left = work_dev * 256 + work_pick;
-            continue;
-        }
-        if (status < 64) break;
-        left = -1;
         if (status == VMIG_SENT) messages++;
     }
+    expect("no work is left", status, VMIG_IDLE);
     return messages;
 }
 
@@ -248,8 +266,8 @@ static void console_goes_on(const uint8_t *bytes, uint8_t *at)
         expect("its message", do_work(&m, at), 1);
         expect("the write does not end", get(&m, OUTCOME, 1), 0xff);
     }
-    does_not_end(&m, at);
-    expect("unmap", vmig_unmap(&m, &back, 1), VMIG_OK);
+    does_not_end(&m);
+    expect("release", vmig_release(&m, &back, 1), VMIG_OK);
 }
 
 static void refuses(const vmig_shape *shapes, uint8_t *at)
@@ -260,7 +278,7 @@ static void refuses(const vmig_shape *shapes, uint8_t *at)
     expect("a sector too few", make_mapped(16, shapes, 2, &few, 1, &m), VMIG_BAD_IMAGES);
     expect("no image", make_mapped(16, shapes, 2, &none, 1, &m), VMIG_BAD_IMAGES);
     expect("a slot too many", make_mapped(16, shapes, 2, (vmig_image[]){right, VMIG_NO_IMAGE}, 2, &m), VMIG_BAD_IMAGES);
-    expect("no pages", make_mapped(0, shapes, 2, &right, 1, &m), VMIG_BAD_SHAPE);
+    expect("no pages", make_mapped(0, shapes, 2, &right, 1, &m), VMIG_BAD_RAM);
     expect("nothing taken", right.sectors, SECTORS);
     expect("and where it was", right.at == at, 1);
 }
@@ -270,13 +288,13 @@ static void gives_back(vmig_machine *m, uint8_t *at)
 {
     vmig_image slots[] = {VMIG_NO_IMAGE, VMIG_NO_IMAGE}, full = {at, SECTORS};
 
-    expect("a slot that is not free", vmig_unmap(m, &full, 1), VMIG_BAD_IMAGES);
-    expect("no slot", vmig_unmap(m, slots, 0), VMIG_TOO_SMALL);
-    expect("unmap", vmig_unmap(m, slots, 2), VMIG_OK);
+    expect("a slot that is not free", vmig_release(m, &full, 1), VMIG_BAD_IMAGES);
+    expect("no slot", vmig_release(m, slots, 0), VMIG_TOO_SMALL);
+    expect("release", vmig_release(m, slots, 2), VMIG_OK);
     expect("its sectors", slots[0].sectors, SECTORS);
     expect("where they were", slots[0].at == at, 1);
     expect("and no more", slots[1].sectors, 0);
-    expect("no machine", vmig_unmap(m, slots, 2), VMIG_NO_MACHINE);
+    expect("no machine", vmig_release(m, slots, 2), VMIG_NO_MACHINE);
 }
 
 /* A machine over the mapped file, whose guest writes a sector. */
@@ -289,11 +307,11 @@ static void runs(const vmig_shape *shapes, uint8_t *at, const uint8_t *written)
     expect("make", make_mapped(16, shapes, 2, &image, 1, &m), VMIG_OK);
     expect("taken", image.sectors, 0);
     expect("made already", make_mapped(16, shapes, 2, &image, 1, &m), VMIG_IN_USE);
-    expect("sector", vmig_sector_read(&m, 0, 1, got, sizeof got), VMIG_OK);
+    expect("sector", vmig_sector_read(&m, 0, 1, got), VMIG_OK);
     expect("of the file", got[0], 41);
     is_durable(&m, written, at);
     fails(&m, written, at);
-    expect("sector", vmig_sector_read(&m, 0, 2, got, sizeof got), VMIG_OK);
+    expect("sector", vmig_sector_read(&m, 0, 2, got), VMIG_OK);
     expect("as it was written", (uint64_t)memcmp(got, written, SECTOR), 0);
     gives_back(&m, at);
 }
@@ -310,24 +328,23 @@ static void gives_two_back(uint8_t *at)
     vmig_machine m = VMIG_NONE, own = VMIG_NONE;
     vmig_image images[] = {{at, 1}, {at + SECTOR, 2}, VMIG_NO_IMAGE};
     vmig_image turned[] = {{at + SECTOR, 2}, {at, 1}};
-    uint8_t dev = 0;
-    uint32_t number = 0;
 
     expect("another order", make_mapped(1, shapes, 3, turned, 2, &m), VMIG_BAD_IMAGES);
     expect("make", make_mapped(1, shapes, 3, images, 2, &m), VMIG_OK);
-    expect("begin", vmig_begin(&m), VMIG_OK);
-    expect("copy", vmig_copy(&m, &dev, &number), VMIG_PAGE);
-    expect("too few slots", vmig_unmap(&m, images, 1), VMIG_TOO_SMALL);
-    expect("unmap", vmig_unmap(&m, images, 3), VMIG_OK);
+    expect("begin", vmig_send_begin(&m), VMIG_OK);
+    expect("copy", vmig_send_some(&m, 1), VMIG_OK);
+    expect("slots that are needed", description_of(&m).images, 2);
+    expect("too few slots", vmig_release(&m, images, 1), VMIG_TOO_SMALL);
+    expect("release", vmig_release(&m, images, 3), VMIG_OK);
     expect("the first", images[0].at == at && images[0].sectors == 1, 1);
     expect("the second", images[1].at == at + SECTOR && images[1].sectors == 2, 1);
     expect("no third", images[2].sectors, 0);
 
-    expect("make its own", vmig_make(1, shapes, 3, &own), VMIG_OK);
-    expect("no image in it", vmig_unmap(&own, &images[2], 1), VMIG_NOT_MAPPED);
-    expect("still there", vmig_lines(&own), 0);
-    expect("still there", vmig_begin(&own), VMIG_OK);
-    vmig_free(&own);
+    expect("make its own", make_new(1, shapes, 3, &own), VMIG_OK);
+    expect("no slot is needed", description_of(&own).images, 0);
+    expect("and none is filled", vmig_release(&own, &images[2], 1), VMIG_OK);
+    expect("no image", images[2].at == NULL && images[2].sectors == 0, 1);
+    expect("it is gone", own.at == NULL, 1);
 }
 
 int main(void)

@@ -45,7 +45,7 @@ static void hand_in(struct host *h)
         if (h->dirty[page]) pages[count++] = page;
         h->dirty[page] = 0;
     }
-    expect("push", vmig_push(&h->machine, pages, count, h->ram, sizeof h->ram, h->seen, PAGES), VMIG_OK);
+    expect("push", push_list(&h->machine, pages, count, h->ram, sizeof h->ram, h->seen, PAGES), VMIG_OK);
 }
 
 /* What the devices wrote comes out. Returns the number of pages. */
@@ -93,12 +93,12 @@ static void prepare(struct host *h, uint32_t count, uint32_t type, uint64_t sect
 /* One request, from the guest's pages and its kick to its interrupt and what it finds in its RAM. */
 static void request(struct host *h, uint32_t count, uint32_t type, uint64_t sector)
 {
-    uint32_t len = 77, out = 77;
+    uint32_t len = 77, byte = 77;
     uint8_t none[1];
 
     prepare(h, count, type, sector);
     hand_in(h);
-    expect("kick", vmig_reg_write(&h->machine, 0, 0x050, 4, 0, &out), VMIG_OK);
+    expect("kick", vmig_reg_write(&h->machine, 0, 0x050, 4, 0, &byte), VMIG_OK);
     expect("taken", vmig_step(&h->machine, 0, 0, none, 0, &len), VMIG_TAKEN);
     expect("moved", vmig_step(&h->machine, 0, 1, none, 0, &len), VMIG_MOVED);
     expect("completed", vmig_step(&h->machine, 0, 1, none, 0, &len), VMIG_COMPLETED);
@@ -108,7 +108,7 @@ static void request(struct host *h, uint32_t count, uint32_t type, uint64_t sect
     expect("pages that the device wrote", hand_out(h), type == READ ? 3 : 2);
     expect("used ring", load(h, USED + 2, 2), count);
     expect("outcome", load(h, OUTCOME, 1), 0);
-    expect("acknowledge", vmig_reg_write(&h->machine, 0, 0x064, 4, 1, &out), VMIG_OK);
+    expect("acknowledge", vmig_reg_write(&h->machine, 0, 0x064, 4, 1, &byte), VMIG_OK);
     mirrors(h);
 }
 
@@ -139,7 +139,7 @@ static void take_all(vmig_machine *m)
     size_t got = 0;
 
     do {
-        expect("take", vmig_take(m, piece, sizeof piece, &got), VMIG_OK);
+        expect("take", vmig_send_take(m, piece, sizeof piece, &got), VMIG_OK);
         stream = realloc(stream, stream_len + got + 1);
         if (stream == NULL) exit(2);
         memcpy(stream + stream_len, piece, got);
@@ -150,11 +150,7 @@ static void take_all(vmig_machine *m)
 /* Sends what is due in this round. */
 static void send_round(vmig_machine *m)
 {
-    uint32_t number = 77, status;
-    uint8_t dev = 77;
-
-    while ((status = vmig_copy(m, &dev, &number)) != VMIG_ROUND_DONE)
-        expect("copied", status == VMIG_PAGE || status == VMIG_SECTOR, 1);
+    expect("all that is due", vmig_send_some(m, UINT32_MAX), VMIG_ROUND_DONE);
     take_all(m);
 }
 
@@ -166,10 +162,10 @@ static void refuses(struct host *h)
     uint32_t count = 77;
     vmig_machine none = VMIG_NONE;
 
-    expect("no machine", vmig_push(&none, beyond, 1, h->ram, sizeof h->ram, h->seen, PAGES), VMIG_NO_MACHINE);
-    expect("short RAM", vmig_push(&h->machine, beyond, 1, h->ram, sizeof h->ram - 1, h->seen, PAGES), VMIG_TOO_SMALL);
-    expect("short list", vmig_push(&h->machine, beyond, 1, h->ram, sizeof h->ram, h->seen, PAGES - 1), VMIG_TOO_SMALL);
-    expect("no such page", vmig_push(&h->machine, beyond, 2, h->ram, sizeof h->ram, h->seen, PAGES), VMIG_OUT_OF_RAM);
+    expect("no machine", push_list(&none, beyond, 1, h->ram, sizeof h->ram, h->seen, PAGES), VMIG_NO_MACHINE);
+    expect("short RAM", push_list(&h->machine, beyond, 1, h->ram, sizeof h->ram - 1, h->seen, PAGES), VMIG_TOO_SMALL);
+    expect("short list", push_list(&h->machine, beyond, 1, h->ram, sizeof h->ram, h->seen, PAGES - 1), VMIG_TOO_SMALL);
+    expect("no such page", push_list(&h->machine, beyond, 2, h->ram, sizeof h->ram, h->seen, PAGES), VMIG_OUT_OF_RAM);
     expect("short RAM", vmig_pull(&h->machine, h->ram, sizeof h->ram - 1, h->seen, PAGES, &count), VMIG_TOO_SMALL);
     expect("short list", vmig_pull(&h->machine, h->ram, sizeof h->ram, h->seen, PAGES - 1, &count), VMIG_TOO_SMALL);
     expect("no machine", vmig_pull(&none, h->ram, sizeof h->ram, h->seen, PAGES, &count), VMIG_NO_MACHINE);
@@ -188,23 +184,23 @@ static void forget(struct host *h)
 static void move(struct host *source, struct host *target)
 {
     uint64_t pages = 77, sectors = 77;
-    uint32_t round = 77, rounds = 77;
+    uint32_t rounds = 77;
     static const uint32_t one[] = {0};
 
-    expect("begin", vmig_begin(&source->machine), VMIG_OK);
+    expect("begin", vmig_send_begin(&source->machine), VMIG_OK);
     send_round(&source->machine);
     write_and_read(source, 3, 2, 11);
-    expect("end of the round", vmig_end_round(&source->machine, &round), VMIG_OK);
+    expect("end of the round", vmig_send_round(&source->machine), VMIG_OK);
     send_round(&source->machine);
     write_and_read(source, 5, 3, 13);
-    expect("stop", vmig_stop(&source->machine, &pages, &sectors), VMIG_OK);
+    expect("stop", vmig_send_stop(&source->machine, &pages, &sectors), VMIG_OK);
     expect("pages that the guest and the disk wrote", pages, 4);
     expect("the sector that was written", sectors, 1);
-    expect("stopped", vmig_push(&source->machine, one, 1, source->ram, sizeof source->ram, source->seen, PAGES), VMIG_STOPPED);
-    expect("stopped", vmig_push(&source->machine, one, 0, source->ram, sizeof source->ram, source->seen, PAGES), VMIG_STOPPED);
+    expect("stopped", push_list(&source->machine, one, 1, source->ram, sizeof source->ram, source->seen, PAGES), VMIG_STOPPED);
+    expect("stopped", push_list(&source->machine, one, 0, source->ram, sizeof source->ram, source->seen, PAGES), VMIG_STOPPED);
     expect("nothing new", hand_out(source), 0);
     take_all(&source->machine);
-    expect("receive", vmig_receive(stream, stream_len, &target->machine, &rounds), VMIG_OK);
+    expect("receive", receive(stream, stream_len, &target->machine, &rounds), VMIG_OK);
     expect("rounds", rounds, 1);
     forget(target);
     expect("all pages", hand_out(target), PAGES);
@@ -216,7 +212,7 @@ int main(void)
     static const vmig_shape shapes[] = {{.kind = VMIG_BLOCK, .sectors = SECTORS}};
     static struct host source, target;
 
-    expect("make", vmig_make(PAGES, shapes, 1, &source.machine), VMIG_OK);
+    expect("make", make_new(PAGES, shapes, 1, &source.machine), VMIG_OK);
     forget(&source);
     expect("all pages", hand_out(&source), PAGES);
     mirrors(&source);

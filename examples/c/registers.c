@@ -13,12 +13,12 @@ int main(void)
     expect("read of no machine", vmig_reg_read(&m, 0, 0, 4, &number), VMIG_NO_MACHINE);
     expect("its number", number, 77);
     expect("lines of no machine", vmig_lines(&m), 0);
-    expect("no pages", vmig_make(0, entropy, 1, &m), VMIG_BAD_SHAPE);
-    expect("no devices", vmig_make(1, entropy, 0, &m), VMIG_BAD_SHAPE);
-    expect("unknown kind", vmig_make(1, unknown, 1, &m), VMIG_BAD_SHAPE);
-    expect("disk of no sectors", vmig_make(1, empty_disk, 1, &m), VMIG_BAD_SHAPE);
-    expect("make", vmig_make(1, entropy, 1, &m), VMIG_OK);
-    expect("make again", vmig_make(1, entropy, 1, &m), VMIG_IN_USE);
+    expect("no pages", make_new(0, entropy, 1, &m), VMIG_BAD_RAM);
+    expect("no devices", make_new(1, entropy, 0, &m), VMIG_BAD_SHAPE);
+    expect("unknown kind", make_new(1, unknown, 1, &m), VMIG_BAD_SHAPE);
+    expect("disk of no sectors", make_new(1, empty_disk, 1, &m), VMIG_BAD_SHAPE);
+    expect("make", make_new(1, entropy, 1, &m), VMIG_OK);
+    expect("make again", make_new(1, entropy, 1, &m), VMIG_IN_USE);
 
     expect("magic value", read_reg(&m, 0x000), 0x74726976);
     expect("version", read_reg(&m, 0x004), 2);

@@ -26,14 +26,15 @@ static uint32_t run(const Case *c)
     uint8_t one = 1, first = 0;
     size_t len = 0;
 
-    expect("make", vmig_make(c->pages, &shape, 1, &m), VMIG_OK);
+    expect("make", make_new(c->pages, &shape, 1, &m), VMIG_OK);
     for (uint64_t page = 0; c->full && page < c->pages; page++) expect("write", vmig_ram_write(&m, page * PAGE, &one, 1), VMIG_OK);
-    expect("length", vmig_saved_len(&m, &len), VMIG_OK);
+    expect("length", vmig_save(&m, NULL, 0, &len), VMIG_MORE);
     uint8_t *stream = malloc(len);
     if (stream == NULL) exit(2);
     expect("save", vmig_save(&m, stream, len, &len), VMIG_OK);
     vmig_free(&m);
-    expect("feed", vmig_feed(&m, stream, len), VMIG_OK);
+    expect("arrive", arrive_any(&m), VMIG_OK);
+    expect("feed", vmig_feed(&m, stream, len), VMIG_WHOLE);
     expect("finish", vmig_finish(&m), VMIG_OK);
     expect("read", vmig_ram_read(&m, (uint64_t)(c->pages - 1) * PAGE, &first, 1), VMIG_OK);
     expect("the first byte of the last page", first, c->full);

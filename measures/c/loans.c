@@ -19,24 +19,24 @@ typedef struct {
 static void list(host *h)
 {
     expect("lend", vmig_lend(&h->over, &h->ram), VMIG_OK);
-    expect("a list", vmig_give_back(&h->over, &h->ram, h->pages, h->count), VMIG_OK);
+    expect("a list", give_back_list(&h->over, &h->ram, h->pages, h->count), VMIG_OK);
 }
 
 static void bitmap(host *h)
 {
     expect("lend", vmig_lend(&h->over, &h->ram), VMIG_OK);
-    expect("a bitmap", vmig_give_back_marked(&h->over, &h->ram, h->words, WORDS), VMIG_OK);
+    expect("a bitmap", give_back_marked(&h->over, &h->ram, h->words, WORDS), VMIG_OK);
 }
 
 static void all(host *h)
 {
     expect("lend", vmig_lend(&h->over, &h->ram), VMIG_OK);
-    expect("all pages", vmig_give_back_all(&h->over, &h->ram), VMIG_OK);
+    expect("all pages", give_back_all(&h->over, &h->ram), VMIG_OK);
 }
 
 static void hand_in(host *h)
 {
-    expect("push", vmig_push(&h->mirrored, h->pages, h->count, h->copy, (size_t)PAGES * PAGE, h->seen, PAGES), VMIG_OK);
+    expect("push", push_list(&h->mirrored, h->pages, h->count, h->copy, (size_t)PAGES * PAGE, h->seen, PAGES), VMIG_OK);
 }
 
 /* The devices wrote into the pages. */
@@ -64,7 +64,7 @@ static void make(host *h)
     h->copy = calloc(PAGES, PAGE);
     if (h->ram.at == NULL || h->copy == NULL) exit(2);
     expect("make over", make_over(&h->ram, shapes, 1, NULL, 0, &h->over), VMIG_OK);
-    expect("make", vmig_make(PAGES, shapes, 1, &h->mirrored), VMIG_OK);
+    expect("make", make_new(PAGES, shapes, 1, &h->mirrored), VMIG_OK);
     expect("versions", vmig_pull(&h->mirrored, h->copy, (size_t)PAGES * PAGE, h->seen, PAGES, &(uint32_t){0}), VMIG_OK);
 }
 

@@ -42,10 +42,11 @@ static void feed(const uint8_t *stream, size_t len, size_t size, uint64_t ram, i
     uint64_t pieces = 0;
     clock_t begun = clock();
 
+    expect("arrive", arrive_any(&m), VMIG_OK);
     for (size_t at = 0; at < len; at += size, pieces++) {
         size_t more = len - at < size ? len - at : size;
-        uint32_t status = vmig_feed(&m, stream + at, more);
-        if (status != VMIG_OK) expect("feed", status, VMIG_OK);
+        vmig_status status = vmig_feed(&m, stream + at, more), wanted = at + more < len ? VMIG_OK : VMIG_WHOLE;
+        if (status != wanted) expect("feed", status, wanted);
     }
     expect("finish", vmig_finish(&m), VMIG_OK);
     double took = (double)(clock() - begun) * 1e9 / CLOCKS_PER_SEC;
@@ -65,7 +66,7 @@ int main(int argc, char **argv)
     uint8_t *stream = malloc(room);
 
     if (stream == NULL) return 2;
-    expect("make", vmig_make(pages, &shape, 1, &m), VMIG_OK);
+    expect("make", make_new(pages, &shape, 1, &m), VMIG_OK);
     fill(&m, ram);
     expect("save", vmig_save(&m, stream, room, &len), VMIG_OK);
     vmig_free(&m);

@@ -108,7 +108,7 @@ static void save_whole(vmig_machine *m, uint64_t pages)
     size_t len = 0, written = 0;
     times t = {0};
 
-    expect("length", vmig_saved_len(m, &len), VMIG_OK);
+    expect("length", vmig_save(m, NULL, 0, &len), VMIG_MORE);
     uint8_t *stream = malloc(len);
     if (stream == NULL) exit(2);
     for (int turn = 0; turn < 3; turn++) {
@@ -126,7 +126,7 @@ static void throw_away(vmig_machine *m)
     static uint8_t piece[65536];
     size_t got = 0;
 
-    do expect("take", vmig_take(m, piece, sizeof piece, &got), VMIG_OK);
+    do expect("take", vmig_send_take(m, piece, sizeof piece, &got), VMIG_OK);
     while (got > 0);
 }
 
@@ -136,34 +136,29 @@ typedef struct {
     uint64_t last;
 } round_times;
 
-/* Sends what is due. What is written is thrown away after each call, outside the time. */
+/* Sends what is due: these pages, and then these sectors. What is written is thrown away after each call, outside the time. */
 static void send_round(vmig_machine *m, round_times *t, uint64_t pages, uint64_t sectors)
 {
-    uint64_t sent_pages = t->pages.count, sent_sectors = t->sectors.count;
-    uint32_t status, number = 0;
-    uint8_t dev = 0;
+    uint64_t items = pages + sectors;
+    vmig_status status = VMIG_OK;
 
-    do {
+    for (uint64_t item = 0; item <= items; item++) {
         uint64_t begun = now();
-        status = vmig_copy(m, &dev, &number);
+        status = vmig_send_some(m, 1);
         uint64_t took = now() - begun;
-        if (status == VMIG_PAGE) note_item(&t->pages, took);
-        else if (status == VMIG_SECTOR) note_item(&t->sectors, took);
-        else note(&t->none, took);
-        if (status == VMIG_SECTOR) t->last = took;
+        expect("copied", status, item + 1 < items ? VMIG_OK : VMIG_ROUND_DONE);
+        if (item == items) note(&t->none, took);
+        else if (item < pages) note_item(&t->pages, took);
+        else note_item(&t->sectors, t->last = took);
         throw_away(m);
-    } while (status == VMIG_PAGE || status == VMIG_SECTOR);
-    expect("round done", status, VMIG_ROUND_DONE);
-    expect("pages sent", t->pages.count - sent_pages, pages);
-    expect("sectors sent", t->sectors.count - sent_sectors, sectors);
+    }
 }
 
 static void end_round(vmig_machine *m, times *t)
 {
-    uint32_t round = 0;
     uint64_t begun = now();
 
-    expect("end of a round", vmig_end_round(m, &round), VMIG_OK);
+    expect("end of a round", vmig_send_round(m), VMIG_OK);
     note(t, now() - begun);
     throw_away(m);
 }
@@ -193,8 +188,8 @@ static void send_rounds(vmig_machine *m, uint32_t pages)
 
 static void write_of(vmig_machine *m, uint8_t dev, uint32_t off, uint32_t value)
 {
-    uint32_t out = 0;
-    expect("register", vmig_reg_write(m, dev, off, 4, value, &out), VMIG_OK);
+    uint32_t byte = 0;
+    expect("register", vmig_reg_write(m, dev, off, 4, value, &byte), VMIG_OK);
 }
 
 /* The driver of a disk takes it over, and makes its queue ready (VIRTIO 1.2, 3.1.1). */
@@ -244,7 +239,7 @@ static void move(vmig_machine *m, uint32_t pages, uint64_t disks, uint64_t secto
     times begin = {0}, stop = {0};
     round_times copies = {0};
 
-    expect("begin", vmig_begin(m), VMIG_OK);
+    expect("begin", vmig_send_begin(m), VMIG_OK);
     note(&begin, now() - begun);
     throw_away(m);
     send_round(m, &copies, pages, disks * sectors);
@@ -254,7 +249,7 @@ static void move(vmig_machine *m, uint32_t pages, uint64_t disks, uint64_t secto
     send_rounds(m, pages);
     if (disks > 0) send_last(m, (uint8_t)(disks - 1), sectors - 1);
     begun = now();
-    expect("stop", vmig_stop(m, &sent_pages, &sent_sectors), VMIG_OK);
+    expect("stop", vmig_send_stop(m, &sent_pages, &sent_sectors), VMIG_OK);
     note(&stop, now() - begun);
     tell("stop, nothing due", stop);
     expect("pages of the stop", sent_pages, 0);

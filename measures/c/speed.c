@@ -47,7 +47,7 @@ static uint64_t registers(vmig_machine *m, uint64_t turns)
     uint32_t value = 0, sum = 0;
     uint64_t begun = now();
     for (uint64_t i = 0; i < turns; i++) {
-        vmig_reg_read(m, 0, 0x000, 4, &value);
+        sum ^= vmig_reg_read(m, 0, 0x000, 4, &value);
         sum ^= value;
     }
     uint64_t took = now() - begun;
@@ -58,9 +58,12 @@ static uint64_t registers(vmig_machine *m, uint64_t turns)
 static uint64_t stores(vmig_machine *m, uint64_t turns)
 {
     static const uint8_t bytes[LENGTH] = {1, 2, 3};
+    uint32_t sum = 0;
     uint64_t begun = now();
-    for (uint64_t i = 0; i < turns; i++) vmig_ram_write(m, BUFFERS + 16 * (i % RING), bytes, LENGTH);
-    return now() - begun;
+    for (uint64_t i = 0; i < turns; i++) sum |= vmig_ram_write(m, BUFFERS + 16 * (i % RING), bytes, LENGTH);
+    uint64_t took = now() - begun;
+    expect("all written", sum, VMIG_OK);
+    return took;
 }
 
 /* 256 steps of an entropy device, each of which fills one buffer. */
@@ -69,8 +72,9 @@ static uint64_t fill_ring(vmig_machine *m)
     static uint8_t entropy[RING * LENGTH];
     uint8_t none[1];
     uint32_t number = 0, done = 0;
+    size_t kept = 0;
 
-    expect("input", vmig_input(m, 0, entropy, sizeof entropy, &number), VMIG_OK);
+    expect("input", vmig_input(m, 0, entropy, sizeof entropy, &kept), VMIG_OK);
     write_reg(m, 0x050, 0);
     uint64_t begun = now();
     for (uint32_t i = 0; i < RING; i++) done += vmig_step(m, 0, 0, none, 0, &number) == VMIG_COMPLETED;
@@ -120,12 +124,12 @@ static uint64_t sector_reads(vmig_machine *m, uint64_t turns)
     for (uint64_t turn = 1; turn <= turns; turn++) {
         offer(m, 0, (uint32_t)(turn % 65536), 0);
         uint64_t begun = now();
-        vmig_step(m, 0, 0, none, 0, &len);
-        vmig_step(m, 0, 1, none, 0, &len);
+        done += vmig_step(m, 0, 0, none, 0, &len) == VMIG_TAKEN;
+        done += vmig_step(m, 0, 1, none, 0, &len) == VMIG_MOVED;
         done += vmig_step(m, 0, 1, none, 0, &len) == VMIG_COMPLETED;
         took += now() - begun;
     }
-    expect("all read", done, turns);
+    expect("all read", done, 3 * turns);
     return took;
 }
 
@@ -138,24 +142,24 @@ static void mirror(uint64_t turns, int is_long)
     size_t len = (size_t)PAGES * PAGE;
     uint8_t *ram = malloc(len);
     uint64_t *seen = malloc(PAGES * sizeof *seen), pulls = 0, pushes = 0;
-    uint32_t count = 77, all = 0;
+    uint32_t count = 77, all = 0, refused = 0;
     vmig_machine m = VMIG_NONE;
 
     if (ram == NULL || seen == NULL) exit(2);
     for (uint32_t page = 0; page < PAGES; page++) seen[page] = VMIG_UNSEEN;
-    expect("make", vmig_make(PAGES, entropy, 1, &m), VMIG_OK);
+    expect("make", make_new(PAGES, entropy, 1, &m), VMIG_OK);
     expect("pull", vmig_pull(&m, ram, len, seen, PAGES, &count), VMIG_OK);
     expect("all pages", count, PAGES);
     for (uint64_t turn = 0; turn < turns; turn++) {
         uint64_t begun = now();
-        vmig_push(&m, one, 1, ram, len, seen, PAGES);
+        refused |= push_list(&m, one, 1, ram, len, seen, PAGES);
         uint64_t between = now();
-        vmig_pull(&m, ram, len, seen, PAGES, &count);
+        refused |= vmig_pull(&m, ram, len, seen, PAGES, &count);
         pushes += between - begun;
         pulls += now() - between;
         all += count;
     }
-    expect("nothing to hand out", all, 0);
+    expect("nothing to hand out", all + refused, 0);
     tell("a push of one page", pushes, turns, is_long);
     tell("a pull of 64 MiB, none of which changed", pulls, turns, is_long);
     vmig_free(&m);
@@ -170,13 +174,13 @@ int main(int argc, char **argv)
     uint64_t rings = (argc > 1 ? strtoull(argv[1], NULL, 10) : RING) / RING + (argc > 1);
     uint64_t turns = rings * RING;
 
-    expect("make", vmig_make(16, entropy, 1, &m), VMIG_OK);
+    expect("make", make_new(16, entropy, 1, &m), VMIG_OK);
     tell("a register read", registers(&m, turns), turns, argc > 1);
     tell("a RAM write of 16 bytes", stores(&m, turns), turns, argc > 1);
     tell("a step of a split ring, 16 bytes", split_steps(&m, rings), turns, argc > 1);
     tell("a step of a packed ring, 16 bytes", packed_steps(&m, rings), turns, argc > 1);
     vmig_free(&m);
-    expect("make", vmig_make(16, disk, 1, &m), VMIG_OK);
+    expect("make", make_new(16, disk, 1, &m), VMIG_OK);
     tell("a read of a sector, three steps", sector_reads(&m, turns), turns, argc > 1);
     vmig_free(&m);
     mirror(turns / RING, argc > 1);

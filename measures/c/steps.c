@@ -84,23 +84,25 @@ static uint32_t run(const Case *c, int packed)
 {
     static const uint8_t bytes[RING * 16];
     static uint8_t buf[65536];
-    vmig_shape shape = {.kind = c->kind, .sectors = c->kind == VMIG_BLOCK ? 8 : 0};
+    vmig_shape shape = {.kind = (uint8_t)c->kind, .sectors = c->kind == VMIG_BLOCK ? 8 : 0};
     /* An entropy device holds 4,096 bytes: 16 for each descriptor of a ring, and fewer chains where each is a table. */
     uint32_t chains = RING / (c->entries > 0 ? c->entries : c->descriptors), served = 0, calls = 0, number = 0;
+    size_t kept = 0;
     vmig_machine m = VMIG_NONE;
 
-    expect("make", vmig_make(16, &shape, 1, &m), VMIG_OK);
+    expect("make", make_new(16, &shape, 1, &m), VMIG_OK);
     set_up_ring(&m, c, packed);
     offer_all(&m, c, packed, chains);
     if (c->kind == VMIG_ENTROPY || c->kind == VMIG_CONSOLE)
-        expect("input", vmig_input(&m, 0, bytes, sizeof bytes, &number), VMIG_OK);
+        expect("input", vmig_input(&m, 0, bytes, sizeof bytes, &kept), VMIG_OK);
     write_reg(&m, 0x050, c->queue);
     for (uint32_t chain = 0; chain < chains; chain++) {
-        if (c->kind == VMIG_NETWORK && c->queue == 0) expect("a frame", vmig_input(&m, 0, bytes, FRAME, &number), VMIG_OK);
+        if (c->kind == VMIG_NETWORK && c->queue == 0) expect("a frame", vmig_input(&m, 0, bytes, FRAME, &kept), VMIG_OK);
         uint32_t status = vmig_step(&m, 0, (uint8_t)c->queue, buf, sizeof buf, &number);
         calls++;
         if (c->kind == VMIG_BLOCK) {
-            vmig_step(&m, 0, 1, buf, sizeof buf, &number);
+            expect("taken", status, VMIG_TAKEN);
+            expect("moved", vmig_step(&m, 0, 1, buf, sizeof buf, &number), VMIG_MOVED);
             status = vmig_step(&m, 0, 1, buf, sizeof buf, &number);
         }
         served += status == (c->queue == 1 ? VMIG_SENT : VMIG_COMPLETED);

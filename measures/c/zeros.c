@@ -1,6 +1,6 @@
 /* What pages of zeros cost: `zeros PAGES USED` makes a machine of these pages, of which the first USED have a byte that is not 0, the
  * last one of the page. It prints the length of its stream, and the nanoseconds of processor time for each page: of
- * vmig_saved_len, which looks at each page once, of vmig_save, and of memcmp and of a loop over words that look at as many pages of
+ * vmig_save of no buffer, which looks at each page once, of vmig_save, and of memcmp and of a loop over words that look at as many pages of
  * zeros. With no words it takes a small machine, and prints nothing. */
 #define _POSIX_C_SOURCE 200809L
 #include <stdlib.h>
@@ -36,11 +36,11 @@ static void lengths(vmig_machine *m, uint64_t pages, size_t wanted)
 
     for (int turn = 0; turn < TURNS; turn++) {
         uint64_t begun = now();
-        expect("length", vmig_saved_len(m, &len), VMIG_OK);
+        expect("length", vmig_save(m, NULL, 0, &len), VMIG_MORE);
         least = less(least, now() - begun);
         expect("length of the stream", len, wanted);
     }
-    tell("vmig_saved_len", least, pages);
+    tell("the length of a save", least, pages);
 }
 
 static void saves(vmig_machine *m, uint64_t pages, size_t wanted)
@@ -100,7 +100,7 @@ int main(int argc, char **argv)
     uint32_t pages = is_long ? (uint32_t)strtoul(argv[1], NULL, 10) : 64;
     uint64_t used = is_long ? strtoul(argv[2], NULL, 10) : 3;
 
-    expect("make", vmig_make(pages, &shape, 1, &m), VMIG_OK);
+    expect("make", make_new(pages, &shape, 1, &m), VMIG_OK);
     for (uint64_t page = 0; page < used; page++)
         expect("write", vmig_ram_write(&m, page * PAGE + PAGE - 1, (const uint8_t *)"!", 1), VMIG_OK);
     size_t wanted = FRONT + FULL * used + ZEROS * (pages - used) + DEVICE + DIGEST;

@@ -52,8 +52,8 @@ static size_t hand_over(vmig_machine *source, vmig_machine *target, uint8_t *to)
     size_t all = 0, got = 0;
 
     do {
-        expect("take", vmig_take(source, to + all, 4099, &got), VMIG_OK);
-        if (target != NULL) expect("feed", vmig_feed(target, to + all, got), VMIG_OK);
+        expect("take", vmig_send_take(source, to + all, 4099, &got), VMIG_OK);
+        if (target != NULL) expect("feed", (uint64_t)vmig_refused(vmig_feed(target, to + all, got)), 0);
         all += got;
     } while (got > 0);
     return all;
@@ -66,28 +66,25 @@ static vmig_machine move(vmig_machine *source, vmig_machine *twin, uint32_t coun
     vmig_machine target = VMIG_NONE;
     vmig_image image = {to, SECTORS}, back = VMIG_NO_IMAGE;
     uint64_t pages = 0, sectors = 0;
-    uint32_t number = 0, copies = 0, rounds = 77;
-    uint8_t dev = 0;
 
     memset(to, 0xee, LENGTH);
     expect("arrive", arrive_mapped(&image, 1, &target), VMIG_OK);
     expect("taken", image.sectors, 0);
-    expect("begin", vmig_begin(source), VMIG_OK);
-    while (vmig_copy(source, &dev, &number) != VMIG_ROUND_DONE) {
-        if (++copies != PAGES + SECTORS / 2) continue;
-        write_sector(source, count + 1, count % SECTORS, (uint8_t)(count + 1));
-        write_sector(twin, count + 1, count % SECTORS, (uint8_t)(count + 1));
-        hand_over(source, &target, stream);
-    }
+    expect("begin", vmig_send_begin(source), VMIG_OK);
+    expect("all pages, and some sectors", vmig_send_some(source, PAGES + SECTORS / 2), VMIG_OK);
+    write_sector(source, count + 1, count % SECTORS, (uint8_t)(count + 1));
+    write_sector(twin, count + 1, count % SECTORS, (uint8_t)(count + 1));
+    hand_over(source, &target, stream);
+    expect("the rest", vmig_send_some(source, PAGES + SECTORS), VMIG_ROUND_DONE);
     write_sector(source, count + 2, SECTORS - 1, (uint8_t)(count + 2));
     write_sector(twin, count + 2, SECTORS - 1, (uint8_t)(count + 2));
-    expect("stop", vmig_stop(source, &pages, &sectors), VMIG_OK);
+    expect("stop", vmig_send_stop(source, &pages, &sectors), VMIG_OK);
     hand_over(source, &target, stream);
-    expect("rounds", vmig_rounds(&target, &rounds), VMIG_OK);
-    expect("no round ended", rounds, 0);
+    expect("no round ended", description_of(&target).rounds, 0);
+    expect("it is whole", description_of(&target).whole, 1);
     expect("finish", vmig_finish(&target), VMIG_OK);
     expect("durable before the guest runs", (uint64_t)msync(to, LENGTH, MS_SYNC), 0);
-    expect("unmap", vmig_unmap(source, &back, 1), VMIG_OK);
+    expect("release", vmig_release(source, &back, 1), VMIG_OK);
     expect("the source's image", back.at == from && back.sectors == SECTORS, 1);
     return target;
 }
@@ -99,7 +96,7 @@ static size_t stream_of(vmig_machine *m, uint8_t *at)
     size_t len = 0;
 
     expect("save", vmig_save(m, stream, sizeof stream, &len), VMIG_OK);
-    expect("unmap", vmig_unmap(m, &back, 1), VMIG_OK);
+    expect("release", vmig_release(m, &back, 1), VMIG_OK);
     expect("its image", back.at == at, 1);
     return len;
 }
@@ -115,17 +112,17 @@ static void refuses(size_t len, uint8_t *at)
     memset(at, 0x3c, LENGTH);
     memcpy(held, at, LENGTH);
     expect("a sector too few", arrive_mapped(&few, 1, &m), VMIG_OK);
-    expect("is told by the header", vmig_feed(&m, stream, len), VMIG_STREAM_SHAPE_MISMATCH);
+    expect("is told by the header", vmig_feed(&m, stream, len), VMIG_STREAM_MISMATCH);
     expect("and stays so", vmig_feed(&m, stream, len), VMIG_STREAM_FAILED);
     expect("no machine", vmig_finish(&m), VMIG_STREAM_FAILED);
-    expect("no slot", vmig_unmap(&m, back, 0), VMIG_TOO_SMALL);
-    expect("its image", vmig_unmap(&m, back, 2), VMIG_OK);
+    expect("no slot", vmig_release(&m, back, 0), VMIG_TOO_SMALL);
+    expect("its image", vmig_release(&m, back, 2), VMIG_OK);
     expect("is back", back[0].at == at && back[0].sectors == SECTORS - 1 && back[1].sectors == 0, 1);
 
     expect("an image too many", arrive_mapped(two, 2, &m), VMIG_OK);
-    expect("is told by the header", vmig_feed(&m, stream, len), VMIG_STREAM_SHAPE_MISMATCH);
+    expect("is told by the header", vmig_feed(&m, stream, len), VMIG_STREAM_MISMATCH);
     back[0] = (vmig_image)VMIG_NO_IMAGE;
-    expect("both", vmig_unmap(&m, back, 2), VMIG_OK);
+    expect("both", vmig_release(&m, back, 2), VMIG_OK);
     expect("are back", back[0].sectors == SECTORS - 1 && back[1].sectors == 1, 1);
     expect("no sector was written", (uint64_t)memcmp(at, held, LENGTH), 0);
 
@@ -136,7 +133,7 @@ static void refuses(size_t len, uint8_t *at)
     memcpy(held, at, LENGTH);
     expect("and is no machine", vmig_finish(&m), VMIG_STREAM_TRUNCATED);
     expect("which changes no sector", (uint64_t)memcmp(at, held, LENGTH), 0);
-    expect("its image", vmig_unmap(&m, &right, 1), VMIG_OK);
+    expect("its image", vmig_release(&m, &right, 1), VMIG_OK);
     expect("is back", right.at == at && right.sectors == SECTORS, 1);
     expect("nothing is left", m.at == NULL, 1);
     expect("given up on the way", arrive_mapped(&right, 1, &m), VMIG_OK);

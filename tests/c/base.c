@@ -14,23 +14,20 @@ static uint32_t make_at(uint64_t base, uint32_t pages, vmig_machine *m)
     vmig_setup setup = VMIG_SETUP;
 
     setup.pages = pages, setup.shapes = &ENTROPY, setup.count = 1, setup.base = base;
-    return vmig_make_as(&setup, m);
+    return vmig_make(&setup, m);
 }
 
 static uint32_t arrive_at(uint64_t base, vmig_machine *m)
 {
     vmig_arrival arrival = VMIG_ARRIVAL;
 
-    arrival.base = base;
+    arrival.most_pages = PAGES, arrival.base = base;
     return vmig_arrive(&arrival, m);
 }
 
-static uint64_t base_of(vmig_machine *m)
+static uint64_t base_of(const vmig_machine *m)
 {
-    uint64_t base = 77;
-
-    expect("base", vmig_base(m, &base), VMIG_OK);
-    return base;
+    return description_of(m).base;
 }
 
 /* A base is a multiple of a page, and no byte of RAM is past the last address. */
@@ -38,14 +35,15 @@ static void bases(void)
 {
     vmig_machine m = VMIG_NONE;
 
-    expect("within a page", make_at(BASE + 512, 1, &m), VMIG_BAD_SHAPE);
-    expect("past the last address", make_at(LAST_PAGE, 2, &m), VMIG_BAD_SHAPE);
+    expect("within a page", make_at(BASE + 512, 1, &m), VMIG_BAD_BASE);
+    expect("past the last address", make_at(LAST_PAGE, 2, &m), VMIG_BAD_BASE);
+    expect("the number of pages comes before", make_at(BASE + 512, 0, &m), VMIG_BAD_RAM);
     expect("up to the last address", make_at(LAST_PAGE, 1, &m), VMIG_OK);
     expect("the first address", base_of(&m), LAST_PAGE);
     put(&m, LAST_PAGE + PAGE - 1, 0x5a, 1);
     expect("the last byte", get(&m, UINT64_MAX, 1), 0x5a);
     vmig_free(&m);
-    expect("an arrival within a page", arrive_at(BASE + 1, &m), VMIG_BAD_SHAPE);
+    expect("an arrival within a page", arrive_at(BASE + 1, &m), VMIG_BAD_BASE);
     expect("nothing arrives", m.at == NULL, 1);
 }
 
@@ -96,9 +94,10 @@ static uint32_t ask_at(vmig_machine *m, uint64_t addr, uint32_t count)
 
 static void driver(vmig_machine *m)
 {
-    uint32_t accepted = 0;
+    size_t kept = 0;
 
-    expect("input", vmig_input(m, 0, (const uint8_t *)"abcdefgh", 8, &accepted), VMIG_OK);
+    expect("input", vmig_input(m, 0, (const uint8_t *)"abcdefgh", 8, &kept), VMIG_OK);
+    expect("all kept", kept, 8);
     set_up(m, 0);
     expect("areas below RAM", ready_at(m, 0), 0);
     expect("areas in RAM", ready_at(m, BASE), 1);
@@ -115,7 +114,7 @@ static void pages(vmig_machine *m)
     const uint32_t third[] = {3};
 
     memset(ram + 3 * PAGE, 0x33, PAGE);
-    expect("push", vmig_push(m, third, 1, ram, LEN, seen, PAGES), VMIG_OK);
+    expect("push", push_list(m, third, 1, ram, LEN, seen, PAGES), VMIG_OK);
     expect("its first byte", get(m, BASE + 3 * PAGE, 1), 0x33);
     expect("its last byte", get(m, BASE + 4 * PAGE - 1, 1), 0x33);
     expect("the page before", get(m, BASE + 3 * PAGE - 1, 1), 0);
@@ -131,7 +130,7 @@ static void moves(vmig_machine *source)
 
     expect("save", vmig_save(source, stream, sizeof stream, &len), VMIG_OK);
     expect("arrive", arrive_at(BASE, &target), VMIG_OK);
-    expect("feed", vmig_feed(&target, stream, len), VMIG_OK);
+    expect("feed", vmig_feed(&target, stream, len), VMIG_WHOLE);
     expect("finish", vmig_finish(&target), VMIG_OK);
     expect("its base", base_of(&target), BASE);
     expect("its RAM", get(&target, BASE + DATA, 4), 0x64636261);
@@ -140,7 +139,11 @@ static void moves(vmig_machine *source)
     expect("arrive at 0", arrive_at(0, &other), VMIG_OK);
     expect("its queue is not in RAM", vmig_feed(&other, stream, len), VMIG_STREAM_BAD_DEVICE);
     vmig_free(&other);
-    expect("received at 0", vmig_receive(stream, len, &other, &rounds), VMIG_STREAM_BAD_DEVICE);
+    expect("arrive at the last page", arrive_at(LAST_PAGE, &other), VMIG_OK);
+    expect("its header, but for a byte", vmig_feed(&other, stream, 16), VMIG_OK);
+    expect("RAM would reach past the last address", vmig_feed(&other, stream + 16, 1), VMIG_STREAM_MISMATCH);
+    vmig_free(&other);
+    expect("received at 0", receive(stream, len, &other, &rounds), VMIG_STREAM_BAD_DEVICE);
     vmig_free(&target);
 }
 

@@ -64,31 +64,25 @@ static void expect_shape(const char *what, const vmig_shape *got, const vmig_sha
 /* Whether the machine that announces itself is the one that this host expects. */
 static int is_expected(const uint8_t *bytes, size_t len)
 {
-    uint32_t pages = 0, devices = 0;
-    if (vmig_stream_size(bytes, len, &pages, &devices) != VMIG_OK || pages != PAGES || devices != COUNT) return 0;
-    for (uint8_t dev = 0; dev < COUNT; dev++) {
-        vmig_shape shape;
-        if (vmig_stream_device(bytes, len, dev, &shape) != VMIG_OK || shape.kind != EXPECTED[dev].kind) return 0;
-        if (shape.sectors != EXPECTED[dev].sectors) return 0;
-    }
+    vmig_description announced;
+    if (vmig_stream_describe(bytes, len, &announced) != VMIG_OK || announced.pages != PAGES || announced.count != COUNT) return 0;
+    for (uint32_t dev = 0; dev < COUNT; dev++)
+        if (memcmp(&announced.shapes[dev], &EXPECTED[dev], sizeof EXPECTED[dev]) != 0) return 0;
     return 1;
 }
 
 /* Fewer bytes than the header has announce nothing yet. */
 static void ask_for_more(const uint8_t *stream, size_t header_len)
 {
-    uint32_t pages = 77, devices = 77;
-    vmig_shape shape = {.kind = 77};
+    vmig_description announced = {.state = 77, .pages = 77, .count = 77, .shapes = {{.kind = 77}}};
 
-    for (size_t len = 0; len < header_len; len++) {
-        expect("a cut header", vmig_stream_size(stream, len, &pages, &devices), VMIG_MORE);
-        expect("a cut header's device", vmig_stream_device(stream, len, 0, &shape), VMIG_MORE);
-    }
-    expect("its pages", pages, 77);
-    expect("its devices", devices, 77);
-    expect("its shape", shape.kind, 77);
-    expect("no such device", vmig_stream_device(stream, header_len, COUNT, &shape), VMIG_NO_DEVICE);
-    expect("the shape then", shape.kind, 77);
+    for (size_t len = 0; len < header_len; len++) expect("a cut header", vmig_stream_describe(stream, len, &announced), VMIG_MORE);
+    expect("its pages", announced.pages, 77);
+    expect("its devices", announced.count, 77);
+    expect("its shape", announced.shapes[0].kind, 77);
+    expect("a whole one", vmig_stream_describe(stream, header_len, &announced), VMIG_OK);
+    expect("its base is not told", announced.base, 0);
+    expect("no device more", announced.shapes[COUNT].kind, 0);
 }
 
 /* What this host expects: at most 4 MiB of RAM, and 1 MiB of all disks together. */
@@ -101,26 +95,37 @@ static vmig_arrival expected_at_most(void)
     return arrival;
 }
 
-/* It is fed the header of a larger machine, in pieces of this length, and refuses it in each kind of memory. */
-static void is_too_large(const uint8_t *header, size_t len, size_t piece, uint8_t *disk, uint8_t *room)
+/* What this host expects: exactly these devices. */
+static vmig_arrival expected_devices(const vmig_shape *shapes)
+{
+    vmig_arrival arrival = expected_at_most();
+
+    arrival.shapes = shapes;
+    arrival.count = COUNT;
+    return arrival;
+}
+
+/* It is fed the header of a machine that it did not expect, in pieces of this length, and refuses it in each kind of memory. */
+static void is_refused(vmig_status wanted, const uint8_t *header, size_t len, size_t piece, uint8_t *disk, uint8_t *room)
 {
     vmig_machine m = VMIG_NONE;
     vmig_image image = {disk, disk != NULL ? MOST_SECTORS : 0};
     vmig_arrival arrival = expected_at_most();
-    uint32_t status = VMIG_OK;
+    vmig_status status = VMIG_OK;
     size_t at = 0;
 
     arrival.images = &image, arrival.count_images = disk != NULL;
     arrival.ram = (vmig_ram){room, room != NULL ? 4 << 20 : 0};
+    if (room != NULL) arrival.most_pages = 0;
     expect("arrive", vmig_arrive(&arrival, &m), VMIG_OK);
     taken = largest = 0;
     for (; status == VMIG_OK && at < len; at += piece) status = vmig_feed(&m, header + at, len - at < piece ? len - at : piece);
-    expect("a large one", status, VMIG_STREAM_TOO_LARGE);
+    expect("a large one", status, wanted);
     expect("is refused at the end of its header", at >= len, 1);
     if (piece >= len) expect("with little memory", taken < 4096, 1);
     else expect("with the receiver's buffer at most", largest < 132 << 10, 1);
     expect("for good", vmig_feed(&m, header, len), VMIG_STREAM_FAILED);
-    if (disk != NULL) expect("the image", vmig_unmap(&m, &image, 1), VMIG_OK);
+    if (disk != NULL) expect("the image", vmig_release(&m, &image, 1), VMIG_OK);
     vmig_free(&m);
 }
 
@@ -131,78 +136,101 @@ static void refuse_a_large_one(void)
     static const uint8_t disk[30] = {2, 0, 0, 0x20, 0, 0, 0, 0, 0};
     static uint8_t sectors[1 << 20], room[4 << 20];
     uint8_t header[sizeof front + 16 * sizeof disk];
-    uint32_t pages = 0, devices = 0;
-    vmig_shape shape;
+    vmig_description announced;
 
     memcpy(header, front, sizeof front);
     for (size_t k = 0; k < 16; k++) memcpy(header + sizeof front + k * sizeof disk, disk, sizeof disk);
-    expect("a large one", vmig_stream_size(header, sizeof header, &pages, &devices), VMIG_OK);
-    expect("its pages", pages, 16384);
-    expect("its devices", devices, 16);
-    expect("its last disk", vmig_stream_device(header, sizeof header, 15, &shape), VMIG_OK);
-    expect("the sectors of it", shape.sectors, 2097152);
+    expect("a large one", vmig_stream_describe(header, sizeof header, &announced), VMIG_OK);
+    expect("its pages", announced.pages, 16384);
+    expect("its devices", announced.count, 16);
+    expect("the sectors of its last disk", announced.shapes[15].sectors, 2097152);
     expect("expected", (uint64_t)is_expected(header, sizeof header), 0);
     for (size_t piece = 1; piece <= 1000; piece += 37) {
-        is_too_large(header, sizeof header, piece, NULL, NULL);
-        is_too_large(header, sizeof header, piece, sectors, NULL);
-        is_too_large(header, sizeof header, piece, sectors, room);
+        is_refused(VMIG_STREAM_TOO_LARGE, header, sizeof header, piece, NULL, NULL);
+        is_refused(VMIG_STREAM_TOO_LARGE, header, sizeof header, piece, sectors, NULL);
+        is_refused(VMIG_STREAM_TOO_LARGE, header, sizeof header, piece, NULL, room);
+        is_refused(VMIG_STREAM_MISMATCH, header, sizeof header, piece, sectors, room);
     }
     header[8] = 1;
-    expect("too large", vmig_stream_size(header, sizeof header, &pages, &devices), VMIG_STREAM_BAD_SHAPE);
+    expect("too large", vmig_stream_describe(header, sizeof header, &announced), VMIG_STREAM_BAD_SHAPE);
     header[4] = 3;
-    expect("of another version", vmig_stream_size(header, sizeof header, &pages, &devices), VMIG_STREAM_BAD_VERSION);
+    expect("of another version", vmig_stream_describe(header, sizeof header, &announced), VMIG_STREAM_BAD_VERSION);
     header[0] = 'v';
-    expect("of another kind", vmig_stream_size(header, sizeof header, &pages, &devices), VMIG_STREAM_BAD_MAGIC);
+    expect("of another kind", vmig_stream_describe(header, sizeof header, &announced), VMIG_STREAM_BAD_MAGIC);
+}
+
+/* One of the devices that are expected is another one. The header shows it, and nothing is taken. */
+static void refuse_another(const uint8_t *stream, size_t header_len)
+{
+    vmig_shape other[COUNT];
+
+    for (int k = 0; k < 5; k++) {
+        vmig_machine m = VMIG_NONE;
+        vmig_arrival arrival = expected_devices(other);
+        memcpy(other, EXPECTED, sizeof other);
+        if (k == 0) other[0].mac[5] = 2;
+        if (k == 1) other[1].sectors--;
+        if (k == 2) other[1].id[0] = 'A';
+        if (k == 3) other[1].read_only = 0;
+        if (k == 4) arrival.count--;
+        expect("arrive", vmig_arrive(&arrival, &m), VMIG_OK);
+        expect("its header, but for a byte", vmig_feed(&m, stream, header_len - 1), VMIG_OK);
+        taken = largest = 0;
+        expect("another machine", vmig_feed(&m, stream + header_len - 1, 1), VMIG_STREAM_MISMATCH);
+        expect("for which nothing was taken but the receiver's buffer", largest < 132 << 10, 1);
+        expect("for good", vmig_feed(&m, stream, header_len), VMIG_STREAM_FAILED);
+        vmig_free(&m);
+    }
 }
 
 /* What a machine says of itself. */
-static void says_of_itself(const char *what, vmig_machine *m)
+static void says_of_itself(const char *what, const vmig_machine *m, uint32_t state)
 {
-    uint32_t pages = 0, devices = 0;
-    vmig_shape shape;
+    vmig_description found = description_of(m);
 
-    expect(what, vmig_size(m, &pages, &devices), VMIG_OK);
-    expect(what, pages, PAGES);
-    expect(what, devices, COUNT);
-    for (uint8_t dev = 0; dev < COUNT; dev++) {
-        expect(what, vmig_device(m, dev, &shape), VMIG_OK);
-        expect_shape(what, &shape, &EXPECTED[dev]);
-    }
-    shape.kind = 77;
-    expect(what, vmig_device(m, COUNT, &shape), VMIG_NO_DEVICE);
-    expect(what, shape.kind, 77);
+    expect(what, found.state, state);
+    expect(what, found.pages, PAGES);
+    expect(what, found.count, COUNT);
+    for (uint32_t dev = 0; dev < COUNT; dev++) expect_shape(what, &found.shapes[dev], &EXPECTED[dev]);
+    expect(what, found.shapes[COUNT].kind, 0);
+    expect(what, found.message, VMIG_SENT_MAX);
+    expect(what, found.lost + found.lent + found.fault + found.images, 0);
 }
 
 int main(void)
 {
+    enum { HEADER = 16 + 7 + 30 + 1 + 1 };
+    static const vmig_description none;
     vmig_machine source = VMIG_NONE, target = VMIG_NONE;
-    uint32_t pages = 77, devices = 77, rounds = 0;
-    vmig_shape shape = {.kind = 77};
+    vmig_arrival expected = expected_devices(EXPECTED);
+    vmig_description found = description_of(&source);
     size_t len = 0, written = 0;
 
     expect("version", vmig_version(), VMIG_VERSION_NUMBER);
-    expect("no machine", vmig_size(&source, &pages, &devices), VMIG_NO_MACHINE);
-    expect("its pages", pages + devices, 154);
-    expect("its device", vmig_device(&source, 0, &shape), VMIG_NO_MACHINE);
-    expect("its shape", shape.kind, 77);
-
-    expect("make", vmig_make(PAGES, EXPECTED, COUNT, &source), VMIG_OK);
-    says_of_itself("made", &source);
-    expect("length", vmig_saved_len(&source, &len), VMIG_OK);
+    expect("no machine", (uint64_t)memcmp(&found, &none, sizeof none), 0);
+    expect("make", make_new(PAGES, EXPECTED, COUNT, &source), VMIG_OK);
+    says_of_itself("made", &source, VMIG_IS_IDLE);
+    expect("length", vmig_save(&source, NULL, 0, &len), VMIG_MORE);
     uint8_t *stream = malloc(len);
     if (stream == NULL) return 2;
     expect("save", vmig_save(&source, stream, len, &written), VMIG_OK);
-    ask_for_more(stream, 16 + 7 + 30 + 1 + 1);
+    ask_for_more(stream, HEADER);
     expect("expected", (uint64_t)is_expected(stream, len), 1);
     refuse_a_large_one();
+    refuse_another(stream, HEADER);
 
-    expect("a first piece", vmig_feed(&target, stream, 20), VMIG_OK);
-    expect("while it arrives", vmig_size(&target, &pages, &devices), VMIG_NO_MACHINE);
-    vmig_free(&target);
-    expect("receive", vmig_receive(stream, len, &target, &rounds), VMIG_OK);
-    says_of_itself("arrived", &target);
-    expect("begin", vmig_begin(&target), VMIG_OK);
-    says_of_itself("being sent", &target);
+    expect("arrive", vmig_arrive(&expected, &target), VMIG_OK);
+    expect("a first piece", vmig_feed(&target, stream, HEADER - 1), VMIG_OK);
+    expect("nothing is known yet", description_of(&target).pages + description_of(&target).count, 0);
+    expect("the rest of the header", vmig_feed(&target, stream + HEADER - 1, 1), VMIG_OK);
+    expect("it says what comes", description_of(&target).pages, PAGES);
+    expect("and how many devices", description_of(&target).count, COUNT);
+    expect("it arrives", description_of(&target).state, VMIG_IS_ARRIVING);
+    expect("the rest", vmig_feed(&target, stream + HEADER, len - HEADER), VMIG_WHOLE);
+    expect("finish", vmig_finish(&target), VMIG_OK);
+    says_of_itself("arrived", &target, VMIG_IS_IDLE);
+    expect("begin", vmig_send_begin(&target), VMIG_OK);
+    says_of_itself("being sent", &target, VMIG_IS_SENDING);
 
     vmig_free(&source);
     vmig_free(&target);

@@ -29,32 +29,33 @@ static void send_two(vmig_machine *m, uint32_t count)
 }
 
 /* The interrupt lines as the guest has them. */
-static uint16_t lines;
+static uint32_t lines;
 
-/* Brings the disk of a device to its file, by msync where it is mapped: 0 where that goes well. This host has no disk. */
+/* Brings the disk of a device to its file, by msync where it is mapped: 1 where that goes well. This host has no disk. */
 static int bring(uint8_t dev)
 {
     (void)dev;
-    return 0;
+    return 1;
 }
 
-/* What a host does after each kick and each input, in turn from where it was. A step that is not made keeps no other waiting: those after
- * it are made, and the turn ends where it alone is left. The bound is for a guest that gives its devices work without end. */
-static void do_work(vmig_machine *m)
+/* What a host does after each kick and each input, in turn from where it was: VMIG_IDLE where nothing is left to do, and VMIG_WORK where
+ * there is more. The bound is for a guest that gives its devices work without end. A step that is refused memory ends the turn, and the
+ * next turn begins after it: so it keeps no other waiting. */
+static vmig_status do_work(vmig_machine *m)
 {
     static uint8_t dev, pick;
-    uint32_t len = 0, waiting = UINT32_MAX;
+    uint32_t len = 0;
 
-    for (int i = 0; i < 1000 && vmig_next_work(m, &dev, &pick) == VMIG_WORK; i++) {
-        uint32_t place = (uint32_t)dev << 8 | pick, status;
-        if (place == waiting) return;
-        if (vmig_must_sync(m, dev, pick) == VMIG_SYNC && bring(dev) != 0) status = vmig_sync_failed(m, dev, pick);
+    for (int left = 1000; left > 0; left--) {
+        vmig_status status = vmig_next(m, &dev, &pick);
+        if (status == VMIG_IDLE || vmig_refused(status)) return status;
+        if (status == VMIG_SYNC && !bring(dev)) status = vmig_sync_failed(m, dev);
         else status = vmig_step(m, dev, pick, buf, sizeof buf, &len);
-        if (status >= 64 && status != VMIG_SYNC_FAILED) waiting = UINT32_MAX;
-        else if (waiting == UINT32_MAX) waiting = place;
+        if (vmig_refused(status)) return status;
         if (status == VMIG_SENT) hand_on(buf, len);
         lines = vmig_lines(m);
     }
+    return VMIG_WORK;
 }
 
 /* The rule kept. */
@@ -62,7 +63,7 @@ static void each_is_handed_on(vmig_machine *m)
 {
     send_two(m, 1);
     written = 0;
-    do_work(m);
+    expect("a turn", do_work(m), VMIG_IDLE);
     expect("an interrupt", lines, 1);
     expect("length of both", written, 9);
     expect("both", (uint64_t)memcmp(terminal, "one, two.", 9), 0);
@@ -86,7 +87,7 @@ int main(void)
     static const vmig_shape shapes[] = {{.kind = VMIG_CONSOLE}};
     vmig_machine m = VMIG_NONE;
 
-    expect("make", vmig_make(16, shapes, 1, &m), VMIG_OK);
+    expect("make", make_new(16, shapes, 1, &m), VMIG_OK);
     set_up(&m, 2);
     each_is_handed_on(&m);
     only_the_last_is_there(&m);

@@ -10,7 +10,7 @@ static uint64_t seen[PAGES];
 
 static void hand_in(vmig_machine *m, uint32_t page)
 {
-    expect("push", vmig_push(m, &page, 1, ram, sizeof ram, seen, PAGES), VMIG_OK);
+    expect("push", push_list(m, &page, 1, ram, sizeof ram, seen, PAGES), VMIG_OK);
 }
 
 static void hand_out(vmig_machine *m)
@@ -27,7 +27,7 @@ static void store(uint32_t addr, uint64_t value, size_t width)
 /* The guest posts a buffer of 16 bytes as its `count`-th, and the host hands in the rings. */
 static void post(vmig_machine *m, uint32_t count)
 {
-    uint32_t out = 77;
+    uint32_t byte = 77;
 
     store(DESC, BUFFER, 8);
     store(DESC + 8, 16, 4);
@@ -36,14 +36,15 @@ static void post(vmig_machine *m, uint32_t count)
     store(AVAIL + 2, count, 2);
     hand_in(m, DESC / PAGE);
     hand_in(m, AVAIL / PAGE);
-    expect("kick", vmig_reg_write(m, 0, 0x050, 4, 0, &out), VMIG_OK);
+    expect("kick", vmig_reg_write(m, 0, 0x050, 4, 0, &byte), VMIG_OK);
 }
 
 /* Bytes come for the guest, and the device writes them into the buffer that was posted. */
 static void bytes_come(vmig_machine *m)
 {
     uint8_t none[1];
-    uint32_t kept = 77, len = 77;
+    uint32_t len = 77;
+    size_t kept = 77;
 
     expect("input", vmig_input(m, 0, (const uint8_t *)"0123456789abcdef", 16, &kept), VMIG_OK);
     expect("step", vmig_step(m, 0, 0, none, 0, &len), VMIG_COMPLETED);
@@ -75,10 +76,10 @@ static uint8_t arriving(vmig_machine *m)
     uint32_t rounds = 77;
     size_t got = 77;
 
-    expect("stop", vmig_stop(m, &pages, &sectors), VMIG_OK);
-    expect("take", vmig_take(m, stream, sizeof stream, &got), VMIG_OK);
-    expect("abort", vmig_abort(m), VMIG_OK);
-    expect("receive", vmig_receive(stream, got, &other, &rounds), VMIG_OK);
+    expect("stop", vmig_send_stop(m, &pages, &sectors), VMIG_OK);
+    expect("take", vmig_send_take(m, stream, sizeof stream, &got), VMIG_OK);
+    expect("abort", vmig_send_abort(m), VMIG_OK);
+    expect("receive", receive(stream, got, &other, &rounds), VMIG_OK);
     uint8_t value = (uint8_t)get(&other, VALUE, 1);
     vmig_free(&other);
     return value;
@@ -87,11 +88,11 @@ static uint8_t arriving(vmig_machine *m)
 /* The guest writes once more before it is paused. */
 static void before_a_stop(vmig_machine *m)
 {
-    expect("begin", vmig_begin(m), VMIG_OK);
+    expect("begin", vmig_send_begin(m), VMIG_OK);
     ram[VALUE] = 43;
     expect("the old value arrives", arriving(m), 42);
 
-    expect("begin", vmig_begin(m), VMIG_OK);
+    expect("begin", vmig_send_begin(m), VMIG_OK);
     ram[VALUE] = 44;
     hand_in(m, VALUE / PAGE);
     expect("the value arrives", arriving(m), 44);
@@ -102,7 +103,7 @@ int main(void)
     static const vmig_shape shapes[] = {{.kind = VMIG_ENTROPY}};
     vmig_machine m = VMIG_NONE;
 
-    expect("make", vmig_make(PAGES, shapes, 1, &m), VMIG_OK);
+    expect("make", make_new(PAGES, shapes, 1, &m), VMIG_OK);
     for (uint32_t page = 0; page < PAGES; page++) seen[page] = VMIG_UNSEEN;
     hand_out(&m);
     set_up(&m, 1);

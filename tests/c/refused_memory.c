@@ -81,8 +81,8 @@ static uint8_t sent[VMIG_SENT_MAX];
 
 static void write_dev(vmig_machine *m, uint8_t dev, uint32_t off, uint32_t value)
 {
-    uint32_t out;
-    expect("register", CALL(vmig_reg_write(m, dev, off, 4, value, &out)), VMIG_OK);
+    uint32_t byte;
+    expect("register", CALL(vmig_reg_write(m, dev, off, 4, value, &byte)), VMIG_OK);
 }
 
 /* The driver makes a queue of a device ready, with its rings from `base` on. */
@@ -126,12 +126,13 @@ static void chain(vmig_machine *m, uint32_t base, uint32_t count, uint32_t flags
 static void run_guest(vmig_machine *m)
 {
     uint64_t before;
-    uint32_t len, accepted;
+    uint32_t len;
+    size_t kept;
     uint8_t dev = 0, pick = 0;
 
     ready(m, ENTROPY, 0, 0x1000);
     chain(m, 0x1000, LONG_CHAIN, WRITABLE);
-    expect("input", CALL(vmig_input(m, ENTROPY, (const uint8_t *)"entropy", 7, &accepted)), VMIG_OK);
+    expect("input", CALL(vmig_input(m, ENTROPY, (const uint8_t *)"entropy", 7, &kept)), VMIG_OK);
     write_dev(m, ENTROPY, 0x050, 0);
     CALL_AGAIN("a long chain", vmig_step(m, ENTROPY, 0, sent, sizeof sent, &len), VMIG_COMPLETED);
     expect("its length", len, LONG_CHAIN);
@@ -148,7 +149,7 @@ static void run_guest(vmig_machine *m)
     before = requests;
     expect("a message that is no longer", CALL(vmig_step(m, CONSOLE, 1, sent, sizeof sent, &len)), VMIG_SENT);
     expect("takes no memory", requests, before);
-    while (CALL(vmig_next_work(m, &dev, &pick)) == VMIG_WORK) {
+    while (CALL(vmig_next(m, &dev, &pick)) == VMIG_WORK) {
         expect("a queue that is empty", CALL(vmig_step(m, dev, pick, sent, sizeof sent, &len)), VMIG_IDLE);
     }
 }
@@ -159,43 +160,48 @@ static void look(vmig_machine *m, int moves)
     static uint8_t ram[PAGES * PAGE], sector[512];
     static uint64_t seen[PAGES];
     static const uint32_t pages[] = {3, 5};
-    uint64_t before = requests, due, dirty;
+    static const vmig_pages all = VMIG_ALL_PAGES;
+    uint64_t before = requests;
     uint32_t value, count;
     uint8_t dev = 0, pick = 0;
     size_t len;
+    vmig_left left;
+    vmig_description found;
 
     for (size_t i = 0; i < PAGES; i++) seen[i] = VMIG_UNSEEN;
     expect("a register", CALL(vmig_reg_read(m, ENTROPY, 0, 4, &value)), VMIG_OK);
     expect("its value", value, 0x74726976);
     expect("size of the console", CALL(vmig_resize(m, CONSOLE, 100, 40)), VMIG_OK);
-    expect("no work", CALL(vmig_next_work(m, &dev, &pick)), VMIG_IDLE);
+    expect("room", CALL(vmig_room(m, ENTROPY, &len)), VMIG_OK);
+    expect("no work", CALL(vmig_next(m, &dev, &pick)), VMIG_IDLE);
     expect("pages out", CALL(vmig_pull(m, ram, sizeof ram, seen, PAGES, &count)), VMIG_OK);
     expect("all of them", count, PAGES);
-    expect("pages in", CALL(vmig_push(m, pages, 2, ram, sizeof ram, seen, PAGES)), VMIG_OK);
+    expect("pages in", CALL(push_list(m, pages, 2, ram, sizeof ram, seen, PAGES)), VMIG_OK);
+    expect("all pages in", CALL(vmig_push(m, &all, ram, sizeof ram, seen, PAGES)), VMIG_OK);
     expect("RAM", CALL(vmig_ram_read(m, 0x8000, sector, 1)), VMIG_OK);
     expect("lines", CALL(vmig_lines(m)) & 1u << ENTROPY, 1u << ENTROPY);
-    expect("remaining", CALL(vmig_remaining(m, &due, &dirty)), moves ? VMIG_OK : VMIG_NOT_BEGUN);
-    expect("a sector", CALL(vmig_sector_read(m, 0, 0, sector, sizeof sector)), moves ? VMIG_MOVING : VMIG_OK);
-    expect("length of a save", CALL(vmig_saved_len(m, &len)), moves ? VMIG_MOVING : VMIG_OK);
+    expect("what is left", CALL(vmig_send_left(m, &left)), moves ? VMIG_OK : VMIG_NOT_SENDING);
+    expect("a sector", CALL(vmig_sector_read(m, 0, 0, sector)), moves ? VMIG_SENDING : VMIG_OK);
+    expect("length of a save", CALL(vmig_save(m, NULL, 0, &len)), moves ? VMIG_SENDING : VMIG_MORE);
+    CALL((vmig_describe(m, &found), VMIG_OK));
+    expect("its state", found.state, moves ? VMIG_IS_SENDING : VMIG_IS_IDLE);
     expect("requests for memory", requests, before);
 }
 
-/* One migration: begin, a copy, a round, a write of the guest, and the stop. Returns whether its stream failed. */
+/* One migration: begin, copies, a round, a write of the guest, and the stop. Returns whether its stream failed. */
 static int migrate(vmig_machine *m)
 {
     uint64_t pages, sectors;
-    uint32_t number;
-    uint8_t dev;
 
-    CALL_AGAIN("begin", vmig_begin(m), VMIG_OK);
+    CALL_AGAIN("begin", vmig_send_begin(m), VMIG_OK);
     look(m, 1);
-    while (CALL(vmig_copy(m, &dev, &number)) == VMIG_PAGE || answer == VMIG_SECTOR) continue;
-    if (answer == VMIG_WRITER_FAILED) return 1;
+    while (CALL(vmig_send_some(m, 3)) == VMIG_OK) continue;
+    if (answer == VMIG_SEND_FAILED) return 1;
     expect("the round is sent", answer, VMIG_ROUND_DONE);
     put_dev(m, 0x9000, 0x77, 1);
-    if (CALL(vmig_end_round(m, &number)) == VMIG_WRITER_FAILED) return 1;
+    if (CALL(vmig_send_round(m)) == VMIG_SEND_FAILED) return 1;
     expect("a second round", answer, VMIG_OK);
-    if (CALL(vmig_stop(m, &pages, &sectors)) == VMIG_WRITER_FAILED) return 1;
+    if (CALL(vmig_send_stop(m, &pages, &sectors)) == VMIG_SEND_FAILED) return 1;
     expect("stop", answer, VMIG_OK);
     expect("pages of the stop", pages, 1);
     expect("sectors of the stop", sectors, 0);
@@ -206,15 +212,16 @@ static int migrate(vmig_machine *m)
 static void give_up(vmig_machine *m)
 {
     uint64_t pages, sectors;
-    uint32_t number;
-    uint8_t dev;
 
     told++;
-    expect("copy after it", CALL(vmig_copy(m, &dev, &number)), VMIG_WRITER_FAILED);
-    expect("round after it", CALL(vmig_end_round(m, &number)), VMIG_WRITER_FAILED);
-    expect("stop after it", CALL(vmig_stop(m, &pages, &sectors)), VMIG_WRITER_FAILED);
+    expect("it has failed", description_of(m).state, VMIG_IS_SEND_FAILED);
+    expect("so", description_of(m).fault, VMIG_SEND_FAILED);
+    expect("begin after it", CALL(vmig_send_begin(m)), VMIG_SEND_FAILED);
+    expect("copy after it", CALL(vmig_send_some(m, 1)), VMIG_SEND_FAILED);
+    expect("round after it", CALL(vmig_send_round(m)), VMIG_SEND_FAILED);
+    expect("stop after it", CALL(vmig_send_stop(m, &pages, &sectors)), VMIG_SEND_FAILED);
     put_dev(m, 0x9000, 0x11, 1);
-    expect("abort", CALL(vmig_abort(m)), VMIG_OK);
+    expect("abort", CALL(vmig_send_abort(m)), VMIG_OK);
 }
 
 static size_t take_all(vmig_machine *m, uint8_t *stream)
@@ -222,7 +229,7 @@ static size_t take_all(vmig_machine *m, uint8_t *stream)
     size_t len = 0, got = 1;
 
     while (got != 0) {
-        expect("take", CALL(vmig_take(m, stream + len, STREAM_MAX - len, &got)), VMIG_OK);
+        expect("take", CALL(vmig_send_take(m, stream + len, STREAM_MAX - len, &got)), VMIG_OK);
         len += got;
     }
     return len;
@@ -231,48 +238,43 @@ static size_t take_all(vmig_machine *m, uint8_t *stream)
 /* Feeds a stream in pieces. Returns whether memory was refused. The end of a stream takes none. */
 static int feed(vmig_machine *m, const uint8_t *stream, size_t len)
 {
-    uint32_t rounds;
-
     for (size_t at = 0; at < len; at += 1000) {
         size_t more = len - at < 1000 ? len - at : 1000;
-        if (CALL(vmig_feed(m, stream + at, more)) == VMIG_NO_MEMORY) { told++; CALL(vmig_feed(m, stream + at, more)); }
-        if (answer == VMIG_STREAM_NO_MEMORY) return 1;
-        expect("feed", answer, VMIG_OK);
-        expect("rounds so far", CALL(vmig_rounds(m, &rounds)), VMIG_OK);
+        if (CALL(vmig_feed(m, stream + at, more)) == VMIG_STREAM_NO_MEMORY) return 1;
+        expect("feed", answer, at + more < len ? VMIG_OK : VMIG_WHOLE);
     }
     expect("finish", CALL(vmig_finish(m)), VMIG_OK);
     return 0;
 }
 
-/* A machine will arrive: in this RAM and on this disk, on this disk, or, where both are null, in memory of the library, within limits or
- * by its first piece alone. */
-static void await(vmig_machine *m, uint8_t *room, uint8_t *disk, int limited)
+/* A machine will arrive in this RAM and on this disk, where they are not null, and else in memory of the library. */
+static void await(vmig_machine *m, uint8_t *room, uint8_t *disk)
 {
-    vmig_ram ram = {room, PAGES * PAGE};
     vmig_image image = {disk, SECTORS};
+    vmig_arrival arrival = VMIG_ARRIVAL;
 
-    vmig_arrival within = VMIG_ARRIVAL;
-
-    within.most_pages = PAGES, within.most_sectors = SECTORS;
-    if (room != NULL) CALL_AGAIN("arrive over RAM", arrive_over(&ram, &image, 1, m), VMIG_OK);
-    else if (disk != NULL) CALL_AGAIN("arrive over an image", arrive_mapped(&image, 1, m), VMIG_OK);
-    else if (limited) CALL_AGAIN("arrive within limits", vmig_arrive(&within, m), VMIG_OK);
+    arrival.shapes = shapes, arrival.count = DEVICES;
+    if (room != NULL) arrival.ram = (vmig_ram){room, PAGES * PAGE};
+    else arrival.most_pages = PAGES;
+    if (disk != NULL) arrival.images = &image, arrival.count_images = 1;
+    else arrival.most_sectors = SECTORS;
+    CALL_AGAIN("arrive", vmig_arrive(&arrival, m), VMIG_OK);
 }
 
 /* A stream that was refused memory stays refused: it is freed, which gives its image back, and fed anew. */
-static void arrive(vmig_machine *m, uint8_t *room, uint8_t *disk, int limited, const uint8_t *stream, size_t len)
+static void arrive(vmig_machine *m, uint8_t *room, uint8_t *disk, const uint8_t *stream, size_t len)
 {
     vmig_image image = VMIG_NO_IMAGE;
 
-    await(m, room, disk, limited);
+    await(m, room, disk);
     if (feed(m, stream, len) == 0) return;
     told++;
     expect("feed after it", CALL(vmig_feed(m, stream, 1)), VMIG_STREAM_FAILED);
     expect("finish after it", CALL(vmig_finish(m)), VMIG_STREAM_FAILED);
-    expect("its image", CALL(vmig_unmap(m, &image, 1)), disk != NULL ? VMIG_OK : VMIG_NO_MACHINE);
+    expect("why", description_of(m).fault, VMIG_STREAM_NO_MEMORY);
+    expect("its image", CALL(vmig_release(m, &image, 1)), VMIG_OK);
     expect("is back", image.at == disk, 1);
-    CALL((vmig_free(m), 0));
-    await(m, room, disk, limited);
+    await(m, room, disk);
     expect("fed anew", (uint64_t)feed(m, stream, len), 0);
 }
 
@@ -296,15 +298,15 @@ static void lend_ram(vmig_machine *m)
     uint64_t before = requests;
 
     expect("lend", CALL(vmig_lend(m, &ram)), VMIG_OK);
-    expect("a list", CALL(vmig_give_back(m, &ram, &(uint32_t){3}, 1)), VMIG_OK);
+    expect("a list", CALL(give_back_list(m, &ram, &(uint32_t){3}, 1)), VMIG_OK);
     expect("lend", CALL(vmig_lend(m, &ram)), VMIG_OK);
     expect("requests for memory", requests, before);
-    CALL_AGAIN("a bitmap", vmig_give_back_marked(m, &ram, words, 1), VMIG_OK);
+    CALL_AGAIN("a bitmap", give_back_marked(m, &ram, words, 1), VMIG_OK);
     expect("lend", CALL(vmig_lend(m, &ram)), VMIG_OK);
-    CALL_AGAIN("all pages", vmig_give_back_all(m, &ram), VMIG_OK);
+    CALL_AGAIN("all pages", give_back_all(m, &ram), VMIG_OK);
     before = requests;
     expect("lend", CALL(vmig_lend(m, &ram)), VMIG_OK);
-    expect("a bitmap", CALL(vmig_give_back_marked(m, &ram, words, 1)), VMIG_OK);
+    expect("a bitmap", CALL(give_back_marked(m, &ram, words, 1)), VMIG_OK);
     expect("requests for memory", requests, before);
 }
 
@@ -320,7 +322,7 @@ static void make_all(void)
     CALL_AGAIN("images", make_with(PAGES, shapes, DEVICES, images, sizeof images, &m), VMIG_OK);
     CALL_AGAIN("mapped", make_mapped(PAGES, shapes, DEVICES, slots, 1, &on_images), VMIG_OK);
     alike("both kinds of images", &m, &on_images);
-    expect("unmap", CALL(vmig_unmap(&on_images, slots, 1)), VMIG_OK);
+    expect("release", CALL(vmig_release(&on_images, slots, 1)), VMIG_OK);
     expect("the image is back", (uint64_t)(slots[0].at == mapped), 1);
     CALL_AGAIN("over RAM and an image", make_over(&ram, shapes, DEVICES, slots, 1, &on_images), VMIG_OK);
     lend_ram(&on_images);
@@ -330,21 +332,33 @@ static void make_all(void)
     alike("over RAM", &m, &over);
     CALL((vmig_free(&over), 0));
     setup.shapes = shapes, setup.count = DEVICES, setup.contents = images, setup.len = sizeof images, setup.ram = (vmig_ram){room, sizeof room};
-    CALL_AGAIN("over RAM, with contents", vmig_make_as(&setup, &over), VMIG_OK);
+    CALL_AGAIN("over RAM, with contents", vmig_make(&setup, &over), VMIG_OK);
     alike("over RAM, with contents", &m, &over);
     CALL((vmig_free(&m), vmig_free(&over), 0));
+}
+
+/* The guest reboots, and what waits for it is dropped. It takes no memory. */
+static void reboot(vmig_machine *m)
+{
+    uint64_t before = requests;
+    size_t kept;
+
+    expect("input", CALL(vmig_input(m, ENTROPY, (const uint8_t *)"entropy", 7, &kept)), VMIG_OK);
+    expect("drop", CALL(vmig_drop(m, ENTROPY)), VMIG_OK);
+    expect("reset", CALL(vmig_reset(m)), VMIG_OK);
+    expect("requests for memory", requests, before);
 }
 
 /* The whole script, with one request refused. Returns how many requests there were. */
 static uint64_t play(uint64_t refused)
 {
-    static uint8_t stream[STREAM_MAX], target[DISK], other[DISK], room[PAGES * PAGE];
+    static uint8_t stream[STREAM_MAX], target[DISK], other[DISK], room[PAGES * PAGE], second[PAGES * PAGE];
     vmig_image landed[] = {VMIG_NO_IMAGE};
-    vmig_machine m = VMIG_NONE, copy = VMIG_NONE, twin = VMIG_NONE, over = VMIG_NONE, in_room = VMIG_NONE, limited = VMIG_NONE;
-    uint32_t rounds;
+    vmig_machine m = VMIG_NONE, copy = VMIG_NONE, over = VMIG_NONE, in_room = VMIG_NONE, in_second = VMIG_NONE;
+    vmig_description announced;
 
     requests = 0, refused_one = refused, told = 0, given = 0;
-    CALL_AGAIN("make", vmig_make(PAGES, shapes, DEVICES, &m), VMIG_OK);
+    CALL_AGAIN("make", make_new(PAGES, shapes, DEVICES, &m), VMIG_OK);
     run_guest(&m);
     look(&m, 0);
     if (migrate(&m)) {
@@ -352,23 +366,22 @@ static uint64_t play(uint64_t refused)
         expect("a second migration", (uint64_t)migrate(&m), 0);
     }
     size_t len = take_all(&m, stream);
-    arrive(&copy, NULL, NULL, 0, stream, len);
-    arrive(&limited, NULL, NULL, 1, stream, len);
-    arrive(&over, NULL, target, 0, stream, len);
-    arrive(&in_room, room, other, 0, stream, len);
-    if (CALL(vmig_receive(stream, len, &twin, &rounds)) == VMIG_NO_MEMORY) { told++; CALL(vmig_receive(stream, len, &twin, &rounds)); }
-    expect("receive", answer, VMIG_OK);
-    expect("rounds", rounds, 1);
-    expect("abort", CALL(vmig_abort(&m)), VMIG_OK);
+    CALL_AGAIN("announced", vmig_stream_describe(stream, len, &announced), VMIG_OK);
+    expect("its pages", announced.pages, PAGES);
+    arrive(&copy, NULL, NULL, stream, len);
+    arrive(&over, NULL, target, stream, len);
+    arrive(&in_room, room, other, stream, len);
+    arrive(&in_second, second, NULL, stream, len);
+    expect("abort", CALL(vmig_send_abort(&m)), VMIG_OK);
     alike("what arrived", &m, &copy);
-    alike("what arrived within limits", &m, &limited);
     alike("what arrived over an image", &m, &over);
-    alike("what arrived over RAM", &m, &in_room);
-    alike("what was received", &m, &twin);
-    expect("unmap", CALL(vmig_unmap(&over, landed, 1)), VMIG_OK);
+    alike("what arrived over RAM and an image", &m, &in_room);
+    alike("what arrived over RAM", &m, &in_second);
+    expect("release", CALL(vmig_release(&over, landed, 1)), VMIG_OK);
     expect("the image is back", landed[0].at == target && landed[0].sectors == SECTORS, 1);
     expect("the guest's last write", get(&copy, 0x9000, 1), 0x77);
-    CALL((vmig_free(&m), vmig_free(&copy), vmig_free(&limited), vmig_free(&twin), vmig_free(&in_room), 0));
+    reboot(&copy);
+    CALL((vmig_free(&m), vmig_free(&copy), vmig_free(&in_room), vmig_free(&in_second), 0));
     make_all();
     expect("calls that were refused", (uint64_t)told, refused != 0 && refused <= requests);
     expect("requests that are not freed", (uint64_t)given, 0);

@@ -1,21 +1,68 @@
 /* What each call answers in each state of a handle: the table of vmig.h, tried. A call that is done in a state is given what it needs
- * there; any other is told by one status, and changes nothing. */
+ * there. In every other state it is made twice: so, and with what would be refused otherwise too, such as a buffer that is too small.
+ * Both are told by the state alone, and change nothing. Memory is refused once, by a malloc of this program, for the state after a
+ * send that failed. */
 #include <stdlib.h>
 #include <string.h>
 #include "driver.h"
 
-enum { NONE, ARRIVING, IDLE, SENT, STOPPED, LENT, SENT_LENT, STATES };
+enum { NONE, ARRIVING, FAILED, IDLE, SENDING, SEND_FAILED, STOPPED, LENT, SENDING_LENT, SEND_FAILED_LENT, STATES };
 
-static const char *const STATE_NAMES[STATES] = {"none", "arriving", "idle", "being sent", "stopped", "lent", "being sent, lent"};
+static const char *const STATE_NAMES[STATES] = {
+    "none", "arriving", "failed", "idle", "sending", "send failed", "stopped", "lent", "sending, lent", "send failed, lent"};
 
-static const vmig_shape SHAPES[] = {{.kind = VMIG_ENTROPY}, {.kind = VMIG_BLOCK, .sectors = 1}};
+/* How vmig_describe says each state. */
+static const uint32_t STATE_NUMBERS[STATES] = {
+    VMIG_IS_NONE,        VMIG_IS_ARRIVING, VMIG_IS_FAILED, VMIG_IS_IDLE,    VMIG_IS_SENDING,
+    VMIG_IS_SEND_FAILED, VMIG_IS_STOPPED,  VMIG_IS_IDLE,   VMIG_IS_SENDING, VMIG_IS_SEND_FAILED};
 
-static uint8_t stream[65536], bytes[65536], ram[4096], room[4096];
-static uint64_t seen[1];
+enum { PAGES = 16, RAM = PAGES * 4096, ENTROPY = 0, DISK = 1, CONSOLE = 2, NO_DEVICE = 3 };
+
+static const vmig_shape SHAPES[] = {{.kind = VMIG_ENTROPY}, {.kind = VMIG_BLOCK, .sectors = 1}, {.kind = VMIG_CONSOLE}};
+
+/* The C library's own allocator, under the names that it keeps for a program with its own malloc. */
+void *__libc_malloc(size_t size);
+void *__libc_calloc(size_t count, size_t size);
+void *__libc_realloc(void *at, size_t size);
+void __libc_free(void *at);
+
+static int refuses;     /* whether each request for memory is refused */
+
+void *malloc(size_t size) { return refuses ? NULL : __libc_malloc(size); }
+void *calloc(size_t count, size_t size) { return refuses ? NULL : __libc_calloc(count, size); }
+void *realloc(void *old, size_t size) { return refuses ? NULL : __libc_realloc(old, size); }
+void free(void *at) { __libc_free(at); }
+
+static uint8_t stream[2 * RAM], bytes[2 * RAM], ram[RAM], room[RAM], other_room[RAM];
+static uint64_t seen[PAGES];
 static size_t stream_len;
 
 /* The RAM of the machine, room, while it is lent. */
 static vmig_ram out;
+
+/* A machine whose entropy device has an interrupt that its driver did not acknowledge. */
+static void make_one(vmig_machine *m)
+{
+    size_t kept = 0;
+
+    memset(room, 0, sizeof room);
+    out = (vmig_ram){room, sizeof room};
+    expect("make", make_over(&out, SHAPES, 3, NULL, 0, m), VMIG_OK);
+    set_up(m, 1);
+    expect("input", vmig_input(m, ENTROPY, (const uint8_t *)"sixteen letters.", 16, &kept), VMIG_OK);
+    expect("used length", ask(m, 1), 16);
+}
+
+/* Memory is refused while a page is sent. */
+static void fail_to_send(vmig_machine *m)
+{
+    vmig_status status = VMIG_OK;
+
+    refuses = 1;
+    while (status == VMIG_OK) status = vmig_send_some(m, 1);
+    refuses = 0;
+    expect("no memory for the stream", status, VMIG_SEND_FAILED);
+}
 
 /* A handle in a state, which the caller frees. */
 static vmig_machine in_state(int state)
@@ -23,129 +70,202 @@ static vmig_machine in_state(int state)
     vmig_machine m = VMIG_NONE;
     uint64_t pages = 0, sectors = 0;
 
-    out = (vmig_ram){room, sizeof room};
-    if (state == ARRIVING) expect("a first piece", vmig_feed(&m, stream, 10), VMIG_OK);
-    if (state >= IDLE) expect("make", make_over(&out, SHAPES, 2, NULL, 0, &m), VMIG_OK);
-    if (state == SENT || state == STOPPED || state == SENT_LENT) expect("begin", vmig_begin(&m), VMIG_OK);
-    if (state == STOPPED) expect("stop", vmig_stop(&m, &pages, &sectors), VMIG_OK);
+    if (state == ARRIVING || state == FAILED) {
+        expect("arrive", arrive_any(&m), VMIG_OK);
+        expect("a first piece", vmig_feed(&m, stream, 10), VMIG_OK);
+    }
+    if (state == FAILED) expect("another stream", vmig_feed(&m, stream, 100), VMIG_STREAM_BAD_SHAPE);
+    if (state >= IDLE) make_one(&m);
+    if (state >= SENDING && state != LENT) expect("begin", vmig_send_begin(&m), VMIG_OK);
+    if (state == SEND_FAILED || state == SEND_FAILED_LENT) fail_to_send(&m);
+    if (state == STOPPED) expect("stop", vmig_send_stop(&m, &pages, &sectors), VMIG_OK);
     if (state >= LENT) expect("lend", vmig_lend(&m, &out), VMIG_OK);
     return m;
 }
 
-static uint32_t make(vmig_machine *m) { return vmig_make(1, SHAPES, 2, m); }
-static uint32_t make_as(vmig_machine *m) { return make_over(&(vmig_ram){ram, sizeof ram}, SHAPES, 1, NULL, 0, m); }
-static uint32_t arrive(vmig_machine *m) { return arrive_over(&(vmig_ram){ram, sizeof ram}, NULL, 0, m); }
-static uint32_t unmap(vmig_machine *m) { vmig_image slot = VMIG_NO_IMAGE; return vmig_unmap(m, &slot, 1); }
-static uint32_t receive(vmig_machine *m) { uint32_t rounds; return vmig_receive(stream, stream_len, m, &rounds); }
-static uint32_t feed(vmig_machine *m) { return vmig_feed(m, stream, 0); }
-static uint32_t finish(vmig_machine *m)
+/* Each call, as it is done (bad is 0), and with what it would refuse. */
+static vmig_status make(vmig_machine *m, int bad)
 {
-    if (vmig_size(m, &(uint32_t){0}, &(uint32_t){0}) == VMIG_NO_MACHINE && m->at != NULL) vmig_feed(m, stream + 10, stream_len - 10);
+    vmig_setup setup = VMIG_SETUP;
+    setup.version += (uint32_t)bad, setup.pages = 1, setup.shapes = SHAPES, setup.count = 3;
+    return vmig_make(&setup, m);
+}
+
+static vmig_status arrive(vmig_machine *m, int bad)
+{
+    vmig_arrival arrival = VMIG_ARRIVAL;
+    arrival.version += (uint32_t)bad, arrival.most_pages = 1;
+    return vmig_arrive(&arrival, m);
+}
+
+static vmig_status finish(vmig_machine *m, int bad)
+{
+    if (!bad && description_of(m).state == VMIG_IS_ARRIVING)
+        expect("the rest", vmig_feed(m, stream + 10, stream_len - 10), VMIG_WHOLE);
     return vmig_finish(m);
 }
-static uint32_t rounds(vmig_machine *m) { uint32_t ended; return vmig_rounds(m, &ended); }
-static uint32_t is_whole(vmig_machine *m) { uint32_t whole; return vmig_is_whole(m, &whole); }
-static uint32_t reg_read(vmig_machine *m) { uint32_t value; return vmig_reg_read(m, 0, 0, 4, &value); }
-static uint32_t reg_write(vmig_machine *m) { uint32_t out; return vmig_reg_write(m, 0, 0x70, 4, 0, &out); }
-static uint32_t ram_read(vmig_machine *m) { return vmig_ram_read(m, 0, bytes, 1); }
-static uint32_t ram_write(vmig_machine *m) { return vmig_ram_write(m, 0, bytes, 1); }
-static uint32_t push(vmig_machine *m) { return vmig_push(m, &(uint32_t){0}, 1, ram, sizeof ram, seen, 1); }
-static uint32_t pull(vmig_machine *m) { uint32_t count; return vmig_pull(m, ram, sizeof ram, seen, 1, &count); }
-static uint32_t lend(vmig_machine *m) { vmig_ram more = VMIG_NO_RAM; return vmig_lend(m, &more); }
-static uint32_t give_back(vmig_machine *m) { return vmig_give_back(m, &out, &(uint32_t){0}, 1); }
-static uint32_t give_back_marked(vmig_machine *m) { return vmig_give_back_marked(m, &out, &(uint64_t){1}, 1); }
-static uint32_t give_back_all(vmig_machine *m) { return vmig_give_back_all(m, &out); }
-static uint32_t step(vmig_machine *m) { uint32_t len; return vmig_step(m, 0, 0, bytes, sizeof bytes, &len); }
-static uint32_t next_work(vmig_machine *m) { uint8_t dev = 0, pick = 0; return vmig_next_work(m, &dev, &pick); }
-static uint32_t input(vmig_machine *m) { uint32_t kept; return vmig_input(m, 0, bytes, 1, &kept); }
-static uint32_t resize(vmig_machine *m) { return vmig_resize(m, 0, 1, 1); }
-static uint32_t sector_read(vmig_machine *m) { return vmig_sector_read(m, 1, 0, bytes, sizeof bytes); }
-static uint32_t base(vmig_machine *m) { uint64_t first; return vmig_base(m, &first); }
-static uint32_t size(vmig_machine *m) { uint32_t pages, devices; return vmig_size(m, &pages, &devices); }
-static uint32_t must_sync(vmig_machine *m) { return vmig_must_sync(m, 1, 1); }
-static uint32_t sync_failed(vmig_machine *m) { return vmig_sync_failed(m, 1, 1); }
-static uint32_t device(vmig_machine *m) { vmig_shape shape; return vmig_device(m, 0, &shape); }
-static uint32_t saved_len(vmig_machine *m) { size_t len; return vmig_saved_len(m, &len); }
-static uint32_t save(vmig_machine *m) { size_t len; return vmig_save(m, bytes, sizeof bytes, &len); }
-static uint32_t begin(vmig_machine *m) { return vmig_begin(m); }
-static uint32_t copy(vmig_machine *m) { uint8_t dev; uint32_t number; return vmig_copy(m, &dev, &number); }
-static uint32_t end_round(vmig_machine *m) { uint32_t round; return vmig_end_round(m, &round); }
-static uint32_t stop(vmig_machine *m) { uint64_t pages, sectors; return vmig_stop(m, &pages, &sectors); }
-static uint32_t abort_it(vmig_machine *m) { return vmig_abort(m); }
-static uint32_t remaining(vmig_machine *m) { uint64_t due, dirty; return vmig_remaining(m, &due, &dirty); }
-static uint32_t take(vmig_machine *m) { size_t got; return vmig_take(m, bytes, sizeof bytes, &got); }
+
+static vmig_status release(vmig_machine *m, int bad)
+{
+    vmig_image slot = {bytes, (uint64_t)bad};
+    return vmig_release(m, &slot, (size_t)bad);
+}
+
+static vmig_status push(vmig_machine *m, int bad)
+{
+    static const uint32_t none[] = {PAGES};
+    vmig_pages written = VMIG_ALL_PAGES;
+    written.zero = (uint32_t)bad, written.list = none, written.count = (size_t)bad;
+    return vmig_push(m, &written, ram, bad ? 0 : sizeof ram, seen, PAGES);
+}
+
+static vmig_status lend(vmig_machine *m, int bad)
+{
+    vmig_ram more = {other_room, bad ? sizeof other_room : 0};
+    if (!bad) more.at = NULL;
+    return vmig_lend(m, &more);
+}
+
+static vmig_status give_back(vmig_machine *m, int bad)
+{
+    vmig_ram less = {other_room, 4096};
+    return bad ? give_back_all(m, &less) : give_back_all(m, &out);
+}
+
+static vmig_status step(vmig_machine *m, int bad)
+{
+    uint32_t len;
+    return bad ? vmig_step(m, CONSOLE, 1, NULL, 0, &len) : vmig_step(m, ENTROPY, 0, bytes, sizeof bytes, &len);
+}
+
+static uint8_t device(int bad, uint8_t dev) { return bad ? NO_DEVICE : dev; }
+static vmig_status feed(vmig_machine *m, int bad) { return vmig_feed(m, (const uint8_t *)"?", (size_t)bad); }
+static vmig_status reg_read(vmig_machine *m, int bad) { uint32_t value; return vmig_reg_read(m, device(bad, ENTROPY), 0, 4, &value); }
+static vmig_status reg_write(vmig_machine *m, int bad) { uint32_t byte; return vmig_reg_write(m, device(bad, ENTROPY), 0x70, 4, 0, &byte); }
+static vmig_status ram_read(vmig_machine *m, int bad) { return vmig_ram_read(m, bad ? RAM : 0, bytes, bad ? 5000 : 1); }
+static vmig_status ram_write(vmig_machine *m, int bad) { return vmig_ram_write(m, bad ? RAM : 0, bytes, bad ? 5000 : 1); }
+static vmig_status pull(vmig_machine *m, int bad) { uint32_t count; return vmig_pull(m, ram, bad ? 0 : sizeof ram, seen, PAGES, &count); }
+static vmig_status next(vmig_machine *m, int bad) { uint8_t dev = device(bad, 0), pick = 0; return vmig_next(m, &dev, &pick); }
+static vmig_status input(vmig_machine *m, int bad) { size_t kept; return vmig_input(m, device(bad, ENTROPY), bytes, 1, &kept); }
+static vmig_status room_of(vmig_machine *m, int bad) { size_t left; return vmig_room(m, bad ? DISK : ENTROPY, &left); }
+static vmig_status resize(vmig_machine *m, int bad) { return vmig_resize(m, device(bad, CONSOLE), 1, 1); }
+static vmig_status drop(vmig_machine *m, int bad) { return vmig_drop(m, bad ? DISK : ENTROPY); }
+static vmig_status reset(vmig_machine *m, int bad) { (void)bad; return vmig_reset(m); }
+static vmig_status sync_failed(vmig_machine *m, int bad) { return vmig_sync_failed(m, bad ? CONSOLE : DISK); }
+static vmig_status sector_read(vmig_machine *m, int bad) { return vmig_sector_read(m, DISK, bad ? 7 : 0, bytes); }
+static vmig_status save(vmig_machine *m, int bad) { size_t len; return vmig_save(m, bytes, bad ? 0 : sizeof bytes, &len); }
+static vmig_status send_begin(vmig_machine *m, int bad) { (void)bad; return vmig_send_begin(m); }
+static vmig_status send_some(vmig_machine *m, int bad) { return vmig_send_some(m, bad ? 0 : 1); }
+static vmig_status send_round(vmig_machine *m, int bad) { (void)bad; return vmig_send_round(m); }
+static vmig_status send_stop(vmig_machine *m, int bad) { uint64_t pages, sectors; (void)bad; return vmig_send_stop(m, &pages, &sectors); }
+static vmig_status send_abort(vmig_machine *m, int bad) { (void)bad; return vmig_send_abort(m); }
+static vmig_status send_left(vmig_machine *m, int bad) { vmig_left left; (void)bad; return vmig_send_left(m, &left); }
+static vmig_status send_take(vmig_machine *m, int bad) { size_t got; return vmig_send_take(m, bytes, bad ? 0 : sizeof bytes, &got); }
+
+/* A call of an idle machine, and of one that is sent, that answers DONE there, with what it answers in the other states. */
+#define NO_MACHINE_YET VMIG_NO_MACHINE, VMIG_NO_MACHINE, VMIG_NO_MACHINE
+#define WHILE_LENT VMIG_LENT, VMIG_LENT, VMIG_LENT
+#define OF_GUEST(DONE) {NO_MACHINE_YET, DONE, DONE, DONE, VMIG_STOPPED, WHILE_LENT}
+#define OF_LOOK(DONE) {NO_MACHINE_YET, DONE, DONE, DONE, DONE, WHILE_LENT}
+#define OF_IDLE(FAILURE) {NO_MACHINE_YET, VMIG_OK, VMIG_SENDING, FAILURE, VMIG_SENDING, WHILE_LENT}
+#define OF_SENDER(DONE) {NO_MACHINE_YET, VMIG_NOT_SENDING, DONE, VMIG_SEND_FAILED, VMIG_STOPPED, WHILE_LENT}
+#define OF_SENT(DONE) {NO_MACHINE_YET, VMIG_NOT_SENDING, DONE, DONE, DONE, WHILE_LENT}
+
+/* A call that makes a machine, or goes on with one that arrives. */
+#define IN_USE_7 VMIG_IN_USE, VMIG_IN_USE, VMIG_IN_USE, VMIG_IN_USE, VMIG_IN_USE, VMIG_IN_USE, VMIG_IN_USE
+#define OF_NONE {VMIG_OK, VMIG_IN_USE, VMIG_IN_USE, IN_USE_7}
+#define OF_ARRIVAL {VMIG_NO_MACHINE, VMIG_OK, VMIG_STREAM_FAILED, IN_USE_7}
 
 typedef struct {
     const char *name;
-    uint32_t (*call)(vmig_machine *);
-    uint32_t wanted[STATES];
+    vmig_status (*call)(vmig_machine *, int);
+    vmig_status wanted[STATES];
 } Row;
 
 static const Row ROWS[] = {
-    {"vmig_make", make, {VMIG_OK, VMIG_IN_USE, VMIG_IN_USE, VMIG_IN_USE, VMIG_IN_USE, VMIG_IN_USE, VMIG_IN_USE}},
-    {"vmig_make_as", make_as, {VMIG_OK, VMIG_IN_USE, VMIG_IN_USE, VMIG_IN_USE, VMIG_IN_USE, VMIG_IN_USE, VMIG_IN_USE}},
-    {"vmig_arrive", arrive, {VMIG_OK, VMIG_IN_USE, VMIG_IN_USE, VMIG_IN_USE, VMIG_IN_USE, VMIG_IN_USE, VMIG_IN_USE}},
-    {"vmig_receive", receive, {VMIG_OK, VMIG_IN_USE, VMIG_IN_USE, VMIG_IN_USE, VMIG_IN_USE, VMIG_IN_USE, VMIG_IN_USE}},
-    {"vmig_feed", feed, {VMIG_OK, VMIG_OK, VMIG_IN_USE, VMIG_IN_USE, VMIG_IN_USE, VMIG_IN_USE, VMIG_IN_USE}},
-    {"vmig_finish", finish, {VMIG_NO_MACHINE, VMIG_OK, VMIG_IN_USE, VMIG_IN_USE, VMIG_IN_USE, VMIG_IN_USE, VMIG_IN_USE}},
-    {"vmig_rounds", rounds, {VMIG_NO_MACHINE, VMIG_OK, VMIG_IN_USE, VMIG_IN_USE, VMIG_IN_USE, VMIG_IN_USE, VMIG_IN_USE}},
-    {"vmig_is_whole", is_whole, {VMIG_NO_MACHINE, VMIG_OK, VMIG_IN_USE, VMIG_IN_USE, VMIG_IN_USE, VMIG_IN_USE, VMIG_IN_USE}},
-    {"vmig_reg_read", reg_read, {VMIG_NO_MACHINE, VMIG_NO_MACHINE, VMIG_OK, VMIG_OK, VMIG_STOPPED, VMIG_LENT, VMIG_LENT}},
-    {"vmig_reg_write", reg_write, {VMIG_NO_MACHINE, VMIG_NO_MACHINE, VMIG_OK, VMIG_OK, VMIG_STOPPED, VMIG_LENT, VMIG_LENT}},
-    {"vmig_ram_write", ram_write, {VMIG_NO_MACHINE, VMIG_NO_MACHINE, VMIG_OK, VMIG_OK, VMIG_STOPPED, VMIG_LENT, VMIG_LENT}},
-    {"vmig_push", push, {VMIG_NO_MACHINE, VMIG_NO_MACHINE, VMIG_OK, VMIG_OK, VMIG_STOPPED, VMIG_LENT, VMIG_LENT}},
-    {"vmig_step", step, {VMIG_NO_MACHINE, VMIG_NO_MACHINE, VMIG_IDLE, VMIG_IDLE, VMIG_STOPPED, VMIG_LENT, VMIG_LENT}},
-    {"vmig_input", input, {VMIG_NO_MACHINE, VMIG_NO_MACHINE, VMIG_OK, VMIG_OK, VMIG_STOPPED, VMIG_LENT, VMIG_LENT}},
-    {"vmig_resize", resize,
-     {VMIG_NO_MACHINE, VMIG_NO_MACHINE, VMIG_WRONG_KIND, VMIG_WRONG_KIND, VMIG_STOPPED, VMIG_LENT, VMIG_LENT}},
-    {"vmig_next_work", next_work, {VMIG_NO_MACHINE, VMIG_NO_MACHINE, VMIG_IDLE, VMIG_IDLE, VMIG_STOPPED, VMIG_LENT, VMIG_LENT}},
-    {"vmig_ram_read", ram_read, {VMIG_NO_MACHINE, VMIG_NO_MACHINE, VMIG_OK, VMIG_OK, VMIG_OK, VMIG_LENT, VMIG_LENT}},
-    {"vmig_pull", pull, {VMIG_NO_MACHINE, VMIG_NO_MACHINE, VMIG_OK, VMIG_OK, VMIG_OK, VMIG_LENT, VMIG_LENT}},
-    {"vmig_lend", lend, {VMIG_NO_MACHINE, VMIG_NO_MACHINE, VMIG_OK, VMIG_OK, VMIG_STOPPED, VMIG_LENT, VMIG_LENT}},
+    {"vmig_make", make, OF_NONE},
+    {"vmig_arrive", arrive, OF_NONE},
+    {"vmig_feed", feed, OF_ARRIVAL},
+    {"vmig_finish", finish, OF_ARRIVAL},
+    {"vmig_release", release,
+     {VMIG_NO_MACHINE, VMIG_OK, VMIG_OK, VMIG_OK, VMIG_OK, VMIG_OK, VMIG_OK, WHILE_LENT}},
+    {"vmig_reg_read", reg_read, OF_GUEST(VMIG_OK)},
+    {"vmig_reg_write", reg_write, OF_GUEST(VMIG_OK)},
+    {"vmig_ram_write", ram_write, OF_GUEST(VMIG_OK)},
+    {"vmig_input", input, OF_GUEST(VMIG_OK)},
+    {"vmig_resize", resize, OF_GUEST(VMIG_OK)},
+    {"vmig_drop", drop, OF_GUEST(VMIG_OK)},
+    {"vmig_reset", reset, OF_GUEST(VMIG_OK)},
+    {"vmig_next", next, OF_GUEST(VMIG_IDLE)},
+    {"vmig_step", step, OF_GUEST(VMIG_IDLE)},
+    {"vmig_push", push, OF_GUEST(VMIG_OK)},
+    {"vmig_sync_failed", sync_failed, OF_GUEST(VMIG_OK)},
+    {"vmig_lend", lend, OF_GUEST(VMIG_OK)},
+    {"vmig_ram_read", ram_read, OF_LOOK(VMIG_OK)},
+    {"vmig_pull", pull, OF_LOOK(VMIG_OK)},
+    {"vmig_room", room_of, OF_LOOK(VMIG_OK)},
     {"vmig_give_back", give_back,
-     {VMIG_NO_MACHINE, VMIG_NO_MACHINE, VMIG_NOT_LENT, VMIG_NOT_LENT, VMIG_NOT_LENT, VMIG_OK, VMIG_OK}},
-    {"vmig_give_back_marked", give_back_marked,
-     {VMIG_NO_MACHINE, VMIG_NO_MACHINE, VMIG_NOT_LENT, VMIG_NOT_LENT, VMIG_NOT_LENT, VMIG_OK, VMIG_OK}},
-    {"vmig_give_back_all", give_back_all,
-     {VMIG_NO_MACHINE, VMIG_NO_MACHINE, VMIG_NOT_LENT, VMIG_NOT_LENT, VMIG_NOT_LENT, VMIG_OK, VMIG_OK}},
-    {"vmig_size", size, {VMIG_NO_MACHINE, VMIG_NO_MACHINE, VMIG_OK, VMIG_OK, VMIG_OK, VMIG_OK, VMIG_OK}},
-    {"vmig_base", base, {VMIG_NO_MACHINE, VMIG_NO_MACHINE, VMIG_OK, VMIG_OK, VMIG_OK, VMIG_OK, VMIG_OK}},
-    {"vmig_device", device, {VMIG_NO_MACHINE, VMIG_NO_MACHINE, VMIG_OK, VMIG_OK, VMIG_OK, VMIG_OK, VMIG_OK}},
-    {"vmig_must_sync", must_sync, {VMIG_NO_MACHINE, VMIG_NO_MACHINE, VMIG_OK, VMIG_OK, VMIG_OK, VMIG_LENT, VMIG_LENT}},
-    {"vmig_sync_failed", sync_failed,
-     {VMIG_NO_MACHINE, VMIG_NO_MACHINE, VMIG_SYNC_FAILED, VMIG_SYNC_FAILED, VMIG_STOPPED, VMIG_LENT, VMIG_LENT}},
-    {"vmig_sector_read", sector_read,
-     {VMIG_NO_MACHINE, VMIG_NO_MACHINE, VMIG_OK, VMIG_MOVING, VMIG_MOVING, VMIG_LENT, VMIG_LENT}},
-    {"vmig_saved_len", saved_len, {VMIG_NO_MACHINE, VMIG_NO_MACHINE, VMIG_OK, VMIG_MOVING, VMIG_MOVING, VMIG_LENT, VMIG_LENT}},
-    {"vmig_save", save, {VMIG_NO_MACHINE, VMIG_NO_MACHINE, VMIG_OK, VMIG_MOVING, VMIG_MOVING, VMIG_LENT, VMIG_LENT}},
-    {"vmig_begin", begin, {VMIG_NO_MACHINE, VMIG_NO_MACHINE, VMIG_OK, VMIG_BEGUN_ALREADY, VMIG_STOPPED, VMIG_LENT, VMIG_LENT}},
-    {"vmig_copy", copy, {VMIG_NO_MACHINE, VMIG_NO_MACHINE, VMIG_NOT_BEGUN, VMIG_PAGE, VMIG_STOPPED, VMIG_LENT, VMIG_LENT}},
-    {"vmig_end_round", end_round,
-     {VMIG_NO_MACHINE, VMIG_NO_MACHINE, VMIG_NOT_BEGUN, VMIG_ROUND_OPEN, VMIG_STOPPED, VMIG_LENT, VMIG_LENT}},
-    {"vmig_stop", stop, {VMIG_NO_MACHINE, VMIG_NO_MACHINE, VMIG_NOT_BEGUN, VMIG_OK, VMIG_STOPPED, VMIG_LENT, VMIG_LENT}},
-    {"vmig_remaining", remaining, {VMIG_NO_MACHINE, VMIG_NO_MACHINE, VMIG_NOT_BEGUN, VMIG_OK, VMIG_OK, VMIG_LENT, VMIG_LENT}},
-    {"vmig_take", take, {VMIG_NO_MACHINE, VMIG_NO_MACHINE, VMIG_NOT_BEGUN, VMIG_OK, VMIG_OK, VMIG_NOT_BEGUN, VMIG_OK}},
-    {"vmig_abort", abort_it, {VMIG_NO_MACHINE, VMIG_NO_MACHINE, VMIG_NOT_BEGUN, VMIG_OK, VMIG_OK, VMIG_LENT, VMIG_LENT}},
-    {"vmig_unmap", unmap,
-     {VMIG_NO_MACHINE, VMIG_NO_MACHINE, VMIG_NOT_MAPPED, VMIG_NOT_MAPPED, VMIG_NOT_MAPPED, VMIG_NOT_MAPPED, VMIG_NOT_MAPPED}},
+     {NO_MACHINE_YET, VMIG_NOT_LENT, VMIG_NOT_LENT, VMIG_NOT_LENT, VMIG_NOT_LENT, VMIG_OK, VMIG_OK, VMIG_OK}},
+    {"vmig_sector_read", sector_read, OF_IDLE(VMIG_SENDING)},
+    {"vmig_save", save, OF_IDLE(VMIG_SENDING)},
+    {"vmig_send_begin", send_begin, OF_IDLE(VMIG_SEND_FAILED)},
+    {"vmig_send_some", send_some, OF_SENDER(VMIG_OK)},
+    {"vmig_send_round", send_round, OF_SENDER(VMIG_ROUND_OPEN)},
+    {"vmig_send_stop", send_stop, OF_SENDER(VMIG_OK)},
+    {"vmig_send_abort", send_abort, OF_SENT(VMIG_OK)},
+    {"vmig_send_left", send_left, OF_SENT(VMIG_OK)},
+    {"vmig_send_take", send_take,
+     {NO_MACHINE_YET, VMIG_NOT_SENDING, VMIG_OK, VMIG_OK, VMIG_OK, VMIG_NOT_SENDING, VMIG_OK, VMIG_OK}},
 };
+
+/* The handle is as it is described. Its lines can be read in each state. */
+static void is_described(const char *what, const vmig_machine *m, int state)
+{
+    vmig_description found = description_of(m);
+
+    expect(what, found.state, STATE_NUMBERS[state]);
+    expect(what, found.lent, state >= LENT);
+    expect(what, found.pages, state < IDLE ? 0 : PAGES);
+    expect(what, found.count, state < IDLE ? 0 : 3);
+    expect(what, found.rounds, STATE_NUMBERS[state] >= VMIG_IS_SENDING);
+    expect(what, found.fault, STATE_NUMBERS[state] == VMIG_IS_SEND_FAILED ? VMIG_SEND_FAILED : state == FAILED ? VMIG_STREAM_BAD_SHAPE : 0);
+    expect(what, found.fault_at, state == FAILED ? 10 : 0);
+    expect("lines", vmig_lines(m), state >= IDLE);
+}
+
+/* A call that the state refuses changes nothing. */
+static void refuses_so(const char *what, const Row *row, int state, int bad)
+{
+    vmig_machine m = in_state(state);
+    vmig_description before = description_of(&m), after;
+
+    expect(what, row->call(&m, bad), row->wanted[state]);
+    after = description_of(&m);
+    expect(what, (uint64_t)memcmp(&before, &after, sizeof before), 0);
+    if (state >= LENT) expect("it is still lent", give_back_all(&m, &out), VMIG_OK);
+    vmig_free(&m);
+}
 
 int main(void)
 {
-    vmig_machine source = in_state(IDLE);
+    vmig_machine source = VMIG_NONE;
     char what[80];
 
+    make_one(&source);
     expect("save", vmig_save(&source, stream, sizeof stream, &stream_len), VMIG_OK);
     vmig_free(&source);
     for (size_t row = 0; row < sizeof ROWS / sizeof *ROWS; row++) {
         for (int state = NONE; state < STATES; state++) {
             vmig_machine m = in_state(state);
-            expect("lines", vmig_lines(&m), 0);
             snprintf(what, sizeof what, "%s of %s", ROWS[row].name, STATE_NAMES[state]);
-            expect(what, ROWS[row].call(&m), ROWS[row].wanted[state]);
-            if (state >= LENT && out.at != NULL) expect("it is still lent", vmig_give_back_all(&m, &out), VMIG_OK);
+            is_described(what, &m, state);
+            expect(what, ROWS[row].call(&m, 0), ROWS[row].wanted[state]);
+            if (state >= LENT && out.at != NULL) expect("it is still lent", give_back_all(&m, &out), VMIG_OK);
             vmig_free(&m);
             expect("freed", m.at != NULL, 0);
+            if (!vmig_refused(ROWS[row].wanted[state])) continue;
+            refuses_so(what, &ROWS[row], state, 0);
+            refuses_so(what, &ROWS[row], state, 1);
         }
     }
     return ended("states");

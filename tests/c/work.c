@@ -31,7 +31,7 @@ static void expect_ended(vmig_machine *m, uint32_t count)
 
 static void make(vmig_machine *m)
 {
-    expect("make", vmig_make(16, shapes, 2, m), VMIG_OK);
+    expect("make", make_new(16, shapes, 2, m), VMIG_OK);
     set_up(m, 1);
     offer_all(m);
 }
@@ -53,11 +53,11 @@ int main(void)
     uint64_t pages, sectors;
     size_t got;
 
-    expect("no machine", vmig_next_work(&m, &dev, &pick), VMIG_NO_MACHINE);
+    expect("no machine", vmig_next(&m, &dev, &pick), VMIG_NO_MACHINE);
     make(&m);
     expect("steps", serve(&m), 3 * REQUESTS + 1);
     expect_ended(&m, REQUESTS);
-    expect("no work", vmig_next_work(&m, &dev, &pick), VMIG_IDLE);
+    expect("no work", vmig_next(&m, &dev, &pick), VMIG_IDLE);
     expect("the device as it was", dev, 3);
     expect("the pick as it was", pick, 7);
     vmig_free(&m);
@@ -65,7 +65,7 @@ int main(void)
     make(&m);
     serve_badly(&m);
     expect_ended(&m, 8);
-    expect("work", vmig_next_work(&m, &dev, &pick), VMIG_WORK);
+    expect("work", vmig_next(&m, &dev, &pick), VMIG_WORK);
     expect("its device", dev, 0);
     expect("its pick", pick, 0);
     expect("steps", serve(&m), 3 * (REQUESTS - 8) + 1);
@@ -73,14 +73,15 @@ int main(void)
     vmig_free(&m);
 
     make(&m);
-    expect("begin", vmig_begin(&m), VMIG_OK);
+    expect("begin", vmig_send_begin(&m), VMIG_OK);
     expect("steps", serve(&m), 3 * REQUESTS + 1);
     expect_ended(&m, REQUESTS);
-    expect("stop", vmig_stop(&m, &pages, &sectors), VMIG_OK);
-    expect("stopped", vmig_next_work(&m, &dev, &pick), VMIG_STOPPED);
-    expect("take", vmig_take(&m, buf, sizeof buf, &got), VMIG_OK);
+    expect("stop", vmig_send_stop(&m, &pages, &sectors), VMIG_OK);
+    expect("stopped", vmig_next(&m, &dev, &pick), VMIG_STOPPED);
+    expect("take", vmig_send_take(&m, buf, sizeof buf, &got), VMIG_OK);
+    expect("arrive", arrive_any(&arriving), VMIG_OK);
     expect("feed", vmig_feed(&arriving, buf, got), VMIG_OK);
-    expect("arriving", vmig_next_work(&arriving, &dev, &pick), VMIG_NO_MACHINE);
+    expect("arriving", vmig_next(&arriving, &dev, &pick), VMIG_NO_MACHINE);
     vmig_free(&arriving);
     vmig_free(&m);
     return ended("work");
