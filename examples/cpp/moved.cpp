@@ -10,6 +10,7 @@
 
 using vmig::lent;
 using vmig::machine;
+using vmig::refused;
 using vmig::status;
 
 namespace {
@@ -32,8 +33,9 @@ void expect(const char *what, bool holds)
 
 void write(machine &m, std::uint32_t off, std::uint32_t value)
 {
-    std::uint32_t out = 0;
-    expect("register write", m.reg_write(0, off, 4, value, &out), status::ok);
+    std::uint32_t byte = 0;
+    expect("register write", m.reg_write(0, off, 4, value, &byte), status::ok);
+    expect("no byte", byte == VMIG_NO_BYTE);
 }
 
 template <std::size_t N>
@@ -45,7 +47,7 @@ void store(machine &m, std::uint64_t addr, const std::uint8_t (&bytes)[N])
 // The driver of the console readies its transmit queue, of one descriptor, and kicks (VIRTIO 1.2, 3.1 and 2.7).
 machine console_that_prints(const char (&text)[6])
 {
-    static const vmig_shape shape = {VMIG_CONSOLE, 0, {}, 0, {}};
+    static const vmig_shape shape = {VMIG_CONSOLE, 0, {}, 0, {}, 0, {}};
     const std::uint8_t descriptor[16] = {0, 0x40, 0, 0, 0, 0, 0, 0, sizeof text - 1};
     const std::uint8_t available[6] = {0, 0, 1, 0, 0, 0};
     const std::uint32_t setup[][2] = {{0x070, 3}, {0x024, 1}, {0x020, 1}, {0x070, 0xb}, {0x030, 1}, {0x038, 1},
@@ -54,9 +56,9 @@ machine console_that_prints(const char (&text)[6])
 
     vmig_setup asked = VMIG_SETUP;
     asked.version = 2;
-    expect("a setup of another version", m.make_as(&asked), status::not_known);
+    expect("a setup of another version", m.make(&asked), status::not_known);
     asked.version = 1, asked.pages = 16, asked.shapes = &shape, asked.count = 1;
-    expect("make", m.make_as(&asked), status::ok);
+    expect("make", m.make(&asked), status::ok);
     for (const auto &step : setup) write(m, step[0], step[1]);
     store(m, 0x1000, descriptor);
     store(m, 0x2000, available);
@@ -71,18 +73,30 @@ std::string printed(machine &m)
     std::uint8_t dev = 0, pick = 0;
     std::uint32_t len = 0;
 
-    expect("work", m.next_work(&dev, &pick), status::work);
+    expect("work", m.next(&dev, &pick), status::work);
     expect("step", m.step(dev, pick, buf, sizeof buf, &len), status::sent);
     return std::string(reinterpret_cast<const char *>(buf), len);
 }
 
-std::vector<std::uint8_t> stream_of(machine &m)
+std::vector<std::uint8_t> stream_of(const machine &m)
 {
     std::size_t len = 0;
-    expect("length", m.saved_len(&len), status::ok);
+    expect("length", m.save(nullptr, 0, &len), status::more);
     std::vector<std::uint8_t> stream(len);
     expect("save", m.save(stream.data(), stream.size(), &len), status::ok);
     return stream;
+}
+
+// The machine of a whole stream, of 16 pages at most. Returns why it is refused; then there is none.
+status receive(machine &m, const std::vector<std::uint8_t> &stream)
+{
+    vmig_arrival arrival = VMIG_ARRIVAL;
+    arrival.most_pages = 16;
+    expect("arrive", m.arrive(&arrival), status::ok);
+    status told = m.feed(stream.data(), stream.size());
+    if (!refused(told)) told = m.finish();
+    if (refused(told)) m.free();
+    return told;
 }
 
 // The machine arrives in memory of this program. Its guest, which runs there, changes a byte of the text before it is printed.
@@ -90,11 +104,13 @@ void lends(const std::vector<std::uint8_t> &stream)
 {
     std::vector<std::uint8_t> memory(16 * 4096);
     vmig_arrival arrival = VMIG_ARRIVAL, small = VMIG_ARRIVAL;
-    const std::uint32_t pages[] = {4, 16};
+    const std::uint32_t list[] = {4, 16};
     const std::uint64_t words[] = {1u << 4};
+    vmig_pages pages = VMIG_NO_PAGES, marked = VMIG_NO_PAGES, all = VMIG_ALL_PAGES;
     machine m;
     lent loan;
 
+    pages.list = list, pages.count = 2, marked.words = words, marked.count_words = 1;
     small.most_pages = 15;
     expect("a page fewer", m.arrive(&small), status::ok);
     expect("too large", m.feed(stream.data(), stream.size()), status::stream_too_large);
@@ -102,51 +118,52 @@ void lends(const std::vector<std::uint8_t> &stream)
     arrival.ram = {memory.data(), memory.size()};
     expect("arrive", m.arrive(&arrival), status::ok);
     expect("taken", arrival.ram.at == nullptr && arrival.ram.len == 0);
-    expect("feed", m.feed(stream.data(), stream.size()), status::ok);
+    expect("feed", m.feed(stream.data(), stream.size()), status::whole);
     expect("finish", m.finish(), status::ok);
     expect("lend", std::move(m).lend(&loan), status::ok);
-    expect("no machine meanwhile", m.begin(), status::no_machine);
+    expect("no machine meanwhile", m.send_begin(), status::no_machine);
     expect("its bytes", loan.data() == memory.data() && loan.size_bytes() == memory.size());
     loan.data()[0x4000] = 'j';
-    expect("no such page", std::move(loan).give_back(pages, 2, &m), status::out_of_ram);
+    expect("no such page", std::move(loan).give_back(pages, &m), status::out_of_ram);
     expect("its lines", loan.lines() == 0);
-    expect("a list", std::move(loan).give_back(pages, 1, &m), status::ok);
+    pages.count = 1;
+    expect("a list", std::move(loan).give_back(pages, &m), status::ok);
     expect("the text", printed(m) == "jello");
     expect("lend", std::move(m).lend(&loan), status::ok);
-    expect("a bitmap", std::move(loan).give_back_marked(words, 1, &m), status::ok);
+    expect("a bitmap", std::move(loan).give_back(marked, &m), status::ok);
     expect("lend", std::move(m).lend(&loan), status::ok);
-    expect("all", std::move(loan).give_back_all(&m), status::ok);
-    expect("not given back again", std::move(loan).give_back_all(&m), status::no_machine);
+    expect("all", std::move(loan).give_back(all, &m), status::ok);
+    expect("not given back again", std::move(loan).give_back(all, &m), status::no_machine);
 }
 
 }  // namespace
 
 int main()
 {
-    std::uint32_t rounds = 0, pages = 0, devices = 0;
-    std::uint64_t base = 77;
     machine first = console_that_prints("hello");
     std::vector<std::uint8_t> stream = stream_of(first);
     machine second = std::move(first);
     machine arrived;
     lent loan;
+    vmig_description announced;
 
-    expect("moved away", first.size(&pages, &devices), status::no_machine);
-    expect("announced", vmig::stream_size(stream.data(), stream.size(), &pages, &devices), status::ok);
-    expect("its size", pages == 16 && devices == 1);
-    expect("receive", arrived.receive(stream.data(), stream.size(), &rounds), status::ok);
+    expect("moved away", first.describe().state == VMIG_IS_NONE);
+    expect("announced", vmig::stream_describe(stream.data(), stream.size(), &announced), status::ok);
+    expect("its size", announced.pages == 16 && announced.count == 1);
+    expect("a part announces nothing", vmig::stream_describe(stream.data(), 16, &announced), status::more);
+    expect("receive", receive(arrived, stream), status::ok);
     expect("the text", printed(second) == "hello");
     expect("the text of the one that arrived", printed(arrived) == "hello");
     expect("the same machine", stream_of(second) == stream_of(arrived));
-    expect("RAM of the library", std::move(arrived).lend(&loan), status::not_over);
+    expect("RAM of the library", std::move(arrived).lend(&loan), status::not_yours);
     lends(stream);
     second = std::move(arrived);
-    expect("moved over", second.size(&pages, &devices), status::ok);
-    expect("its base", second.base(&base) == status::ok && base == 0);
+    expect("moved over", second.describe().state == VMIG_IS_IDLE);
+    expect("its base", second.describe().base == 0);
     expect("version", vmig::version() == VMIG_VERSION_NUMBER);
     stream[stream.size() / 2] ^= 1;
-    expect("damaged", arrived.receive(stream.data(), stream.size(), &rounds), status::stream_bad_digest);
-    expect("a refusal", !vmig::is_done(status::stream_bad_digest) && vmig::is_done(status::sent));
+    expect("damaged", receive(arrived, stream), status::stream_bad_digest);
+    expect("a refusal", vmig::refused(status::stream_bad_digest) && !vmig::refused(status::sent));
 
     std::printf(failures == 0 ? "moved: all as expected\n" : "moved: %d not as expected\n", failures);
     return failures != 0;

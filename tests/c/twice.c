@@ -29,7 +29,7 @@ static void put_in(vmig_machine *m, uint8_t dev, const char *text)
 /* The driver asks for what comes next, as its `count`-th buffer. Returns whether there was something, which begins with this text. */
 static int reads(vmig_machine *m, uint8_t dev, uint32_t count, const char *text)
 {
-    uint32_t before = dev == NETWORK ? HEADER : 0, len = 0, at = BUFFERS + dev * 0x1000;
+    uint32_t before = dev == NETWORK ? HEADER : 0, len = 0, at = BUFFERS + dev * 0x1000u;
     uint8_t none[1], got[LENGTH];
     vmig_status status;
 
