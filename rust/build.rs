@@ -15,7 +15,10 @@ fn main() {
     println!("cargo:rerun-if-env-changed=VMIG_LIB");
     println!("cargo:rerun-if-env-changed=PKG_CONFIG_PATH");
     match library_folder() {
-        Some(folder) => println!("cargo:rustc-link-search=native={folder}"),
+        Some(folder) => {
+            println!("cargo:rustc-link-search=native={folder}");
+            println!("cargo:rerun-if-changed={folder}/libvmig.a");
+        }
         None => println!("cargo:warning=libvmig.a is not found: install it, and set VMIG_LIB or PKG_CONFIG_PATH"),
     }
     println!("cargo:rustc-link-lib=static=vmig");

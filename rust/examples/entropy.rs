@@ -1,6 +1,7 @@
 //! A driver that reads entropy over a split ring. Its machine then moves to another one while it runs, and both are the same.
 
-use vmig::{Arrival, Device, Error, Machine, Memory, Step, announced};
+use std::error::Error as AnyError;
+use vmig::{Arrival, Device, Error, Left, Machine, Memory, Next, Step, announced};
 
 /// Where the driver keeps its queue (VIRTIO 1.2, 2.7), and its buffer.
 const DESCRIPTORS: u64 = 0x1000;
@@ -32,16 +33,17 @@ fn set_up(machine: &mut Machine) -> Result<(), Error> {
 
 fn serve(machine: &mut Machine) -> Result<(), Error> {
     let mut none = [0; 0];
-    assert_eq!(machine.next_work((0, 0)), None);
+    assert_eq!(machine.next((0, 0))?, Next::Idle);
     assert_eq!(machine.step(0, 0, &mut none)?, Step::Idle);
     assert_eq!(machine.input(0, &[7; 20])?, 20);
-    assert_eq!(machine.next_work((0, 0)), Some((0, 0)));
+    assert_eq!(machine.room(0)?, 4096 - 20);
+    assert_eq!(machine.next((0, 0))?, Next::Work(0, 0));
     assert_eq!(machine.step(0, 0, &mut none)?, Step::Completed(16));
 
     // Bytes are left, and the queue is still notified. The next step finds it empty.
-    assert_eq!(machine.next_work((0, 0)), Some((0, 0)));
+    assert_eq!(machine.next((0, 0))?, Next::Work(0, 0));
     assert_eq!(machine.step(0, 0, &mut none)?, Step::Idle);
-    assert_eq!(machine.next_work((0, 0)), None);
+    assert_eq!(machine.next((0, 0))?, Next::Idle);
     let mut bytes = [0; 16];
     machine.read_ram(BUFFER, &mut bytes)?;
     assert_eq!(bytes, [7; 16]);
@@ -49,63 +51,95 @@ fn serve(machine: &mut Machine) -> Result<(), Error> {
     Ok(())
 }
 
-/// What waits to be sent goes to the other side, piece by piece.
-fn carry(machine: &mut Machine, arrival: &mut Arrival) -> Result<(), Error> {
+/// What waits to be sent goes to the other side, piece by piece. Whether the stream is whole.
+fn carry(machine: &mut Machine, arrival: &mut Arrival) -> Result<bool, Error> {
     let mut piece = [0; 1000];
     loop {
-        match machine.take(&mut piece)? {
-            0 => return Ok(()),
+        match machine.send_take(&mut piece)? {
+            0 => return arrival.feed(&[]),
             got => arrival.feed(&piece[..got])?,
-        }
+        };
     }
 }
 
 fn send(mut machine: Machine) -> Result<Machine, Error> {
-    let mut arrival = Arrival::new();
-    machine.begin()?;
-    while machine.copy()?.is_some() {
-        carry(&mut machine, &mut arrival)?;
+    let mut arrival = Arrival::within(16, 0)?;
+    machine.send_begin()?;
+    while machine.send_some(1)? {
+        assert!(!carry(&mut machine, &mut arrival)?);
     }
-    assert_eq!(machine.end_round()?, Some(2));
+    assert!(machine.send_round()?);
     machine.write_ram(0x5000, &[1, 2, 3])?;
-    assert_eq!(machine.remaining()?, (0, 1));
-    assert_eq!(machine.stop()?, (1, 0));
-    carry(&mut machine, &mut arrival)?;
+    let left = machine.send_left()?;
+    assert_eq!((left.due_pages, left.dirty_pages, left.due_sectors, left.dirty_sectors), (0, 1, 0, 0));
+    assert_eq!(machine.send_stop()?, (1, 0));
+    assert!(carry(&mut machine, &mut arrival)?);
     assert_eq!(machine.write_ram(0, &[1]), Err(Error::Stopped));
-    assert_eq!(arrival.rounds(), 1);
-    arrival.finish()
+    assert_eq!(machine.next((0, 0)), Err(Error::Stopped));
+    assert_eq!((arrival.rounds(), arrival.is_whole(), arrival.fault()), (1, true, None));
+    arrival.finish().map_err(|refused| refused.error)
 }
 
 /// A guest runs on memory of this program. Its machine moves into other memory, while page 6 is lent and written.
-fn lend() -> Result<(), Error> {
+fn lend() -> Result<(), Box<dyn AnyError>> {
     let mut memory = Memory::zeros(16)?;
     memory[0x5000] = 9;
-    let refused = Machine::over(memory, &[]).err().expect("no device");
-    let mut machine = Machine::over(refused.value, &[Device::Entropy])?;
+    let (why, memory) = Machine::over(memory, &[]).unwrap_err().into_parts();
+    assert_eq!(why, Error::BadShape);
+    let mut machine = Machine::over(memory, &[Device::Entropy])?;
     set_up(&mut machine)?;
-    let mut arrival = Arrival::over(Memory::zeros(16)?)?;
-    machine.begin()?;
-    while machine.copy()?.is_some() {}
+    let mut arrival = Arrival::over(Memory::zeros(16)?, 0)?;
+    machine.send_begin()?;
+    while machine.send_some(5)? {}
 
     let mut lent = machine.lend()?;
     lent.ram_mut()[0x6000] = 8;
     assert_eq!((lent.size(), lent.base(), lent.lines()), ((16, 1), 0, 0));
-    let lent = lent.give_back(&[16]).err().expect("no such page").value;
+    let lent = lent.give_back(&[16]).unwrap_err().value;
     assert_eq!(lent.ram()[0x5000], 9);
     let mut machine = lent.give_back(&[6])?.lend()?.give_back_marked(&[1 << 6])?;
-    assert_eq!(machine.remaining()?, (0, 1));
-    assert_eq!(machine.stop()?, (1, 0));
+    let left = machine.send_left()?;
+    assert_eq!(Left { dirty_pages: 1, waiting: left.waiting, stop_bytes: left.stop_bytes, ..Left::default() }, left);
+    assert_eq!(machine.send_stop()?, (1, 0));
     carry(&mut machine, &mut arrival)?;
     let mut arrived = arrival.finish()?.lend()?.give_back_all()?;
     serve(&mut arrived)?;
     let memory = arrived.into_memory().expect("memory of this program");
     assert_eq!((memory[0x5000], memory[0x6000], memory[BUFFER as usize]), (9, 8, 7));
+
+    // An arrival that is given up gives its memory back, with what came so far.
+    let mut arrival = Arrival::over(memory, 0)?;
+    assert_eq!(arrival.feed(b"VMIX"), Err(Error::StreamBadMagic));
+    assert_eq!(arrival.fault(), Some((Error::StreamBadMagic, 0)));
+    let arrival = arrival.finish().unwrap_err().value;
+    assert_eq!(arrival.into_memory().expect("memory of this program")[0x5000], 9);
     Ok(())
 }
 
-fn main() -> Result<(), Error> {
+/// A machine with a disk of the library: what it owes its driver is asked for, and what was put in is dropped.
+fn disk_and_input() -> Result<(), Error> {
+    let disk = Device::Block { sectors: 2, read_only: false, id: [0; 20] };
+    let mut machine = Machine::with_contents(1, &[Device::Console, disk], &[3; 1024])?;
+    let mut sector = [0; 512];
+    assert!(machine.read_sector(1, 1, &mut sector)?);
+    assert_eq!(sector, [3; 512]);
+    assert_eq!(machine.input(0, b"typed")?, 5);
+    machine.drop_input(0)?;
+    assert_eq!(machine.room(0)?, 4096);
+    assert_eq!(machine.drop_input(1), Err(Error::WrongKind));
+    assert!(!machine.is_lost(1));
+    machine.sync_failed(1)?;
+    assert_eq!(machine.sync_failed(0), Err(Error::WrongKind));
+    machine.reset()?;
+    assert!(machine.is_lost(1) && !machine.is_lost(0) && !machine.is_lost(255));
+    assert_eq!(machine.device(1)?, disk);
+    assert_eq!(machine.device(2), Err(Error::NoDevice));
+    Ok(())
+}
+
+fn main() -> Result<(), Box<dyn AnyError>> {
     let mut machine = Machine::new(16, &[Device::Entropy])?;
-    assert_eq!(Machine::new(0, &[]).err(), Some(Error::BadShape));
+    assert_eq!(Machine::new(0, &[]).unwrap_err(), Error::BadRam);
     set_up(&mut machine)?;
     serve(&mut machine)?;
     assert_eq!(machine.read_ram(1 << 40, &mut [0]), Err(Error::OutOfRam));
@@ -122,7 +156,7 @@ fn main() -> Result<(), Error> {
     assert_eq!(small.feed(&stream), Err(Error::StreamTooLarge));
     assert_eq!(small.feed(&stream), Err(Error::StreamFailed));
     let mut right = Arrival::within(16, 0)?;
-    right.feed(&stream)?;
+    assert!(right.feed(&stream)?);
     assert_eq!(right.finish()?.size(), (16, 1));
 
     // It may go to another thread.
@@ -130,8 +164,9 @@ fn main() -> Result<(), Error> {
     assert_eq!(arrived.size(), (16, 1));
     assert_eq!(arrived.device(0)?, Device::Entropy);
     assert!(arrived.save()? == stream);
-    assert_eq!(arrived.lend().err().map(|refused| refused.error), Some(Error::NotOver));
+    assert_eq!(arrived.lend().unwrap_err().error, Error::NotYours);
     lend()?;
+    disk_and_input()?;
     println!("entropy: all as expected");
     Ok(())
 }

@@ -1,8 +1,8 @@
 //! A machine that arrives, and what its stream announces.
 
-use crate::device::Device;
+use crate::device::{Device, devices_of};
 use crate::error::{Error, Refused, done};
-use crate::machine::Machine;
+use crate::machine::{Machine, is_linked_right};
 use crate::memory::Memory;
 use crate::raw;
 
@@ -16,52 +16,52 @@ pub struct Announced {
 /// What the machine is whose stream begins with these bytes, before any memory is taken for it. `None` where the header is not whole, which
 /// 496 bytes always tell.
 pub fn announced(bytes: &[u8]) -> Result<Option<Announced>, Error> {
-    let (mut pages, mut count) = (0, 0);
-    // SAFETY: the slice is valid for the call, here and below.
-    let status = done(unsafe { raw::vmig_stream_size(bytes.as_ptr(), bytes.len(), &mut pages, &mut count) })?;
+    let mut found = raw::Description::default();
+    // SAFETY: the slice is valid for the call.
+    let status = done(unsafe { raw::vmig_stream_describe(bytes.as_ptr(), bytes.len(), &mut found) })?;
     if status == raw::MORE {
         return Ok(None);
     }
-    let mut devices = Vec::new();
-    for dev in 0..count as u8 {
-        let mut shape = raw::Shape::default();
-        done(unsafe { raw::vmig_stream_device(bytes.as_ptr(), bytes.len(), dev, &mut shape) })?;
-        devices.push(Device::of(&shape));
-    }
-    Ok(Some(Announced { pages, devices }))
+    Ok(Some(Announced { pages: found.pages, devices: devices_of(&found)? }))
 }
 
 /// A machine whose stream arrives in pieces of any size.
+#[derive(Debug)]
 pub struct Arrival {
     machine: Machine,
 }
 
 impl Arrival {
-    /// Nothing has arrived yet.
-    pub fn new() -> Arrival {
-        Arrival { machine: Machine { held: raw::NONE, memory: None } }
+    /// A machine will arrive with at most this number of pages of RAM, and of sectors of all its disks together. A larger one is refused by
+    /// the piece that completes its header, before memory is taken for RAM or disks.
+    pub fn within(most_pages: u32, most_sectors: u64) -> Result<Arrival, Error> {
+        Arrival::within_at(0, most_pages, most_sectors)
     }
 
-    /// As `new`, of a machine with at most this number of pages of RAM, and of sectors of all its disks together. A larger one is refused by the piece
-    /// that completes its header, before memory is taken for RAM or disks.
-    pub fn within(most_pages: u32, most_sectors: u64) -> Result<Arrival, Error> {
+    /// As `within`, of a machine whose RAM begins at the guest-physical address `base`, as that of the machine that is sent: a stream does
+    /// not say it.
+    pub fn within_at(base: u64, most_pages: u32, most_sectors: u64) -> Result<Arrival, Error> {
+        is_linked_right()?;
         let mut held = raw::NONE;
-        let mut arrival = raw::Arrival { most_pages, most_sectors, ..raw::ARRIVAL };
+        let mut arrival = raw::Arrival { most_pages, most_sectors, base, ..raw::ARRIVAL };
         // SAFETY: the handle is of no machine.
         done(unsafe { raw::vmig_arrive(&mut arrival, &mut held) })?;
         Ok(Arrival { machine: Machine { held, memory: None } })
     }
 
-    /// As `new`, of a machine without disks, whose RAM will be this memory. Another one is refused by the piece that shows it.
-    pub fn over(memory: Memory) -> Result<Arrival, Refused<Memory>> {
-        Arrival::over_at(0, memory)
+    /// A machine will arrive whose RAM will be this memory, with at most this number of sectors of all its disks together. Another one is
+    /// refused by the piece that completes its header.
+    pub fn over(memory: Memory, most_sectors: u64) -> Result<Arrival, Refused<Memory>> {
+        Arrival::over_at(0, memory, most_sectors)
     }
 
-    /// As `over`, of a machine whose RAM begins at the guest-physical address `base`, as that of the machine that is sent: a stream does not
-    /// say it.
-    pub fn over_at(base: u64, mut memory: Memory) -> Result<Arrival, Refused<Memory>> {
+    /// As `over`, of a machine whose RAM begins at the guest-physical address `base`.
+    pub fn over_at(base: u64, mut memory: Memory, most_sectors: u64) -> Result<Arrival, Refused<Memory>> {
+        if let Err(error) = is_linked_right() {
+            return Err(Refused { error, value: memory });
+        }
         let mut held = raw::NONE;
-        let mut arrival = raw::Arrival { ram: memory.slot(), base, ..raw::ARRIVAL };
+        let mut arrival = raw::Arrival { ram: memory.slot(), most_sectors, base, ..raw::ARRIVAL };
         // SAFETY: the handle is of no machine, and the bytes of the memory are the machine's until it is freed.
         match done(unsafe { raw::vmig_arrive(&mut arrival, &mut held) }) {
             Ok(_) => Ok(Arrival { machine: Machine { held, memory: Some(memory) } }),
@@ -69,38 +69,41 @@ impl Arrival {
         }
     }
 
-    /// The next bytes. A fault is answered by the piece that shows it, and the stream is refused for good.
-    pub fn feed(&mut self, piece: &[u8]) -> Result<(), Error> {
-        // SAFETY: the slice is valid for the call, and the handle is of no machine, or of one that arrives.
-        done(unsafe { raw::vmig_feed(&mut self.machine.held, piece.as_ptr(), piece.len()) }).map(drop)
+    /// The next bytes. Whether the end of the stream has come, and it is right. A fault is answered by the piece that shows it, and the
+    /// stream is refused for good.
+    pub fn feed(&mut self, piece: &[u8]) -> Result<bool, Error> {
+        // SAFETY: the slice is valid for the call, and the handle is of a machine that arrives.
+        let status = done(unsafe { raw::vmig_feed(&mut self.machine.held, piece.as_ptr(), piece.len()) })?;
+        Ok(status == raw::WHOLE)
     }
 
     /// How many rounds ended in what has arrived.
     pub fn rounds(&mut self) -> u32 {
-        let mut rounds = 0;
-        // SAFETY: as in `feed`.
-        unsafe { raw::vmig_rounds(&mut self.machine.held, &mut rounds) };
-        rounds
+        self.machine.describe().rounds
     }
 
     /// Whether the end of the stream has arrived, and nothing was refused.
     pub fn is_whole(&mut self) -> bool {
-        let mut whole = 0;
-        // SAFETY: as in `feed`.
-        unsafe { raw::vmig_is_whole(&mut self.machine.held, &mut whole) };
-        whole == 1
+        self.machine.describe().whole == 1
+    }
+
+    /// Why it was refused, and how many bytes came before the piece that was. `None` where it was not.
+    pub fn fault(&mut self) -> Option<(Error, u64)> {
+        let found = self.machine.describe();
+        (found.fault != 0).then(|| (Error::of(found.fault), found.fault_at))
     }
 
     /// All has arrived: the machine. Before its guest runs read the lines and make the steps that have something to do.
-    pub fn finish(mut self) -> Result<Machine, Error> {
+    pub fn finish(mut self) -> Result<Machine, Refused<Arrival>> {
         // SAFETY: as in `feed`.
-        done(unsafe { raw::vmig_finish(&mut self.machine.held) })?;
-        Ok(self.machine)
+        match done(unsafe { raw::vmig_finish(&mut self.machine.held) }) {
+            Ok(_) => Ok(self.machine),
+            Err(error) => Err(Refused { error, value: self }),
+        }
     }
-}
 
-impl Default for Arrival {
-    fn default() -> Arrival {
-        Arrival::new()
+    /// Gives the arrival up. The result is the memory in which its RAM was to be, with what came so far, if that is not the library's.
+    pub fn into_memory(self) -> Option<Memory> {
+        self.machine.into_memory()
     }
 }

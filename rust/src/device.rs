@@ -1,5 +1,6 @@
 //! What a device is made as.
 
+use crate::error::Error;
 use crate::raw;
 
 /// What a device is made as.
@@ -37,12 +38,20 @@ impl Device {
         }
     }
 
-    pub(crate) fn of(shape: &raw::Shape) -> Device {
+    /// `None` of a kind that this crate does not know.
+    pub(crate) fn of(shape: &raw::Shape) -> Option<Device> {
         match shape.kind {
-            raw::NETWORK => Device::Network { mac: shape.mac },
-            raw::BLOCK => Device::Block { sectors: shape.sectors, read_only: shape.read_only != 0, id: shape.id },
-            raw::CONSOLE => Device::Console,
-            _ => Device::Entropy,
+            raw::NETWORK => Some(Device::Network { mac: shape.mac }),
+            raw::BLOCK => Some(Device::Block { sectors: shape.sectors, read_only: shape.read_only != 0, id: shape.id }),
+            raw::CONSOLE => Some(Device::Console),
+            raw::ENTROPY => Some(Device::Entropy),
+            _ => None,
         }
     }
+}
+
+/// The devices of a description, in their order.
+pub(crate) fn devices_of(found: &raw::Description) -> Result<Vec<Device>, Error> {
+    let shapes = found.shapes.iter().take(found.count as usize);
+    shapes.map(|shape| Device::of(shape).ok_or(Error::NotKnown)).collect()
 }

@@ -38,32 +38,21 @@ pub enum Error {
     /// The buffer is too small.
     TooSmall = raw::TOO_SMALL,
 
-    /// Pages, count of devices or a device are beyond the limits.
+    /// Not 1 to 16 devices, or one that is beyond the limits.
     BadShape = raw::BAD_SHAPE,
-
-    /// The machine is migrating.
-    Moving = raw::MOVING,
-
-    /// The disks are in memory of the library.
-    NotMapped = raw::NOT_MAPPED,
 
     /// The images are not as long as the disks.
     BadImages = raw::BAD_IMAGES,
 
-    /// The disk is lost, and the step would end a write that the driver then takes for durable: it is not made.
-    DiskLost = raw::DISK_LOST,
+    /// The machine is not being sent.
+    NotSending = raw::NOT_SENDING,
 
-    /// The migration was not begun.
-    NotBegun = raw::NOT_BEGUN,
+    /// The machine is being sent.
+    Sending = raw::SENDING,
 
-    /// The migration was begun already.
-    BegunAlready = raw::BEGUN_ALREADY,
 
-    /// A disk failed as a sector was read.
-    ReadFailed = raw::READ_FAILED,
-
-    /// Memory was refused for bytes that wait to be taken.
-    WriterFailed = raw::WRITER_FAILED,
+    /// Memory was refused for bytes that wait to be taken: the machine can only be sent anew.
+    SendFailed = raw::SEND_FAILED,
 
     /// The machine was stopped.
     Stopped = raw::STOPPED,
@@ -78,13 +67,16 @@ pub enum Error {
     NotLent = raw::NOT_LENT,
 
     /// The RAM is in memory of the library.
-    NotOver = raw::NOT_OVER,
+    NotYours = raw::NOT_YOURS,
 
-    /// The memory is not 1 to 16,384 whole pages, or not as long as what was lent.
+    /// The memory is not 1 to 16,384 whole pages, or not as long as what was asked for or lent.
     BadRam = raw::BAD_RAM,
 
-    /// The library does not know what is asked for: it is older than this crate.
+    /// The library does not know what is asked for, or this crate what the library has: they are of different versions.
     NotKnown = raw::NOT_KNOWN,
+
+    /// The base is not a multiple of 4,096, or RAM would reach past the last address.
+    BadBase = raw::BAD_BASE,
 
     /// The stream does not begin with the magic number.
     StreamBadMagic = raw::STREAM_BAD_MAGIC,
@@ -95,9 +87,8 @@ pub enum Error {
     /// The machine of the stream is beyond the limits.
     StreamBadShape = raw::STREAM_BAD_SHAPE,
 
-    /// The disks of the stream are not as many, or as large, as the images, or its pages not as many as those of the memory that it arrives
-    /// in.
-    StreamShapeMismatch = raw::STREAM_SHAPE_MISMATCH,
+    /// The machine of the stream has other devices, images, pages of RAM or another base than the arrival names.
+    StreamMismatch = raw::STREAM_MISMATCH,
 
     /// A record's tag is unknown, or not allowed at this point of the stream.
     StreamBadTag = raw::STREAM_BAD_TAG,
@@ -134,6 +125,9 @@ pub enum Error {
 
     /// The machine that the stream announces is larger than was allowed.
     StreamTooLarge = raw::STREAM_TOO_LARGE,
+
+    /// A status that this crate does not know: the library is newer.
+    Unknown = u32::MAX,
 }
 
 /// Each error with its text.
@@ -149,25 +143,22 @@ const TEXTS: &[(Error, &str)] = &[
     (Error::NoMemory, "out of memory"),
     (Error::TooSmall, "buffer too small"),
     (Error::BadShape, "invalid machine configuration"),
-    (Error::Moving, "the machine is migrating"),
-    (Error::NotMapped, "the disks are in memory of the library"),
     (Error::BadImages, "the images do not match the disks"),
-    (Error::DiskLost, "the disk is lost: the write cannot be completed"),
-    (Error::NotBegun, "migration not begun"),
-    (Error::BegunAlready, "migration already begun"),
-    (Error::ReadFailed, "disk I/O error"),
-    (Error::WriterFailed, "out of memory for stream bytes: the migration failed"),
+    (Error::NotSending, "the machine is not being sent"),
+    (Error::Sending, "the machine is being sent"),
+    (Error::SendFailed, "out of memory for stream bytes: the migration failed"),
     (Error::Stopped, "machine already stopped"),
     (Error::NoRoundLeft, "round counter exhausted"),
     (Error::Lent, "the RAM is lent"),
     (Error::NotLent, "the RAM is not lent"),
-    (Error::NotOver, "the RAM is in memory of the library"),
+    (Error::NotYours, "the RAM is in memory of the library"),
     (Error::BadRam, "invalid RAM size: not 1 to 16,384 whole pages, or not that of the RAM that was lent"),
-    (Error::NotKnown, "not supported: the library is older than this crate"),
+    (Error::NotKnown, "not supported: the library and this crate are of different versions"),
+    (Error::BadBase, "invalid base: not a multiple of 4,096, or RAM would reach past the last address"),
     (Error::StreamBadMagic, "bad magic: not a machine stream"),
     (Error::StreamBadVersion, "unsupported stream version"),
     (Error::StreamBadShape, "invalid machine configuration in the stream"),
-    (Error::StreamShapeMismatch, "the disks or the RAM do not match the machine of the stream"),
+    (Error::StreamMismatch, "the machine of the stream is not the one that is expected"),
     (Error::StreamBadTag, "unexpected record in the stream"),
     (Error::StreamBadPage, "invalid page record in the stream"),
     (Error::StreamBadSector, "invalid sector record in the stream"),
@@ -180,19 +171,24 @@ const TEXTS: &[(Error, &str)] = &[
     (Error::StreamNoMemory, "out of memory for the machine that arrives"),
     (Error::StreamFailed, "the stream was refused already"),
     (Error::StreamTooLarge, "the machine of the stream exceeds the limits that were set"),
+    (Error::Unknown, "unknown status: the library is newer than this crate"),
 ];
 
 impl Error {
-    /// The error of a status from 1 to 63. Another one is the caller's bug.
+    /// The error of a status that is a refusal.
     pub(crate) fn of(status: u32) -> Error {
         let found = TEXTS.iter().find(|(error, _)| *error as u32 == status);
-        found.map(|(error, _)| *error).unwrap_or_else(|| unreachable!("vmig: status {status}"))
+        found.map_or(Error::Unknown, |(error, _)| *error)
     }
 }
 
 /// The status of a call that was done, or why it was refused.
 pub(crate) fn done(status: u32) -> Result<u32, Error> {
-    if (1..64).contains(&status) { Err(Error::of(status)) } else { Ok(status) }
+    if (1..64).contains(&status) {
+        Err(Error::of(status))
+    } else {
+        Ok(status)
+    }
 }
 
 impl fmt::Display for Error {
@@ -204,20 +200,34 @@ impl fmt::Display for Error {
 
 impl std::error::Error for Error {}
 
-/// A call that was refused, and the value that it took, as it was.
+/// A call that was refused, and the value that it took, as it was: a machine with its guest, a loan or memory. So it does not become an
+/// [`Error`] by itself, which would drop the value.
 pub struct Refused<T> {
     pub error: Error,
     pub value: T,
 }
 
-impl<T> From<Refused<T>> for Error {
-    fn from(refused: Refused<T>) -> Error {
-        refused.error
+impl<T> Refused<T> {
+    /// Why it was refused, and the value.
+    pub fn into_parts(self) -> (Error, T) {
+        (self.error, self.value)
     }
 }
 
 impl<T> fmt::Debug for Refused<T> {
     fn fmt(&self, f: &mut fmt::Formatter<'_>) -> fmt::Result {
         self.error.fmt(f)
+    }
+}
+
+impl<T> fmt::Display for Refused<T> {
+    fn fmt(&self, f: &mut fmt::Formatter<'_>) -> fmt::Result {
+        fmt::Display::fmt(&self.error, f)
+    }
+}
+
+impl<T> std::error::Error for Refused<T> {
+    fn source(&self) -> Option<&(dyn std::error::Error + 'static)> {
+        Some(&self.error)
     }
 }

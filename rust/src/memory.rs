@@ -11,6 +11,7 @@ const PAGE: usize = 4096;
 
 /// Memory for the RAM of a machine, 1 to 16,384 pages of 4,096 bytes. Its owner reads and writes the bytes, for instance to put a
 /// kernel there. Then a machine is made over it ([`crate::Machine::over`]), or arrives in it ([`crate::Arrival::over`]).
+#[derive(Debug)]
 pub struct Memory {
     at: NonNull<u8>,
     len: usize,

@@ -4,62 +4,72 @@ use crate::error::{Error, done};
 use crate::machine::Machine;
 use crate::raw;
 
-/// What a copy sent.
-#[derive(Clone, Copy, Debug, PartialEq, Eq)]
-pub enum Sent {
-    /// The page of this number.
-    Page(u32),
-    /// A sector of the disk of a device.
-    Sector { dev: u8, number: u32 },
+/// What is left to be sent.
+#[derive(Clone, Copy, Debug, Default, PartialEq, Eq)]
+pub struct Left {
+    /// Due in this round.
+    pub due_pages: u64,
+    /// Due in this round.
+    pub due_sectors: u64,
+    /// Written since they were sent.
+    pub dirty_pages: u64,
+    /// Written since they were sent.
+    pub dirty_sectors: u64,
+    /// Bytes that wait to be taken.
+    pub waiting: u64,
+    /// A stop would write at most so many bytes.
+    pub stop_bytes: u64,
 }
 
 impl Machine {
     /// It begins to be sent: every page and sector is due in round 1.
-    pub fn begin(&mut self) -> Result<(), Error> {
-        // SAFETY: the handle is of this machine, here and in all that follows.
-        done(unsafe { raw::vmig_begin(&mut self.held) }).map(drop)
+    pub fn send_begin(&mut self) -> Result<(), Error> {
+        // SAFETY: the handle is of this machine.
+        done(unsafe { raw::vmig_send_begin(&mut self.held) }).map(drop)
     }
 
-    /// Sends the first page or sector that is due in this round. `None` where none is.
-    pub fn copy(&mut self) -> Result<Option<Sent>, Error> {
-        let (mut dev, mut number) = (0, 0);
-        match done(unsafe { raw::vmig_copy(&mut self.held, &mut dev, &mut number) })? {
-            raw::PAGE => Ok(Some(Sent::Page(number))),
-            raw::SECTOR => Ok(Some(Sent::Sector { dev, number })),
-            _ => Ok(None),
-        }
+    /// Copies up to `most` of the pages and sectors that are due in this round. Whether something is due after it.
+    pub fn send_some(&mut self, most: u32) -> Result<bool, Error> {
+        // SAFETY: as above.
+        let status = done(unsafe { raw::vmig_send_some(&mut self.held, most) })?;
+        Ok(status != raw::ROUND_DONE)
     }
 
-    /// Ends the round, if nothing is due in it, and tells the number of the next. `None` where something is still due.
-    pub fn end_round(&mut self) -> Result<Option<u32>, Error> {
-        let mut round = 0;
-        let status = done(unsafe { raw::vmig_end_round(&mut self.held, &mut round) })?;
-        Ok((status != raw::ROUND_OPEN).then_some(round))
+    /// Ends the round, if nothing is due in it, and tells whether it did.
+    pub fn send_round(&mut self) -> Result<bool, Error> {
+        // SAFETY: as above.
+        let status = done(unsafe { raw::vmig_send_round(&mut self.held) })?;
+        Ok(status != raw::ROUND_OPEN)
     }
 
-    /// Sends all that is left, and closes the stream: how many pages and sectors it sent. The guest is paused from here on.
-    pub fn stop(&mut self) -> Result<(u64, u64), Error> {
+    /// Copies all that is left, and closes the stream: how many pages and sectors it copied. The guest is paused from here on.
+    pub fn send_stop(&mut self) -> Result<(u64, u64), Error> {
         let (mut pages, mut sectors) = (0, 0);
-        done(unsafe { raw::vmig_stop(&mut self.held, &mut pages, &mut sectors) })?;
+        // SAFETY: as above.
+        done(unsafe { raw::vmig_send_stop(&mut self.held, &mut pages, &mut sectors) })?;
         Ok((pages, sectors))
     }
 
-    /// Ends the migration: the machine continues as one that was never sent.
-    pub fn abort(&mut self) -> Result<(), Error> {
-        done(unsafe { raw::vmig_abort(&mut self.held) }).map(drop)
+    /// The machine continues as one that was never sent. After a stop that was done only where nobody runs what was sent, and nobody will.
+    pub fn send_abort(&mut self) -> Result<(), Error> {
+        // SAFETY: as above.
+        done(unsafe { raw::vmig_send_abort(&mut self.held) }).map(drop)
     }
 
-    /// How many pages and sectors are due in this round, and how many were touched since they were sent.
-    pub fn remaining(&mut self) -> Result<(u64, u64), Error> {
-        let (mut due, mut dirty) = (0, 0);
-        done(unsafe { raw::vmig_remaining(&mut self.held, &mut due, &mut dirty) })?;
-        Ok((due, dirty))
+    /// What is left to be sent.
+    pub fn send_left(&mut self) -> Result<Left, Error> {
+        let mut left = raw::Left::default();
+        // SAFETY: as above.
+        done(unsafe { raw::vmig_send_left(&mut self.held, &mut left) })?;
+        let raw::Left { due_pages, due_sectors, dirty_pages, dirty_sectors, waiting, stop_bytes, .. } = left;
+        Ok(Left { due_pages, due_sectors, dirty_pages, dirty_sectors, waiting, stop_bytes })
     }
 
     /// Takes the first of the bytes that wait, as many as the buffer holds, and tells how many these are.
-    pub fn take(&mut self, buf: &mut [u8]) -> Result<usize, Error> {
+    pub fn send_take(&mut self, buf: &mut [u8]) -> Result<usize, Error> {
         let mut got = 0;
-        done(unsafe { raw::vmig_take(&mut self.held, buf.as_mut_ptr(), buf.len(), &mut got) })?;
+        // SAFETY: as above, and the slice is valid for the call.
+        done(unsafe { raw::vmig_send_take(&mut self.held, buf.as_mut_ptr(), buf.len(), &mut got) })?;
         Ok(got)
     }
 }
