@@ -1,19 +1,19 @@
-//! Limits on a machine that arrives, with which its header is compared before its stream is let in.
+//! What is asked of a machine that arrives: its header is compared with it before its stream is let in.
 //!
-//! Limits are checked before the receiver, and not in it. The first bytes are copied, at most 496 of them, until the header is
+//! This is checked before the receiver, and not in it. The first bytes are copied, at most 496 of them, until the header is
 //! whole; `read_heading` reads it from the copy, while the receiver gets each piece as it comes. So all kinds of arrival have
-//! the same limits, an arrival without limits pays three instructions a piece, and the clause of a piece is that of the
-//! receiver once it is let in. Sectors are limited for all disks together, since that is what memory is taken for.
+//! the same limits, and the clause of a piece is that of the receiver once it is let in. Sectors are limited for all disks together,
+//! since that is what memory is taken for. Images, and RAM of the caller, are compared by the receiver, before a byte of them is written.
 
 ghost use Rattle.std.specs.Prelude.{◌≡◌, ◌++◌, IfErr, IfOk, None, Some};
-ghost use Rattle.vmig_c.specs.Admission.{AdmitsAt, is_within};
+ghost use Rattle.vmig_c.specs.Admission.{AdmitsAt, are_expected, is_same_shape, is_within, stream_refusal};
 ghost use Rattle.vmig_c.specs.AdmissionSeen as seen;
 ghost use Rattle.vmig_c.specs.Kept.{admission_of};
 
-use crate::arriving::stream_status;
 use crate::images::count_in;
-use crate::status::{STREAM_FAILED, STREAM_TOO_LARGE};
-use machine::Shape;
+use crate::status::{STREAM_FAILED, STREAM_MISMATCH, STREAM_TOO_LARGE, stream_status};
+use guestmem::PAGE_SIZE;
+use machine::{Shape, is_base};
 use receiver::{RecvError, read_heading};
 use std::alloc::Global;
 use std::mem;
@@ -21,7 +21,7 @@ use std::mem;
 /// The most bytes of a header: a stream's first 496 always show what arrives, or the fault of its header.
 const HEADING_MAX: usize = 496;
 
-/// The most that a machine may have that arrives.
+/// The most that a machine may have that arrives, and where its RAM begins.
 #[derive(Clone, Copy)]
 pub struct Limits {
     /// Of pages of RAM.
@@ -29,32 +29,38 @@ pub struct Limits {
 
     /// Of sectors, of all its disks together.
     pub sectors: u64,
+
+    /// The guest-physical address at which RAM begins.
+    pub base: u64,
 }
 
 /// Whether a stream is let in.
 #[derive(Drop)]
 pub enum Admission {
-    /// There is no limit, or its header is within the limits.
-    Granted,
+    /// Its header is as it has to be: of a machine of these pages and devices. Where no stream arrives there are none.
+    Granted(u32, Vec<Shape>),
 
-    /// Its header is not whole: these are the limits, and the bytes so far.
-    Pending(Limits, Vec<u8>),
+    /// Its header is not whole: these are the limits, the devices that are expected, if any, and the bytes so far.
+    Pending(Limits, Vec<Shape>, Vec<u8>),
 
-    /// It was refused, before any of the bytes that completed its header was let in.
-    Denied,
+    /// It was refused, first with this status.
+    Denied(u32),
 }
 
 impl Admission {
     ghost use Rattle.std.specs.Prelude.{◌≡◌};
-    ghost use Rattle.vmig_c.specs.Admission.{Admits, IsPending, is_denied};
+    ghost use Rattle.vmig_c.specs.Admission.{Admits, IsPending, first_refusal};
     ghost use Rattle.vmig_c.specs.AdmissionSeen as seen;
     ghost use Rattle.vmig_c.specs.Kept.{admission_of};
 
-    /// Whether the stream was refused.
-    pub(crate) fn is_denied(&self) -> bool
-        ensures { result ≡ is_denied (admission_of self.now) }
+    /// The status with which the stream was refused first, if it was.
+    pub(crate) fn refusal(&self) -> Option<u32>
+        ensures { result ≡ first_refusal (admission_of self.now) }
     {
-        matches!(self, Admission::Denied)
+        match self {
+            Admission::Denied(status) => Some(*status),
+            _ => None,
+        }
     }
 
     /// Whether the next piece is let in; if not, the status that says why.
@@ -62,9 +68,9 @@ impl Admission {
         ensures { Admits (admission_of self.old) piece.now result (admission_of self.new) }
     {
         match self {
-            Admission::Granted => None,
-            Admission::Pending(_, _) => self.compare(alloc, piece),
-            Admission::Denied => Some(STREAM_FAILED),
+            Admission::Granted(..) => None,
+            Admission::Pending(..) => self.compare(alloc, piece),
+            Admission::Denied(_) => Some(STREAM_FAILED),
         }
     }
 
@@ -74,23 +80,35 @@ impl Admission {
         requires { IsPending (admission_of self.old) }
         ensures { Admits (admission_of self.old) piece.now result (admission_of self.new) }
     {
-        let Admission::Pending(limits, held) = mem::replace(self, Admission::Denied) else {
+        let Admission::Pending(limits, expected, held) = mem::replace(
+            self,
+            Admission::Denied(STREAM_FAILED),
+        ) else {
             unreachable!()
         };
-        match compared(alloc, limits, held, piece) {
+        match compared(alloc, limits, expected, held, piece) {
             Ok(admission) => {
                 *self = admission;
                 None
             }
-            Err(status) => Some(status),
+            Err(status) => {
+                *self = Admission::Denied(status);
+                Some(status)
+            }
         }
     }
 }
 
 /// The admission after the next piece. No more of it is copied than may belong to the header.
-fn compared(alloc: Global, limits: Limits, held: Vec<u8>, piece: &[u8]) -> Result<Admission, u32>
-    ensures let_in { IfOk result (λ next. AdmitsAt limits (held.items ++ piece.now) None (admission_of next)) }
-    ensures refused { IfErr result (λ status. AdmitsAt limits (held.items ++ piece.now) (Some status) seen.Denied) }
+fn compared(
+    alloc: Global,
+    limits: Limits,
+    expected: Vec<Shape>,
+    held: Vec<u8>,
+    piece: &[u8],
+) -> Result<Admission, u32>
+    ensures let_in { IfOk result (λ next. AdmitsAt limits expected.items (held.items ++ piece.now) None (admission_of next)) }
+    ensures refused { IfErr result (λ status. AdmitsAt limits expected.items (held.items ++ piece.now) (Some status) (seen.Denied status)) }
 {
     let mut held = held;
     let few = piece.len().min(HEADING_MAX.saturating_sub(held.len()));
@@ -99,15 +117,27 @@ fn compared(alloc: Global, limits: Limits, held: Vec<u8>, piece: &[u8]) -> Resul
         return Err(stream_status(RecvError::NoMemory));
     }
     match read_heading(alloc, &held) {
-        Ok(Some(header)) => {
-            if is_within(limits, header.pages, &header.shapes) {
-                return Ok(Admission::Granted);
-            }
-            Err(STREAM_TOO_LARGE)
-        }
-        Ok(None) => Ok(Admission::Pending(limits, held)),
+        Ok(Some(header)) => match stream_refusal(limits, &expected, header.pages, &header.shapes) {
+            Some(status) => Err(status),
+            None => Ok(Admission::Granted(header.pages, header.shapes)),
+        },
+        Ok(None) => Ok(Admission::Pending(limits, expected, held)),
         Err(error) => Err(stream_status(error)),
     }
+}
+
+/// Why a machine of these pages and devices is not let in, if so.
+fn stream_refusal(limits: Limits, expected: &[Shape], pages: u32, shapes: &[Shape]) -> Option<u32>
+    ensures { result ≡ stream_refusal limits expected.now pages shapes.now }
+{
+    if !is_within(limits, pages, shapes) {
+        return Some(STREAM_TOO_LARGE);
+    }
+    let bytes = PAGE_SIZE as u64 * pages as u64;
+    if !are_expected(expected, shapes) || !is_base(limits.base, bytes) {
+        return Some(STREAM_MISMATCH);
+    }
+    None
 }
 
 /// Whether a machine of these pages and devices is within the limits.
@@ -127,4 +157,45 @@ fn is_within(limits: Limits, pages: u32, shapes: &[Shape]) -> bool
         left -= sectors;
     }
     true
+}
+
+/// Whether the devices are those that are expected. Where none is, any are.
+fn are_expected(expected: &[Shape], shapes: &[Shape]) -> bool
+    ensures { result ≡ are_expected expected.now shapes.now }
+{
+    if expected.is_empty() {
+        return true;
+    }
+    if expected.len() != shapes.len() {
+        return false;
+    }
+    for at in 0..expected.len() {
+        if !is_same_shape(expected[at], shapes[at]) {
+            return false;
+        }
+    }
+    true
+}
+
+fn is_same_shape(one: Shape, other: Shape) -> bool
+    ensures { result ≡ is_same_shape one other }
+{
+    match (one, other) {
+        (Shape::Net { mac }, Shape::Net { mac: other }) => mac.as_slice() == other.as_slice(),
+        (
+            Shape::Block {
+                sectors,
+                read_only,
+                id,
+            },
+            Shape::Block {
+                sectors: count,
+                read_only: only,
+                id: other,
+            },
+        ) => sectors == count && read_only == only && id.as_slice() == other.as_slice(),
+        (Shape::Console, Shape::Console) => true,
+        (Shape::Entropy, Shape::Entropy) => true,
+        _ => false,
+    }
 }

@@ -1,41 +1,27 @@
 //! What the first bytes of a stream announce.
 //!
-//! These calls keep nothing, so the bytes are handed in again by `vmig_feed`. That more bytes are needed (79) is no refusal, so
-//! it is above 63.
+//! This keeps nothing, so the bytes are handed in again by `vmig_feed`. That more bytes are needed (79) is no refusal, so it is above 63.
 
 ghost use Rattle.std.specs.Prelude.{◌≡◌};
-ghost use Rattle.vmig_c.specs.Announced.{Announces, AnnouncesDevice};
+ghost use Rattle.vmig_c.specs.Announced.{Announces};
 
-use crate::arriving::stream_status;
-use crate::describing::tell;
-use crate::device_shape::DeviceShape;
-use crate::status::{DONE, MORE};
+use crate::description::{Description, message_of};
+use crate::status::{DONE, MORE, stream_status};
 use receiver::read_heading;
 use std::alloc::Global;
 
-/// How many pages and devices the machine has whose stream begins with these bytes.
-#[tactic(auto, using(crate::proofs::Announcements::size_announced, crate::proofs::Announcements::size_awaited, crate::proofs::Announcements::size_refused))]
-pub(crate) fn announced_size(alloc: Global, bytes: &[u8], pages: &mut u32, devices: &mut u32) -> u32
-    ensures { Announces bytes.now result pages.new pages.old devices.new devices.old }
+/// What the machine is whose stream begins with these bytes.
+#[tactic(auto, using(crate::proofs::Announcements::announced, crate::proofs::Announcements::awaited, crate::proofs::Announcements::refused))]
+pub(crate) fn announced(alloc: Global, bytes: &[u8], out: &mut Description) -> u32
+    ensures { Announces bytes.now result out.new out.old }
 {
     match read_heading(alloc, bytes) {
         Ok(Some(header)) => {
-            *pages = header.pages;
-            *devices = header.shapes.len() as u32;
+            let mut told = Description::none().with_shapes(header.pages, &header.shapes);
+            told.message = message_of(&header.shapes);
+            *out = told;
             DONE
         }
-        Ok(None) => MORE,
-        Err(error) => stream_status(error),
-    }
-}
-
-/// What a device of that machine will be made as.
-#[tactic(auto, using(crate::proofs::Announcements::device_announced, crate::proofs::Announcements::device_awaited, crate::proofs::Announcements::device_refused))]
-pub(crate) fn announced_device(alloc: Global, bytes: &[u8], dev: u8, shape: &mut DeviceShape) -> u32
-    ensures { AnnouncesDevice bytes.now dev result shape.new shape.old }
-{
-    match read_heading(alloc, bytes) {
-        Ok(Some(header)) => tell(header.shapes.as_slice(), dev, shape),
         Ok(None) => MORE,
         Err(error) => stream_status(error),
     }

@@ -1,20 +1,19 @@
 //! A machine whose stream arrives in pieces.
 //!
-//! `Receiver` wants disks at first. So the first bytes wait, at most 496 of them, the longest header, and are given to a
-//! receiver without disks that reports what is wrong with them. The rest of a piece is fed as the caller's slice.
+//! `Receiver` wants disks at first. So the first bytes wait, at most 496 of them, the longest header, and so does the RAM that was handed
+//! in. The rest of a piece is fed as the caller's slice.
 
-ghost use Rattle.std.specs.Prelude.{◌≡◌, ◌++◌, ℕ, List, IfErr, IfOk, MatchOption};
+ghost use Rattle.std.specs.Prelude.{◌≡◌, ◌++◌, ◌≤◌, [], IfErr, IfOk, length};
 ghost use Rattle.machine.specs.Shapes.{disk_sizes};
-ghost use Rattle.receiver.specs.Disks.{sizes_of};
-ghost use Rattle.receiver.specs.Opened.{ram_at};
+ghost use Rattle.receiver.specs.Calls.{IsNew};
 ghost use Rattle.vmig_c.specs.ArrivalSeen.{AtBody};
-ghost use Rattle.vmig_c.specs.Awaited.{AreSteady, GoesOnWith, IsComing, IsFed, IsFedTo, TellsOf, TellsWhy, awaited_by, awaited_ram};
+ghost use Rattle.vmig_c.specs.Awaited.{AreSteady, GoesOnWith, IsComing, IsFed, IsFedTo, TellsOf, TellsWhy, awaited_by, awaited_place, awaited_ram, place_for, terms_for};
 ghost use Rattle.vmig_c.specs.Headed.{AreFitting, HasNoHeader};
-ghost use Rattle.vmig_c.specs.Plain.{mem_state};
 
 use crate::making::zero_disks;
-use machine::{DEVICES_MAX, Machine, MemDisk, Shape};
-use receiver::{Receiver, RecvError};
+use guestmem::Ram;
+use machine::{DEVICES_MAX, Disk, Machine, MemDisk, Shape};
+use receiver::{Receiver, RecvError, read_heading};
 use std::alloc::Global;
 use std::marker::Model;
 use std::mem;
@@ -29,8 +28,8 @@ const HEADER_MAX: usize = FRONT_LEN + DEVICES_MAX * SHAPE_MAX;
 /// How far a machine that arrives has come.
 #[derive(Drop)]
 pub enum Progress {
-    /// The header is incomplete: the address at which RAM will begin, and the bytes so far.
-    Head(u64, Vec<u8>),
+    /// The header is incomplete: the address at which RAM will begin, the RAM that was handed in, and the bytes so far.
+    Head(u64, Option<Ram>, Vec<u8>),
 
     /// The header was read, and the disks are of its sizes.
     Body(Receiver<MemDisk>),
@@ -60,16 +59,17 @@ impl Model for Arrival {
 
 impl Arrival {
     ghost use Rattle.std.specs.Prelude.{◌≡◌, IfErr, IfOk};
-    ghost use Rattle.vmig_c.specs.Awaited.{CountsRounds, HasArrived, HasSameDisks, IsAtHead, IsClosed, IsFed, TellsEnd, TellsOf, TellsWhole, nothing_fed, refused_for_good};
+    ghost use Rattle.vmig_c.specs.Awaited.{CountsRounds, HasArrived, HasSameDisks, IsAtHead, IsClosed, IsFed, TellsEnd, TellsOf, TellsWhole, awaited_base, nothing_fed, place_for, refused_for_good, terms_for};
 
-    /// An arrival that was fed nothing yet, of a machine whose RAM will begin at the address `base`. It takes no memory.
+    /// An arrival that was fed nothing yet, of a machine whose RAM will begin at the address `base`: this RAM, or one in memory of the
+    /// library. It takes no memory.
     #[tactic(auto, using(crate::proofs::Awaited::empty_head))]
-    pub(crate) fn new(alloc: Global, base: u64) -> Arrival
-        ensures { result ≡ nothing_fed base }
+    pub(crate) fn new(alloc: Global, base: u64, ram: Option<Ram>) -> Arrival
+        ensures { result ≡ nothing_fed (terms_for base ram) (place_for ram) }
     {
         Arrival {
             alloc,
-            progress: Progress::Head(base, Vec::new(alloc)),
+            progress: Progress::Head(base, ram, Vec::new(alloc)),
         }
     }
 
@@ -108,10 +108,11 @@ impl Arrival {
         ensures fed { IfOk result (λ x. IsFed self.old piece.now self.new) }
         ensures refused { IfErr result (λ e. TellsOf self.old piece.now e × IsClosed self.old self.new) }
     {
-        let Progress::Head(base, held) = mem::replace(&mut self.progress, Progress::Failed) else {
+        let Progress::Head(base, ram, held) = mem::replace(&mut self.progress, Progress::Failed)
+        else {
             unreachable!()
         };
-        match take_head(self.alloc, base, held, piece) {
+        match take_head(self.alloc, base, ram, held, piece) {
             Ok(progress) => {
                 self.progress = progress;
                 Ok(())
@@ -139,6 +140,18 @@ impl Arrival {
         match &self.progress {
             Progress::Body(receiver) => receiver.is_whole(),
             Progress::Head(..) | Progress::Failed => false,
+        }
+    }
+
+    /// The guest-physical address at which RAM will begin; 0 after a refusal.
+    #[tactic(auto, using(crate::proofs::Awaited::base_seen))]
+    pub(crate) fn base(&self) -> u64
+        ensures { result ≡ awaited_base self.now }
+    {
+        match &self.progress {
+            Progress::Head(base, ..) => *base,
+            Progress::Body(receiver) => receiver.base(),
+            Progress::Failed => 0,
         }
     }
 
@@ -173,11 +186,18 @@ fn take_body(receiver: Receiver<MemDisk>, piece: &[u8]) -> Result<Progress, Recv
 
 /// Takes the next piece of a stream whose header is incomplete. Of a piece that completes it, only the bytes that may belong to
 /// the header are copied.
-fn take_head(alloc: Global, base: u64, held: Vec<u8>, piece: &[u8]) -> Result<Progress, RecvError>
+fn take_head(
+    alloc: Global,
+    base: u64,
+    ram: Option<Ram>,
+    held: Vec<u8>,
+    piece: &[u8],
+) -> Result<Progress, RecvError>
     ensures coming { IfOk result (λ next. IsComing next) }
-    ensures ram { IfOk result (λ next. awaited_ram (awaited_by next) ≡ ram_at base) }
+    ensures ram { IfOk result (λ next. awaited_ram (awaited_by next) ≡ terms_for base ram) }
+    ensures place { IfOk result (λ next. awaited_place (awaited_by next) ≡ place_for ram) }
     ensures goes_on { IfOk result (λ next. GoesOnWith (held.items ++ piece.now) (awaited_by next)) }
-    ensures refused { IfErr result (λ e. TellsWhy (ram_at base) (held.items ++ piece.now) e) }
+    ensures refused { IfErr result (λ e. TellsWhy (terms_for base ram) (held.items ++ piece.now) e) }
 {
     let mut held = held;
     let few = piece.len().min(HEADER_MAX.saturating_sub(held.len()));
@@ -185,105 +205,74 @@ fn take_head(alloc: Global, base: u64, held: Vec<u8>, piece: &[u8]) -> Result<Pr
     if held.extend_from_slice(front).is_err() {
         return Err(RecvError::NoMemory);
     }
-    match headed(alloc, base, &held) {
-        Ok(Some(receiver)) => take_body(receiver, rest),
-        Ok(None) => go_on_headless(alloc, base, held, rest),
-        Err(error) => Err(error),
-    }
-}
-
-/// Takes the rest of a piece behind bytes that begin with no header. It is copied only if nothing is wrong with them.
-#[tactic(auto, using(crate::proofs::Awaited::head_goes_on))]
-fn go_on_headless(
-    alloc: Global,
-    base: u64,
-    held: Vec<u8>,
-    rest: &[u8],
-) -> Result<Progress, RecvError>
-    requires { HasNoHeader held.items }
-    ensures coming { IfOk result (λ next. IsComing next) }
-    ensures ram { IfOk result (λ next. awaited_ram (awaited_by next) ≡ ram_at base) }
-    ensures goes_on { IfOk result (λ next. GoesOnWith (held.items ++ rest.now) (awaited_by next)) }
-    ensures refused { IfErr result (λ e. TellsWhy (ram_at base) (held.items ++ rest.now) e) }
-{
-    if let Err(error) = fed(alloc, base, Vec::new(alloc), &held) {
-        return Err(error);
-    }
-    if rest.is_empty() {
-        return Ok(Progress::Head(base, held));
-    }
-    let mut held = held;
-    if held.extend_from_slice(rest).is_err() {
-        return Err(RecvError::NoMemory);
-    }
-    begin(alloc, base, held)
-}
-
-/// A receiver that was fed the bytes, if they begin with a header.
-fn headed(alloc: Global, base: u64, bytes: &[u8]) -> Result<Option<Receiver<MemDisk>>, RecvError>
-    ensures begun { IfOk result (λ found. MatchOption found (HasNoHeader bytes.now) (λ r. (r.ram ≡ ram_at base) × GoesOnWith bytes.now (AtBody r) × AreSteady r)) }
-    ensures refused { IfErr result (λ e. (rest : List ℕ) → TellsWhy (ram_at base) (bytes.now ++ rest) e) }
-{
-    let Ok(found) = decode_header(alloc, bytes) else {
+    let Ok(found) = decode_header(alloc, &held) else {
         return Err(RecvError::NoMemory);
     };
     match found {
-        Some(header) => match begun(alloc, base, &header.shapes, bytes) {
-            Ok(receiver) => Ok(Some(receiver)),
+        Some(header) => match begun(alloc, base, ram, &header.shapes, &held) {
+            Ok(receiver) => take_body(receiver, rest),
             Err(error) => Err(error),
         },
-        None => Ok(None),
+        None => go_on_headless(alloc, base, ram, held, rest),
     }
 }
 
-/// Decodes the header. While it is incomplete, a receiver without disks checks the bytes so far.
-#[tactic(auto, using(crate::proofs::Awaited::head_goes_on))]
-fn begin(alloc: Global, base: u64, held: Vec<u8>) -> Result<Progress, RecvError>
+/// Goes on behind bytes that begin with no header, if nothing is wrong with them. More of the piece is left only where something is, since
+/// as many bytes would hold a header.
+fn go_on_headless(
+    alloc: Global,
+    base: u64,
+    ram: Option<Ram>,
+    held: Vec<u8>,
+    rest: &[u8],
+) -> Result<Progress, RecvError>
+    requires none { HasNoHeader held.items }
+    requires all { length held.items ≤ 495 → rest.now ≡ [] }
     ensures coming { IfOk result (λ next. IsComing next) }
-    ensures ram { IfOk result (λ next. awaited_ram (awaited_by next) ≡ ram_at base) }
-    ensures goes_on { IfOk result (λ next. GoesOnWith held.items (awaited_by next)) }
-    ensures refused { IfErr result (λ e. TellsWhy (ram_at base) held.items e) }
+    ensures ram { IfOk result (λ next. awaited_ram (awaited_by next) ≡ terms_for base ram) }
+    ensures place { IfOk result (λ next. awaited_place (awaited_by next) ≡ place_for ram) }
+    ensures goes_on { IfOk result (λ next. GoesOnWith (held.items ++ rest.now) (awaited_by next)) }
+    ensures refused { IfErr result (λ e. TellsWhy (terms_for base ram) (held.items ++ rest.now) e) }
 {
-    match headed(alloc, base, &held) {
-        Ok(Some(receiver)) => Ok(Progress::Body(receiver)),
-        Ok(None) => match fed(alloc, base, Vec::new(alloc), &held) {
-            Ok(_receiver) => Ok(Progress::Head(base, held)),
-            Err(error) => Err(error),
-        },
+    match read_heading(alloc, &held) {
+        Ok(None) => Ok(Progress::Head(base, ram, held)),
+        Ok(Some(_)) => unreachable!(),
         Err(error) => Err(error),
     }
 }
 
-/// A receiver over disks of zeros for these devices, which was fed the bytes.
+/// A receiver over disks of zeros for these devices, and over the RAM that was handed in, which was fed the bytes.
 fn begun(
     alloc: Global,
     base: u64,
+    ram: Option<Ram>,
     shapes: &[Shape],
     bytes: &[u8],
 ) -> Result<Receiver<MemDisk>, RecvError>
-    ensures begun { IfOk result (λ r. IsFedTo (ram_at base) (disk_sizes shapes.now) bytes.now r) }
-    ensures refused { AreFitting bytes.now (disk_sizes shapes.now) → IfErr result (λ e. TellsWhy (ram_at base) bytes.now e) }
+    ensures begun { IfOk result (λ r. IsFedTo (terms_for base ram) (place_for ram) (disk_sizes shapes.now) bytes.now r) }
+    ensures refused { AreFitting bytes.now (disk_sizes shapes.now) → IfErr result (λ e. TellsWhy (terms_for base ram) bytes.now e) }
 {
     let Ok(disks) = zero_disks(alloc, shapes) else {
         return Err(RecvError::NoMemory);
     };
-    fed(alloc, base, disks, bytes)
-}
-
-/// A receiver over these disks, which was fed the bytes.
-#[tactic(auto, using(crate::proofs::Awaited::all_fed, crate::proofs::Awaited::all_refused, crate::proofs::Awaited::memory_disks))]
-fn fed(
-    alloc: Global,
-    base: u64,
-    disks: Vec<MemDisk>,
-    bytes: &[u8],
-) -> Result<Receiver<MemDisk>, RecvError>
-    ensures fed { IfOk result (λ r. IsFedTo (ram_at base) (sizes_of mem_state disks.items) bytes.now r) }
-    ensures refused { AreFitting bytes.now (sizes_of mem_state disks.items) → IfErr result (λ e. TellsWhy (ram_at base) bytes.now e) }
-{
-    let mut receiver = Receiver::new_at(alloc, disks, base);
+    let mut receiver = new_receiver(alloc, base, disks, ram);
     match receiver.feed(bytes) {
         Ok(()) => Ok(receiver),
         Err(error) => Err(error),
+    }
+}
+
+/// A receiver that was fed nothing, with these disks, and with the RAM that was handed in.
+pub(crate) fn new_receiver<D: Disk + Drop>(
+    alloc: Global,
+    base: u64,
+    disks: Vec<D>,
+    ram: Option<Ram>,
+) -> Receiver<D>
+    ensures { IsNew D.state disks.items (terms_for base ram) (place_for ram) result }
+{
+    match ram {
+        Some(ram) => Receiver::new_in_at(alloc, disks, ram, base),
+        None => Receiver::new_at(alloc, disks, base),
     }
 }

@@ -1,42 +1,38 @@
 //! The calls of an arrival, applied to the contents of a handle.
 //!
-//! `vmig_finish` of a stream that is not whole refuses it for good, as `Receiver::finish` takes the receiver. Out of memory on
-//! the way has a status of its own (47), since nothing can be fed after it; 10 is reported only where nothing changed.
+//! Each refusal is for good, also one before the header is whole: a peer that sends on after it gets no second try. `vmig_finish` of a
+//! stream that is not whole refuses it, as `Receiver::finish` takes the receiver. Out of memory on the way has a status of its own (47),
+//! since nothing can be fed after it; 10 is reported only where nothing changed.
 
-ghost use Rattle.std.specs.Prelude.{◌≡◌, false, true, IsNone};
-ghost use Rattle.vmig_c.specs.Arriving.{CountsKept, EndsIf, Fed, FeedsKept, FeedsWithin, FinishesIf, FinishesKept, TellsWholeKept, number_of};
-ghost use Rattle.vmig_c.specs.Awaited.{stream_status};
+ghost use Rattle.std.specs.Prelude.{◌≡◌, None, false, true};
+ghost use Rattle.vmig_c.specs.Arriving.{Ends, FeedsKept, FeedsWithin, FinishesKept, finish_refusal, is_taken, taken_status, fed_after, after_finish};
 ghost use Rattle.vmig_c.specs.Kept.{admission_of, are_mapped, state_in};
 
 use crate::admission::Admission;
 use crate::arrival::Arrival;
-use crate::handle::Handle;
 use crate::kept::{Contents, Kept};
 use crate::landing::Landing;
 use crate::migrating::taken_out;
-use crate::status::{DONE, IN_USE, NO_MEMORY, STREAM_FAILED};
-use receiver::RecvError;
+use crate::status::{DONE, IN_USE, STREAM_FAILED, WHOLE, stream_status};
 use std::alloc::Global;
 use std::mem;
 
-/// The first piece of a stream arrives. It stands apart so that the later ones pay nothing for it.
-#[inline(never)]
-#[tactic(auto, using(crate::proofs::ArrivalCalls::fed_first, crate::proofs::ArrivalCalls::fed_full))]
-pub(crate) fn feed_first(alloc: Global, machine: &mut Handle, piece: &[u8]) -> u32
-    requires { IsNone machine.old.machine }
-    ensures { Fed machine.old.machine piece.now result machine.new.machine }
+/// The next piece of a stream arrives.
+#[tactic(auto, using(crate::proofs::Arrivals::counted))]
+pub(crate) fn feed(alloc: Global, kept: &mut Kept, piece: &[u8]) -> u32
+    ensures feeds { FeedsKept kept.old.admission kept.old.state piece.now result kept.new.admission kept.new.state }
+    ensures counts { kept.new.fed ≡ fed_after result kept.old.fed piece.now }
+    ensures kind { kept.new ≡ record kept.old { state = kept.new.state; admission = kept.new.admission; fed = kept.new.fed } }
 {
-    let arriving = Kept::new(alloc, Contents::Arriving(Arrival::new(alloc, 0)));
-    let Ok(boxed) = Box::new(alloc, arriving) else {
-        return NO_MEMORY;
-    };
-    mem::replace(machine, Handle::of(boxed)).gone();
-    feed(alloc, machine.get_mut(), piece)
+    let status = fed(alloc, kept, piece);
+    if status == DONE || status == WHOLE {
+        kept.fed = kept.fed.saturating_add(piece.len() as u64);
+    }
+    status
 }
 
-/// The next piece of a stream arrives.
 #[tactic(auto, using(crate::proofs::Arrivals::fed))]
-pub(crate) fn feed(alloc: Global, kept: &mut Kept, piece: &[u8]) -> u32
+fn fed(alloc: Global, kept: &mut Kept, piece: &[u8]) -> u32
     ensures feeds { FeedsKept kept.old.admission kept.old.state piece.now result kept.new.admission kept.new.state }
     ensures kind { kept.new ≡ record kept.old { state = kept.new.state; admission = kept.new.admission } }
 {
@@ -65,8 +61,12 @@ fn feed_arrival(
         return status;
     }
     match arrival.feed(piece) {
-        Ok(()) => DONE,
-        Err(error) => stream_status(error),
+        Ok(()) => taken_status(arrival.is_whole()),
+        Err(error) => {
+            let status = stream_status(error);
+            *admission = Admission::Denied(status);
+            status
+        }
     }
 }
 
@@ -83,41 +83,70 @@ fn feed_landing(
         return status;
     }
     match landing.feed(piece) {
-        Ok(()) => DONE,
-        Err(error) => stream_status(error),
+        Ok(()) => taken_status(landing.is_whole()),
+        Err(error) => {
+            let status = stream_status(error);
+            *admission = Admission::Denied(status);
+            status
+        }
     }
+}
+
+/// The status of a piece that was taken, by whether the stream has ended with it.
+fn taken_status(whole: bool) -> u32
+    ensures { result ≡ taken_status whole }
+{
+    if whole { WHOLE } else { DONE }
 }
 
 /// All pieces have arrived.
 pub(crate) fn finish(alloc: Global, kept: &mut Kept) -> u32
-    ensures finishes { FinishesKept kept.old.admission kept.old.state result kept.new.state }
-    ensures kind { kept.new ≡ record kept.old { state = kept.new.state } }
+    ensures finishes { FinishesKept kept.old.admission kept.old.state result kept.new.admission kept.new.state }
+    ensures kind { kept.new ≡ record kept.old { state = kept.new.state; admission = kept.new.admission } }
 {
-    let is_denied = kept.admission.is_denied();
-    let (next, status) = finished(alloc, is_denied, taken_out(alloc, &mut kept.contents));
+    if let Some(status) = finish_refusal(kept) {
+        return status;
+    }
+    let (next, status) = finished(alloc, taken_out(alloc, &mut kept.contents));
     drop(mem::replace(&mut kept.contents, next));
+    if status != DONE {
+        kept.admission = Admission::Denied(status);
+    }
     status
 }
 
-fn finished(alloc: Global, is_denied: bool, old: Contents) -> (Contents, u32)
-    ensures finishes { FinishesIf is_denied (state_in old) result.1 (state_in result.0) }
+/// Why no arrival is finished, if so.
+fn finish_refusal(kept: &Kept) -> Option<u32>
+    ensures { result ≡ finish_refusal kept.now.admission kept.now.state }
+{
+    match &kept.contents {
+        Contents::Arriving(_) | Contents::ArrivingMapped(_) => {
+            if kept.admission.refusal().is_some() {
+                return Some(STREAM_FAILED);
+            }
+            None
+        }
+        _ => Some(IN_USE),
+    }
+}
+
+fn finished(alloc: Global, old: Contents) -> (Contents, u32)
+    requires { is_arriving (state_in old) ≡ true }
+    ensures finishes { FinishesState (state_in old) result.1 (state_in result.0) }
     ensures kind { are_mapped result.0 ≡ are_mapped old }
 {
     match old {
-        Contents::Arriving(arrival) => finish_arrival(alloc, is_denied, arrival),
-        Contents::ArrivingMapped(landing) => finish_landing(is_denied, landing),
+        Contents::Arriving(arrival) => finish_arrival(alloc, arrival),
+        Contents::ArrivingMapped(landing) => finish_landing(landing),
         contents => (contents, IN_USE),
     }
 }
 
-/// The end of an arrival; where its stream was denied it stays as it is.
-fn finish_arrival(alloc: Global, is_denied: bool, arrival: Arrival) -> (Contents, u32)
-    ensures ends { EndsIf is_denied arrival result.1 (state_in result.0) }
+/// The end of an arrival.
+fn finish_arrival(alloc: Global, arrival: Arrival) -> (Contents, u32)
+    ensures ends { Ends arrival result.1 (state_in result.0) }
     ensures own { are_mapped result.0 ≡ false }
 {
-    if is_denied {
-        return (Contents::Arriving(arrival), STREAM_FAILED);
-    }
     match arrival.finish() {
         Ok(machine) => (Contents::Still(machine), DONE),
         Err(error) => {
@@ -128,62 +157,12 @@ fn finish_arrival(alloc: Global, is_denied: bool, arrival: Arrival) -> (Contents
 }
 
 /// As above, over images.
-fn finish_landing(is_denied: bool, landing: Landing) -> (Contents, u32)
-    ensures ends { EndsIf is_denied landing result.1 (state_in result.0) }
+fn finish_landing(landing: Landing) -> (Contents, u32)
+    ensures ends { Ends landing result.1 (state_in result.0) }
     ensures mapped { are_mapped result.0 ≡ true }
 {
-    if is_denied {
-        return (Contents::ArrivingMapped(landing), STREAM_FAILED);
-    }
     match landing.finish() {
         Ok(machine) => (Contents::StillMapped(machine), DONE),
         Err((error, landing)) => (Contents::ArrivingMapped(landing), stream_status(error)),
     }
-}
-
-/// The number of rounds that ended in the bytes that arrived.
-pub(crate) fn rounds(kept: &Kept, rounds: &mut u32) -> u32
-    ensures { CountsKept kept.now.state result rounds.new rounds.old }
-{
-    match &kept.contents {
-        Contents::Arriving(arrival) => {
-            *rounds = arrival.rounds();
-            DONE
-        }
-        Contents::ArrivingMapped(landing) => {
-            *rounds = landing.rounds();
-            DONE
-        }
-        _ => IN_USE,
-    }
-}
-
-/// Whether the end of the stream has come: 1, or 0.
-pub(crate) fn is_whole(kept: &Kept, whole: &mut u32) -> u32
-    ensures { TellsWholeKept kept.now.state result whole.new whole.old }
-{
-    match &kept.contents {
-        Contents::Arriving(arrival) => {
-            *whole = number_of(arrival.is_whole());
-            DONE
-        }
-        Contents::ArrivingMapped(landing) => {
-            *whole = number_of(landing.is_whole());
-            DONE
-        }
-        _ => IN_USE,
-    }
-}
-
-fn number_of(whole: bool) -> u32
-    ensures { result ≡ number_of whole }
-{
-    if whole { 1 } else { 0 }
-}
-
-/// The status for a stream that is refused for good.
-pub(crate) fn stream_status(error: RecvError) -> u32
-    ensures { result ≡ stream_status error }
-{
-    32 + error.code() as u32
 }

@@ -1,100 +1,154 @@
-//! What the machine of a handle is.
+//! What a handle has.
 //!
-//! What C gets of a machine is what it was made of, in the struct that it makes machines by; fields that the kind does not need
-//! are zeros.
+//! One call answers all questions, in each state, so a host keeps no state of its own beside the handle. What C gets of a device is what it
+//! was made of, in the struct that it makes machines by.
 
-ghost use Rattle.std.specs.Prelude.{◌≡◌, map, slice_get};
+ghost use Rattle.std.specs.Prelude.{◌≡◌, ◌≤◌, length, map};
 ghost use Rattle.machine.specs.Seen.{state_of};
-ghost use Rattle.vmig_c.specs.Kept.{loan_of, parked_in};
-ghost use Rattle.vmig_c.specs.Described.{BasesKept, DescribesKept, IsBased, IsSized, IsSizedLent, SizesKept, Tells, TellsOf};
+ghost use Rattle.machine.specs.Shapes.{made_as};
+ghost use Rattle.machine.specs.declared.machine.TheConstants.{DEVICES_MAX};
+ghost use Rattle.vmig_c.specs.Described.{IsDescribed, IsToldArriving, fault_in, lost_bits, round_in, sent_as, state_in_phase, told_machine, told_parked, told_still};
+ghost use Rattle.vmig_c.specs.Kept.{admission_of, loan_of, parked_in};
+ghost use Rattle.vmig_c.specs.Unmapping.{images_in};
 
-use crate::device_shape::DeviceShape;
-use crate::kept::{Kept, by_state};
+use crate::admission::Admission;
+use crate::description::{Description, message_of};
+use crate::kept::{Contents, Kept};
 use crate::loan::Loan;
-use crate::status::{DONE, NO_DEVICE};
+use crate::status::SEND_FAILED;
+use crate::unmapping::image_count;
 use guestmem::PAGE_SIZE;
-use machine::{Disk, Machine, Shape};
+use machine::{Disk, Machine};
+use sender::Phase;
 
-/// How many pages and devices the machine of a handle has.
-pub(crate) fn size_kept(kept: &Kept, pages: &mut u32, devices: &mut u32) -> u32
-    ensures { SizesKept kept.now.state result pages.new pages.old devices.new devices.old }
+const IS_ARRIVING: u32 = 1;
+
+const IS_FAILED: u32 = 2;
+
+const IS_IDLE: u32 = 3;
+
+const IS_SENDING: u32 = 4;
+
+const IS_SEND_FAILED: u32 = 5;
+
+const IS_STOPPED: u32 = 6;
+
+/// What the handle has.
+pub(crate) fn describe(kept: &Kept) -> Description
+    ensures { IsDescribed kept.now result }
 {
-    by_state!(&kept.contents;
-        still(machine) => size_status(machine, pages, devices),
-        moving(live) => size_status(live.machine(), pages, devices),
-        lent(loan) => lent_size_status(loan, pages, devices),
-    )
+    let mut told = match &kept.contents {
+        Contents::Still(machine) => told_still(machine),
+        Contents::StillMapped(machine) => told_still(machine),
+        Contents::Moving(live) => sent_as(told_still(live.machine()), live.phase()),
+        Contents::MovingMapped(live) => sent_as(told_still(live.machine()), live.phase()),
+        Contents::Lent(loan) => told_lent(loan),
+        Contents::Arriving(arrival) => told_arriving(
+            &kept.admission,
+            kept.fed,
+            arrival.base(),
+            arrival.rounds(),
+            arrival.is_whole(),
+        ),
+        Contents::ArrivingMapped(landing) => told_arriving(
+            &kept.admission,
+            kept.fed,
+            landing.base(),
+            landing.rounds(),
+            landing.is_whole(),
+        ),
+    };
+    told.images = image_count(&kept.contents) as u32;
+    told.lost = lost_bits(kept.lost());
+    told
 }
 
-fn size_status<D: Disk>(machine: &Machine<D>, pages: &mut u32, devices: &mut u32) -> u32
-    ensures { IsSized (state_of machine.now) result pages.new devices.new }
+/// What is told of a machine that is not being sent.
+fn told_still<D: Disk>(machine: &Machine<D>) -> Description
+    ensures { result ≡ told_still machine.now }
 {
     let shapes = machine.shapes();
-    *pages = (machine.ram().len() / PAGE_SIZE as u64) as u32;
-    *devices = shapes.len() as u32;
-    DONE
+    let pages = (machine.ram().len() / PAGE_SIZE as u64) as u32;
+    let mut told = Description::none().with_shapes(pages, shapes);
+    told.state = IS_IDLE;
+    told.base = machine.base();
+    told.message = message_of(shapes);
+    told
 }
 
-/// As above, while its RAM is lent.
-fn lent_size_status(loan: &Loan, pages: &mut u32, devices: &mut u32) -> u32
-    ensures { IsSizedLent (parked_in (loan_of loan.now)) result pages.new devices.new }
+/// As above, where it is being sent, and this is how far that has come.
+fn sent_as(told: Description, phase: Phase) -> Description
+    ensures { result ≡ sent_as told phase }
 {
-    *pages = loan.pages() as u32;
-    *devices = loan.shapes().len() as u32;
-    DONE
-}
-
-/// The guest-physical address at which the RAM of the machine of a handle begins.
-pub(crate) fn base_kept(kept: &Kept, base: &mut u64) -> u32
-    ensures { BasesKept kept.now.state result base.new base.old }
-{
-    by_state!(&kept.contents;
-        still(machine) => base_status(machine, base),
-        moving(live) => base_status(live.machine(), base),
-        lent(loan) => lent_base_status(loan, base),
-    )
-}
-
-fn base_status<D: Disk>(machine: &Machine<D>, base: &mut u64) -> u32
-    ensures { IsBased (state_of machine.now).devices result base.new }
-{
-    *base = machine.base();
-    DONE
-}
-
-/// As above, while its RAM is lent.
-fn lent_base_status(loan: &Loan, base: &mut u64) -> u32
-    ensures { IsBased (map (λ d. d.state) (parked_in (loan_of loan.now)).devices) result base.new }
-{
-    *base = loan.base();
-    DONE
-}
-
-/// What a device of the machine of a handle was made as.
-pub(crate) fn describe_kept(kept: &Kept, dev: u8, shape: &mut DeviceShape) -> u32
-    ensures { DescribesKept kept.now.state dev result shape.new shape.old }
-{
-    by_state!(&kept.contents;
-        still(machine) => shape_status(machine, dev, shape),
-        moving(live) => shape_status(live.machine(), dev, shape),
-        lent(loan) => tell(loan.shapes(), dev, shape),
-    )
-}
-
-fn shape_status<D: Disk>(machine: &Machine<D>, dev: u8, shape: &mut DeviceShape) -> u32
-    ensures { TellsOf (state_of machine.now) dev result shape.new shape.old }
-{
-    tell(machine.shapes(), dev, shape)
-}
-
-/// What the device of a number is made as, of devices that are made as these.
-pub(crate) fn tell(shapes: &[Shape], dev: u8, shape: &mut DeviceShape) -> u32
-    ensures { Tells (slice_get shapes.now dev) result shape.new shape.old }
-{
-    let number = dev as usize;
-    if number >= shapes.len() {
-        return NO_DEVICE;
+    let mut told = told;
+    told.state = IS_SENDING;
+    match phase {
+        Phase::Fresh => {}
+        Phase::Open(round) => told.rounds = round,
+        Phase::Stopped => told.state = IS_STOPPED,
+        Phase::Failed => {
+            told.state = IS_SEND_FAILED;
+            told.fault = SEND_FAILED;
+        }
     }
-    *shape = DeviceShape::of(shapes[number]);
-    DONE
+    told
+}
+
+/// As above, where its RAM is lent.
+fn told_lent(loan: &Loan) -> Description
+    ensures { result ≡ told_lent (loan_of loan.now) }
+{
+    let shapes = loan.shapes();
+    let mut told = Description::none().with_shapes(loan.pages() as u32, shapes);
+    told.state = IS_IDLE;
+    told.lent = 1;
+    told.base = loan.base();
+    told.message = message_of(shapes);
+    match loan.phase() {
+        Some(phase) => sent_as(told, phase),
+        None => told,
+    }
+}
+
+/// What is told of a machine that arrives, or of a stream that was refused.
+fn told_arriving(
+    admission: &Admission,
+    fed: u64,
+    base: u64,
+    rounds: u32,
+    whole: bool,
+) -> Description
+    ensures { result ≡ told_arriving (admission_of admission.now) fed base rounds whole }
+{
+    let mut told = Description::none();
+    if let Admission::Denied(status) = admission {
+        told.state = IS_FAILED;
+        told.fault = *status;
+        told.fault_at = fed;
+        return told;
+    }
+    if let Admission::Granted(pages, shapes) = admission {
+        told = told.with_shapes(*pages, shapes);
+    }
+    told.state = IS_ARRIVING;
+    told.base = base;
+    told.rounds = rounds;
+    told.whole = whole as u32;
+    told
+}
+
+/// Bit d for device d, whose disk was lost.
+fn lost_bits(lost: &[bool]) -> u32
+    requires { length lost.now ≤ DEVICES_MAX }
+    ensures { result ≡ lost_bits lost.now }
+{
+    let mut bits = 0u32;
+    let mut bit = 1u32;
+    for is_lost in lost {
+        if *is_lost {
+            bits += bit;
+        }
+        bit *= 2;
+    }
+    bits
 }

@@ -2,18 +2,19 @@
 
 ghost use Rattle.std.specs.Prelude.{◌≡◌};
 ghost use Rattle.vmig_c.specs.Described.{described};
-ghost use Rattle.vmig_c.specs.Making.{shape_of, is_plain, is_known};
+ghost use Rattle.vmig_c.specs.Making.{has_only, is_known, is_plain, no_shape, shape_of};
+ghost use Rattle.vmig_c.specs.Named.{are_zeros};
 
 use machine::{SECTORS_MAX, Shape};
 
-/// A device that C asks for. What a kind does not need is not read.
+/// A device that C asks for. What its kind does not need is 0.
 #[derive(Clone, Copy)]
 #[repr(C)]
 pub struct DeviceShape {
     /// The device type of the standard (VIRTIO 1.2, 5): 1 a network device, 2 a block device, 3 a console, 4 an entropy device.
     pub kind: u8,
 
-    /// Of a block device: whether the driver may only read it. 0 is no, and any other value is yes.
+    /// Of a block device: whether the driver may only read it, 1 or 0.
     pub read_only: u8,
 
     /// Of a network device: its MAC.
@@ -24,20 +25,35 @@ pub struct DeviceShape {
 
     /// Of a block device: the id that it returns to a driver that asks for it.
     pub id: [u8; 20],
+
+    /// 0, until a later version gives it a meaning.
+    pub frame: u32,
+
+    /// Zeros, until a later version asks for more by them.
+    pub reserved: [u64; 2],
 }
 
 impl DeviceShape {
-    /// What a device was made as. What its kind does not need is zeros.
-    pub(crate) fn of(shape: Shape) -> DeviceShape
-        ensures { result ≡ described shape }
+    /// That of no device: zeros.
+    pub(crate) fn none() -> DeviceShape
+        ensures { result ≡ no_shape }
     {
-        let none = DeviceShape {
-            kind: 4,
+        DeviceShape {
+            kind: 0,
             read_only: 0,
             mac: [0; 6],
             sectors: 0,
             id: [0; 20],
-        };
+            frame: 0,
+            reserved: [0; 2],
+        }
+    }
+
+    /// What a device was made as. What its kind does not need is zeros.
+    pub(crate) fn of(shape: Shape) -> DeviceShape
+        ensures { result ≡ described shape }
+    {
+        let none = DeviceShape::none();
         match shape {
             Shape::Net { mac } => DeviceShape {
                 kind: 1,
@@ -56,7 +72,7 @@ impl DeviceShape {
                 ..none
             },
             Shape::Console => DeviceShape { kind: 3, ..none },
-            Shape::Entropy => none,
+            Shape::Entropy => DeviceShape { kind: 4, ..none },
         }
     }
 
@@ -70,6 +86,7 @@ impl DeviceShape {
             mac,
             sectors,
             id,
+            ..
         } = self;
         let read_only = read_only != 0;
         match kind {
@@ -85,13 +102,34 @@ impl DeviceShape {
     }
 
     /// Whether there can be such a device.
-    pub(crate) fn is_plain(self) -> bool
-        ensures { result ≡ is_plain self }
+    pub(crate) fn is_plain(&self) -> bool
+        ensures { result ≡ is_plain self.now }
     {
+        if !self.has_only() {
+            return false;
+        }
         match self.kind {
             2 => self.sectors != 0 && self.sectors <= SECTORS_MAX,
             kind => is_known(kind),
         }
+    }
+
+    /// Whether what its kind does not need is 0, and what no kind needs yet.
+    fn has_only(&self) -> bool
+        ensures { result ≡ has_only self.now }
+    {
+        (self.kind == 1 || are_zero_bytes(&self.mac))
+            && (self.kind == 2 || self.has_no_disk())
+            && self.read_only <= 1
+            && self.frame == 0
+            && are_zeros(&self.reserved)
+    }
+
+    /// Whether nothing is said of a disk.
+    fn has_no_disk(&self) -> bool
+        ensures { result ≡ has_no_disk self.now }
+    {
+        self.read_only == 0 && self.sectors == 0 && are_zero_bytes(&self.id)
     }
 }
 
@@ -99,4 +137,27 @@ fn is_known(kind: u8) -> bool
     ensures { result ≡ is_known kind }
 {
     kind == 1 || kind == 2 || kind == 3 || kind == 4
+}
+
+fn are_zero_bytes(bytes: &[u8]) -> bool
+    ensures { result ≡ are_zeros bytes.now }
+{
+    for byte in bytes {
+        if *byte != 0 {
+            return false;
+        }
+    }
+    true
+}
+
+/// Whether all words are 0.
+pub(crate) fn are_zeros(words: &[u64]) -> bool
+    ensures { result ≡ are_zeros words.now }
+{
+    for word in words {
+        if *word != 0 {
+            return false;
+        }
+    }
+    true
 }

@@ -1,64 +1,98 @@
 //! Machines will arrive in a handle: within which limits and in whose memory, the caller says.
 //!
-//! A machine arrives in memory of the caller by a call before its first piece; all calls after it are those of any other
-//! arrival. So the call of a piece has no slots, and images have one way in and one way out: `vmig_unmap`, in each state, also
-//! on the way and after a refusal. Without that call the disks are made in memory of the library, as soon as the header says
-//! their sizes.
-//!
-//! What arrives into RAM of the caller has its disks in images, or none: disks of the library would be made when the header is
-//! whole, and RAM is given before. A host that has memory for RAM has it for disks.
+//! A call before the first piece is the only way in, so nothing arrives that no limit was given for. All calls after it are those of any
+//! arrival, and the call of a piece has no slots: images have one way in and one way out, `vmig_release`, in each state, also on the way and
+//! after a refusal. Without images the disks are made in memory of the library, as soon as the header says their sizes.
 
 ghost use Rattle.std.specs.Prelude.{◌≡◌, [], IfErr, IfOk, None};
-ghost use Rattle.vmig_c.specs.AdmissionSeen as seen;
-ghost use Rattle.vmig_c.specs.Expected.{KeepsExpected, KeepsFresh, arrival_refusal_of, has_images, has_ram, limits_of, ram_left};
+ghost use Rattle.vmig_c.specs.Expected.{Expects, IsArrivalOf, IsUntaken, arrival_refusal_of, has_ram, limits_of, terms_of};
+ghost use Rattle.vmig_c.specs.Made.{ram_left};
 ghost use Rattle.vmig_c.specs.Mapping.{AreTaken};
 
-use crate::admission::Limits;
+use crate::admission::{Admission, Limits};
 use crate::arrival::Arrival;
+use crate::handle::Handle;
 use crate::kept::{Contents, Kept};
-use crate::landing::landing_over;
-use crate::over_ram::landing_in;
-use crate::setup::{Expected, is_none};
-use guestmem::NoMemory;
+use crate::landing::Landing;
+use crate::making::shapes_of;
+use crate::mapping::{give_back, mapped_disks};
+use crate::over_ram::{filled, ram_from, stand_in};
+use crate::setup::{Expected, arrival_refusal, is_none};
+use crate::status::{DONE, IN_USE, NO_MEMORY};
+use guestmem::{NoMemory, PAGES_MAX};
 use std::alloc::Global;
+use std::mem;
+
+/// Takes what the struct names, and waits for the machine.
+#[tactic(auto, using(crate::proofs::Makings::arrival_used, crate::proofs::Makings::arrival_refused, crate::proofs::Makings::arrival_full, crate::proofs::Makings::arrival_done))]
+pub(crate) fn arrive(alloc: Global, arrival: &mut Expected, machine: &mut Handle) -> u32
+    ensures expected { Expects machine.old.machine arrival.old result arrival.new machine.new.machine }
+    ensures rest { arrival.new ≡ record arrival.old { images = arrival.new.images; ram = arrival.new.ram } }
+    ensures slots { arrival.new.images.ghost_name ≡ arrival.old.images.ghost_name }
+{
+    if machine.is_made() {
+        return IN_USE;
+    }
+    if let Some(status) = arrival_refusal(arrival) {
+        return status;
+    }
+    let Ok(made) = awaited(alloc, arrival) else {
+        return NO_MEMORY;
+    };
+    mem::replace(machine, Handle::of(made)).gone();
+    DONE
+}
 
 /// An arrival in a box. What it names was checked before, so its only error is out of memory: then nothing is taken.
 pub(crate) fn awaited(alloc: Global, expected: &mut Expected) -> Result<Box<Kept>, NoMemory>
     requires { arrival_refusal_of expected.old ≡ None }
-    ensures expected { IfOk result (λ k. KeepsExpected (has_ram expected.old) (has_images expected.old) expected.old k.value) }
-    ensures limits { IfOk result (λ k. k.value.admission ≡ seen.Pending (limits_of expected.old) []) }
+    ensures expected { IfOk result (λ k. IsArrivalOf expected.old k.value) }
     ensures ram { IfOk result (λ k. expected.new.ram ≡ ram_left (has_ram expected.old) expected.old.ram) }
     ensures taken { IfOk result (λ k. AreTaken expected.old.images.now expected.new.images.now) }
-    ensures ram_same { IfErr result (λ e. expected.new.ram ≡ expected.old.ram) }
+    ensures same { IfErr result (λ e. IsUntaken expected.old expected.new) }
     ensures rest { expected.new ≡ record expected.old { images = expected.new.images; ram = expected.new.ram } }
     ensures slots { expected.new.images.ghost_name ≡ expected.old.images.ghost_name }
-    ensures images_same { IfErr result (λ e. expected.new.images.now ≡ expected.old.images.now) }
 {
-    let limits = Limits {
-        pages: expected.most_pages,
-        sectors: expected.most_sectors,
-    };
-    if !expected.ram.is_none() {
-        return landing_in(
-            alloc,
-            expected.base,
-            limits,
-            &mut expected.ram,
-            expected.images,
-        );
+    let shapes = shapes_of(alloc, expected.shapes)?;
+    let admission = Admission::Pending(limits(expected), shapes, Vec::new(alloc));
+    let boxed = stand_in(alloc)?;
+    let base = expected.base;
+    if is_none(expected.images) {
+        let ram = ram_from(alloc, &mut expected.ram)?;
+        let arrival = Contents::Arriving(Arrival::new(alloc, base, ram));
+        return Ok(filled(boxed, Kept::within(alloc, arrival, admission)));
     }
-    if !is_none(expected.images) {
-        return landing_over(alloc, expected.base, limits, expected.images);
+    let disks = mapped_disks(alloc, expected.images)?;
+    match ram_from(alloc, &mut expected.ram) {
+        Ok(ram) => {
+            let landing = Contents::ArrivingMapped(Landing::new(alloc, base, disks, ram));
+            Ok(filled(boxed, Kept::within(alloc, landing, admission)))
+        }
+        Err(_) => {
+            give_back(disks, expected.images);
+            Err(NoMemory)
+        }
     }
-    fresh(alloc, expected.base, limits)
 }
 
-/// An arrival whose RAM and disks will be memory of the library.
-fn fresh(alloc: Global, base: u64, limits: Limits) -> Result<Box<Kept>, NoMemory>
-    ensures fresh { IfOk result (λ k. KeepsFresh base k.value) }
-    ensures limits { IfOk result (λ k. k.value.admission ≡ seen.Pending limits []) }
+/// The most that a machine may have that arrives. RAM and images of the caller are their own limit.
+fn limits(expected: &mut Expected) -> Limits
+    ensures same { expected.new ≡ expected.old }
+    ensures limits { result ≡ limits_of expected.old }
 {
-    let contents = Contents::Arriving(Arrival::new(alloc, base));
-    let boxed = Box::new(alloc, Kept::within(alloc, contents, limits))?;
-    Ok(boxed)
+    let pages = if expected.ram.is_none() {
+        expected.most_pages
+    } else {
+        PAGES_MAX
+    };
+    let sectors = if is_none(expected.images) {
+        expected.most_sectors
+    } else {
+        u64::MAX
+    };
+    Limits {
+        pages,
+        sectors,
+        base: expected.base,
+    }
 }

@@ -5,17 +5,14 @@ ghost use Rattle.std.specs.List.{concat};
 ghost use Rattle.blk.specs.Disk.{AreSectors};
 ghost use Rattle.machine.specs.Seen.{state_of};
 ghost use Rattle.machine.specs.Shapes.{disk_size_of, disk_sizes, sector_count};
-ghost use Rattle.vmig_c.specs.Images.{AreImages, KeepsMadeWith, ReadsKept, ReadsOut, disk_refusal, image_size, sector_refusal, sector_refusal_of};
+ghost use Rattle.vmig_c.specs.Images.{AreImages, ReadsKept, ReadsOut, disk_refusal, image_size, sector_refusal, sector_refusal_of};
 ghost use Rattle.vmig_c.specs.Making.{shape_of, shapes_of};
 ghost use Rattle.vmig_c.specs.Kept.{Still};
 
 use crate::device_shape::DeviceShape;
-use crate::kept::{Contents, Kept, by_state};
-use crate::making::{shapes_of, zeroed_machine};
-use crate::moving::put_front;
+use crate::kept::{Kept, by_state};
 use crate::status::{
-    BAD_SECTOR, DISK_FAILED, DONE, IS_MOVING, LENT, NO_DEVICE, NO_MACHINE, NO_SECTOR, TOO_SMALL,
-    WRONG_KIND,
+    BAD_SECTOR, DISK_FAILED, DONE, LENT, NO_DEVICE, NO_MACHINE, NO_SECTOR, SENDING, WRONG_KIND,
 };
 use guestmem::NoMemory;
 use machine::{Disk, Machine, MemDisk, SECTOR_SIZE, Shape};
@@ -48,27 +45,6 @@ pub(crate) fn count_in(shape: Shape) -> u64
         Shape::Block { sectors, .. } => sectors,
         Shape::Net { .. } | Shape::Console | Shape::Entropy => 0,
     }
-}
-
-/// A machine in a box, over disks that hold the images. The limits and the images' length were tested, so it fails only if it
-/// is out of memory.
-pub(crate) fn machine_with(
-    alloc: Global,
-    base: u64,
-    pages: u32,
-    shapes: &[DeviceShape],
-    images: &[u8],
-) -> Result<Box<Kept>, NoMemory>
-    requires { length images.now ≡ image_size (shapes_of shapes.now) }
-    ensures { IfOk result (λ k. KeepsMadeWith base pages (shapes_of shapes.now) images.now k.value) }
-{
-    let shapes = shapes_of(alloc, shapes)?;
-    let disks = image_disks(alloc, &shapes, images)?;
-    let Ok(machine) = zeroed_machine(alloc, base, pages, &shapes, disks) else {
-        return Err(NoMemory);
-    };
-    let boxed = Box::new(alloc, Kept::new(alloc, Contents::Still(machine)))?;
-    Ok(boxed)
 }
 
 /// A disk for each device that has one, in their order, that hold the images one after another.
@@ -121,43 +97,43 @@ fn put_sector(disk: &mut MemDisk, n: u64, image: &[u8])
     let _done = disk.write(n, bytes);
 }
 
-/// Reads a sector into the front of the buffer, unless the machine is being migrated.
-pub(crate) fn read_sector(kept: &mut Kept, dev: u8, sector: u64, buf: &mut [u8]) -> u32
+/// Reads a sector into the buffer, unless the machine is being sent.
+pub(crate) fn read_sector(kept: &mut Kept, dev: u8, sector: u64, buf: &mut [u8; SECTOR_SIZE]) -> u32
     ensures reads { ReadsKept kept.old.state dev sector result buf.old buf.new kept.new.state }
     ensures kind { kept.new ≡ record kept.old { state = kept.new.state } }
 {
-    if let Some(status) = sector_refusal(kept, dev, sector, buf.len()) {
+    if let Some(status) = sector_refusal(kept, dev, sector) {
         return status;
     }
     by_state!(&mut kept.contents;
         still(machine) => read_out(machine, dev, sector, buf),
-        moving(_) => IS_MOVING,
+        moving(_) => SENDING,
     )
 }
 
 /// Why `vmig_sector_read` is refused, if it is.
-fn sector_refusal(kept: &Kept, dev: u8, sector: u64, room: usize) -> Option<u32>
-    ensures { result ≡ sector_refusal kept.now.state dev sector room }
+fn sector_refusal(kept: &Kept, dev: u8, sector: u64) -> Option<u32>
+    ensures { result ≡ sector_refusal kept.now.state dev sector }
 {
     by_state!(&kept.contents;
-        still(machine) => device_refusal(machine, dev, sector, room),
-        moving(_) => Some(IS_MOVING),
+        still(machine) => device_refusal(machine, dev, sector),
+        moving(_) => Some(SENDING),
         lent(_) => Some(LENT),
         arriving => Some(NO_MACHINE),
     )
 }
 
-fn device_refusal<D: Disk>(machine: &Machine<D>, dev: u8, sector: u64, room: usize) -> Option<u32>
-    ensures { result ≡ sector_refusal_of (slice_get (state_of machine.now).devices dev) sector room }
+fn device_refusal<D: Disk>(machine: &Machine<D>, dev: u8, sector: u64) -> Option<u32>
+    ensures { result ≡ sector_refusal_of (slice_get (state_of machine.now).devices dev) sector }
 {
     if dev as usize >= machine.shapes().len() {
         return Some(NO_DEVICE);
     }
-    disk_refusal(machine.state(dev).shape(), sector, room)
+    disk_refusal(machine.state(dev).shape(), sector)
 }
 
-fn disk_refusal(shape: Shape, sector: u64, room: usize) -> Option<u32>
-    ensures { result ≡ disk_refusal (disk_size_of shape) sector room }
+fn disk_refusal(shape: Shape, sector: u64) -> Option<u32>
+    ensures { result ≡ disk_refusal (disk_size_of shape) sector }
 {
     let Shape::Block { sectors, .. } = shape else {
         return Some(WRONG_KIND);
@@ -165,22 +141,24 @@ fn disk_refusal(shape: Shape, sector: u64, room: usize) -> Option<u32>
     if sector >= sectors {
         return Some(NO_SECTOR);
     }
-    if room < SECTOR_SIZE {
-        return Some(TOO_SMALL);
-    }
     None
 }
 
 /// Reads the sector, and copies its bytes to the buffer if it is good.
-fn read_out<D: Disk>(machine: &mut Machine<D>, dev: u8, sector: u64, buf: &mut [u8]) -> u32
-    requires { sector_refusal (Still machine.old) dev sector (length buf.old) ≡ None }
+fn read_out<D: Disk>(
+    machine: &mut Machine<D>,
+    dev: u8,
+    sector: u64,
+    buf: &mut [u8; SECTOR_SIZE],
+) -> u32
+    requires { sector_refusal (Still machine.old) dev sector ≡ None }
     ensures { ReadsOut machine.old dev sector result buf.old buf.new machine.new }
 {
     let _shapes = machine.shapes();
     let mut bytes = [0; SECTOR_SIZE];
     match machine.read_sector(dev, sector, &mut bytes) {
         Ok(true) => {
-            put_front(&bytes, buf);
+            *buf = bytes;
             DONE
         }
         Ok(false) => BAD_SECTOR,

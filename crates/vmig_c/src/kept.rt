@@ -6,14 +6,14 @@
 //!
 //! In whose memory the disks are is a type below the contents: machines over `MemDisk` and machines over `MappedDisk` are kept
 //! apart. What is seen of a machine has the sectors of its disks, and not where they lie, so with one type for both a
-//! `vmig_unmap` that gave no image back would meet its clause.
+//! `vmig_release` that gave no image back would meet its clause.
 //!
 //! `by_state` has the states once: a call names two or three answers in place of seven cases. A generic type for the states
 //! below a choice of disks would make each call two functions, with a contract of its own for the inner one.
 
 ghost use Rattle.vmig_c.specs.Kept.{admission_of, kept_of};
 
-use crate::admission::{Admission, Limits};
+use crate::admission::Admission;
 use crate::arrival::Arrival;
 use crate::landing::Landing;
 use crate::loan::Loan;
@@ -82,17 +82,19 @@ macro_rules! by_state {
 
 pub(crate) use by_state;
 
-/// The contents of a handle. Contracts see which state they are in, whether the disks are the caller's memory, the limits on what
-/// arrives, and which disks were lost.
+/// The contents of a handle. Contracts see which state they are in, whether the disks are the caller's memory, whether a stream is let in and
+/// how much of it was taken, and which disks were lost.
 #[derive(Drop)]
 pub struct Kept {
     pub(crate) contents: Contents,
     // The bytes of the last message that a step sent: kept, so that the next one takes no memory.
     pub(crate) sent: Vec<u8>,
-    // The numbers of the pages that were given back last by a bitmap: kept for the same reason.
+    // The numbers of the pages that were named last by a bitmap: kept for the same reason.
     pub(crate) named: Vec<u32>,
     // Of what arrives: whether its stream is let in.
     pub(crate) admission: Admission,
+    // Of what arrives: how many bytes of its stream were taken.
+    pub(crate) fed: u64,
     // For each device, whether its disk was lost: it could not be brought to its file, and will not be.
     lost: [bool; DEVICES_MAX],
 }
@@ -102,38 +104,39 @@ impl Model for Kept {
 
     ghost Value = { KeptSeen };
 
-    ghost view = { λ k. kept_with k.contents (admission_of k.admission) k.lost };
+    ghost view = { λ k. kept_with k.contents (admission_of k.admission) k.fed k.lost };
 }
 
 impl Kept {
-    ghost use Rattle.std.specs.Prelude.{◌≡◌, [], slice_set, true};
-    ghost use Rattle.vmig_c.specs.AdmissionSeen as seen;
+    ghost use Rattle.std.specs.Prelude.{◌≡◌, slice_set, true};
     ghost use Rattle.vmig_c.specs.Kept.{is_lost, kept_with, none_lost};
 
     /// Wraps the contents of a handle.
     pub(crate) fn new(alloc: Global, contents: Contents) -> Kept
         ensures { result ≡ kept_of contents }
     {
-        Kept::with(alloc, contents, Admission::Granted)
+        Kept::within(alloc, contents, Admission::Granted(0, Vec::new(alloc)))
     }
 
-    /// Wraps a machine that will arrive, within the limits.
-    pub(crate) fn within(alloc: Global, contents: Contents, limits: Limits) -> Kept
-        ensures { result ≡ kept_with contents (seen.Pending limits []) none_lost }
-    {
-        Kept::with(alloc, contents, Admission::Pending(limits, Vec::new(alloc)))
-    }
-
-    fn with(alloc: Global, contents: Contents, admission: Admission) -> Kept
-        ensures { result ≡ kept_with contents (admission_of admission) none_lost }
+    /// Wraps a machine that will arrive.
+    pub(crate) fn within(alloc: Global, contents: Contents, admission: Admission) -> Kept
+        ensures { result ≡ kept_with contents (admission_of admission) 0 none_lost }
     {
         Kept {
             contents,
             sent: Vec::new(alloc),
             named: Vec::new(alloc),
             admission,
+            fed: 0,
             lost: [false; DEVICES_MAX],
         }
+    }
+
+    /// For each device, whether its disk was lost.
+    pub(crate) fn lost(&self) -> &[bool]
+        ensures { result.now ≡ self.now.lost }
+    {
+        &self.lost
     }
 
     /// Whether the disk of a device was lost.

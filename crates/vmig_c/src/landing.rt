@@ -7,18 +7,10 @@
 //! is written before is tested, and no clause says it: of a piece that is refused `feed` promises the sizes and the marks of
 //! the disks, and nothing of their sectors.
 
-ghost use Rattle.std.specs.Prelude.{◌≡◌, [], IfErr, IfOk};
-ghost use Rattle.vmig_c.specs.AdmissionSeen as seen;
-ghost use Rattle.vmig_c.specs.Landing.{KeepsAwaited};
-ghost use Rattle.vmig_c.specs.Mapping.{AreTaken, contents};
-
-use crate::admission::Limits;
-use crate::arrival::Arrival;
-use crate::kept::{Contents, Kept};
-use crate::mapping::mapped_disks;
-use guestmem::{NoMemory, Ram};
+use crate::arrival::new_receiver;
+use guestmem::Ram;
 use machine::Machine;
-use mapped_disk::{Image, MappedDisk};
+use mapped_disk::MappedDisk;
 use receiver::{Receiver, RecvError};
 use std::alloc::Global;
 use std::marker::Model;
@@ -41,28 +33,18 @@ impl Model for Landing {
 }
 
 impl Landing {
-    ghost use Rattle.std.specs.Prelude.{◌≡◌, IfErr, IfOk, None, length};
-    ghost use Rattle.receiver.specs.Opened.{given_at, ram_at};
-    ghost use Rattle.vmig_c.specs.Awaited.{CountsRounds, HasArrived, HasSameDisks, IsClosed, IsFed, IsOver, TellsEnd, TellsOf, TellsWhole, awaited_sizes};
+    ghost use Rattle.std.specs.Prelude.{◌≡◌, IfErr, IfOk, length};
+    ghost use Rattle.vmig_c.specs.Awaited.{CountsRounds, HasArrived, HasSameDisks, IsClosed, IsFed, IsOver, TellsEnd, TellsOf, TellsWhole, awaited_base, awaited_sizes, place_for, terms_for};
     ghost use Rattle.vmig_c.specs.Landing.{AreDisksOf, IsAwaitedAt};
     ghost use Rattle.vmig_c.specs.Mapping.{contents};
 
-    /// An arrival over these disks that was fed nothing yet, of a machine whose RAM will begin at the address `base`. It takes no
-    /// memory.
-    fn new(alloc: Global, base: u64, disks: Vec<MappedDisk>) -> Landing
-        ensures { IsAwaitedAt (ram_at base) None (contents disks.items) result }
+    /// An arrival over these disks that was fed nothing yet, of a machine whose RAM will begin at the address `base`: this RAM, or one in
+    /// memory of the library. It takes no memory.
+    pub(crate) fn new(alloc: Global, base: u64, disks: Vec<MappedDisk>, ram: Option<Ram>) -> Landing
+        ensures { IsAwaitedAt (terms_for base ram) (place_for ram) (contents disks.items) result }
     {
         Landing {
-            receiver: Receiver::new_at(alloc, disks, base),
-        }
-    }
-
-    /// As `new`, into this RAM.
-    pub(crate) fn new_in(alloc: Global, base: u64, disks: Vec<MappedDisk>, ram: Ram) -> Landing
-        ensures { IsAwaitedAt (given_at base ram.bytes) ram.place (contents disks.items) result }
-    {
-        Landing {
-            receiver: Receiver::new_in_at(alloc, disks, ram, base),
+            receiver: new_receiver(alloc, base, disks, ram),
         }
     }
 
@@ -86,6 +68,13 @@ impl Landing {
         ensures { TellsWhole self.now result }
     {
         self.receiver.is_whole()
+    }
+
+    /// The guest-physical address at which RAM will begin.
+    pub(crate) fn base(&self) -> u64
+        ensures { result ≡ awaited_base self.now }
+    {
+        self.receiver.base()
     }
 
     /// The machine whose stream was fed. A refusal gives back what holds the disks, which are as they were.
@@ -117,27 +106,4 @@ impl Landing {
         let Landing { receiver } = self;
         receiver.into_disks()
     }
-}
-
-/// An arrival in a box, over disks in the images, which are taken. Its only error is out of memory: then the images are as they were.
-/// The box is made before an image is taken.
-pub(crate) fn landing_over(
-    alloc: Global,
-    base: u64,
-    limits: Limits,
-    images: &mut [Image],
-) -> Result<Box<Kept>, NoMemory>
-    ensures made { IfOk result (λ k. KeepsAwaited base (contents images.old) k.value) }
-    ensures limits { IfOk result (λ k. k.value.admission ≡ seen.Pending limits []) }
-    ensures taken { IfOk result (λ k. AreTaken images.old images.new) }
-    ensures refused { IfErr result (λ e. images.new ≡ images.old) }
-{
-    let mut boxed = Box::new(
-        alloc,
-        Kept::new(alloc, Contents::Arriving(Arrival::new(alloc, base))),
-    )?;
-    let disks = mapped_disks(alloc, images)?;
-    let landing = Contents::ArrivingMapped(Landing::new(alloc, base, disks));
-    *boxed = Kept::within(alloc, landing, limits);
-    Ok(boxed)
 }

@@ -4,26 +4,26 @@
 //! length is compared, and the bytes that are given back are RAM from then on, wherever they lie: a host may have moved its
 //! mapping. A host that gives back other bytes has written them.
 //!
-//! RAM in memory of the caller is the caller's again after `vmig_free` and `vmig_unmap`, in each state. No clause says what it
+//! RAM in memory of the caller is the caller's again after `vmig_free` and `vmig_release`, in each state. No clause says what it
 //! holds then, since no contract sees a machine that was freed; `examples/c/lent.c` tests it.
 
-ghost use Rattle.std.specs.Prelude.{◌≡◌, ◌≤◌, ◌*◌, [], None, IfErr, IfOk, length, nat_lt, true};
+ghost use Rattle.std.specs.Prelude.{◌≡◌, ◌≤◌, ◌*◌, [], None, IfErr, IfOk, length, true};
 ghost use Rattle.guestmem.specs.declared.limits.TheConstants.{PAGE_SIZE, PAGES_MAX};
 ghost use Rattle.region.specs.Empty.{empty_slot};
 ghost use Rattle.region.specs.Slot.{region_of};
 ghost use Rattle.vmig_c.specs.Kept.{are_mapped, is_loan_mapped, loan_of, parked_in, state_in};
 ghost use Rattle.vmig_c.specs.declared.kept.Contents.TheVariants as contents;
-ghost use Rattle.vmig_c.specs.Lent.{ComesBack, ComesBackMarked, ComesBackWhole, HasComeBack, IsBackWith, IsLiveLoan, LendsIfOver, LendsKept, back_refusal_of, lend_refusal_of, lent_pages, mark_refusal_of, return_refusal_of};
+ghost use Rattle.vmig_c.specs.Lent.{ComesBack, HasComeBack, IsBackWith, IsLiveLoan, IsReturnable, LendsIfOver, LendsKept, back_refusal_of, lend_refusal_of, lent_pages};
 ghost use Rattle.vmig_c.specs.Mirror.{are_pages};
 
 use crate::kept::{Contents, Kept, Moving};
 use crate::loan::{Loan, MovingLent};
 use crate::migrating::taken_out;
-use crate::mirror::{are_pages, is_stopped};
-use crate::naming::{WORD_BITS, collect_all, collect_marked};
+use crate::mirror::is_stopped;
 use crate::over_ram::{put_back, taken_ram};
+use crate::pages::Pages;
 use crate::status::{
-    BAD_RAM, DONE, LENT, NO_MACHINE, NO_MEMORY, NOT_LENT, NOT_OVER, OUT_OF_RAM, STOPPED, TOO_SMALL,
+    BAD_RAM, DONE, LENT, NO_MACHINE, NO_MEMORY, NOT_KNOWN, NOT_LENT, NOT_YOURS, STOPPED,
 };
 use guestmem::{NoLog, PAGE_SIZE};
 use machine::Disk;
@@ -71,19 +71,19 @@ fn lent(old: Contents, ram: &mut Slot) -> (Contents, u32)
     match old {
         Contents::Still(machine) => match machine.lend() {
             Ok((region, parked)) => (lent_as(Loan::Still(parked), region, ram), DONE),
-            Err(machine) => (Contents::Still(machine), NOT_OVER),
+            Err(machine) => (Contents::Still(machine), NOT_YOURS),
         },
         Contents::StillMapped(machine) => match machine.lend() {
             Ok((region, parked)) => (lent_as(Loan::StillMapped(parked), region, ram), DONE),
-            Err(machine) => (Contents::StillMapped(machine), NOT_OVER),
+            Err(machine) => (Contents::StillMapped(machine), NOT_YOURS),
         },
         Contents::Moving(live) => match lent_live(live) {
             Ok((region, live)) => (lent_as(Loan::Moving(live), region, ram), DONE),
-            Err(live) => (Contents::Moving(live), NOT_OVER),
+            Err(live) => (Contents::Moving(live), NOT_YOURS),
         },
         Contents::MovingMapped(live) => match lent_live(live) {
             Ok((region, live)) => (lent_as(Loan::MovingMapped(live), region, ram), DONE),
-            Err(live) => (Contents::MovingMapped(live), NOT_OVER),
+            Err(live) => (Contents::MovingMapped(live), NOT_YOURS),
         },
         contents => (contents, NO_MACHINE),
     }
@@ -97,7 +97,11 @@ fn lent_live<D: Disk>(live: Moving<D>) -> Result<(Region, MovingLent<D>), Moving
 {
     live.recall();
     live.machine().ram().recall();
-    live.lend()
+    let phase = live.phase();
+    match live.lend() {
+        Ok((region, live)) => Ok((region, MovingLent::new(live, phase))),
+        Err(live) => Err(live),
+    }
 }
 
 /// Puts the RAM into the free slot.
@@ -110,36 +114,22 @@ fn lent_as(loan: Loan, region: Region, ram: &mut Slot) -> Contents
     Contents::Lent(loan)
 }
 
-/// Takes the RAM back that lies in the slot, and in which these pages were written. It takes no memory, and time for these pages
-/// alone.
-pub(crate) fn give_back(alloc: Global, kept: &mut Kept, ram: &mut Slot, pages: &[u32]) -> u32
+/// Takes the RAM back that lies in the slot, and in which these pages were written. For a list it takes no memory, and time for these pages
+/// alone; for the numbers of others memory is taken, and kept for the next time.
+pub(crate) fn give_back(alloc: Global, kept: &mut Kept, ram: &mut Slot, pages: &Pages) -> u32
     ensures back { ComesBack kept.old.state ram.old pages.now result ram.new kept.new.state }
     ensures kind { kept.new ≡ record kept.old { state = kept.new.state } }
 {
-    if let Some(status) = return_refusal(kept, ram) {
+    if let Some(status) = back_refusal(kept, ram, pages) {
         return status;
     }
-    if !are_pages(pages_out(kept) as u64, pages) {
-        return OUT_OF_RAM;
-    }
-    come_back(alloc, kept, ram, pages);
-    DONE
-}
-
-/// As above, with the pages that are marked in a bitmap. Memory is taken for the list of their numbers, and kept for the next one.
-pub(crate) fn give_back_marked(alloc: Global, kept: &mut Kept, ram: &mut Slot, words: &[u64]) -> u32
-    ensures back { ComesBackMarked kept.old.state ram.old words.now result ram.new kept.new.state }
-    ensures kind { kept.new ≡ record kept.old { state = kept.new.state } }
-{
-    if let Some(status) = return_refusal(kept, ram) {
-        return status;
+    if !pages.needs_list() {
+        come_back(alloc, kept, ram, pages.list);
+        return DONE;
     }
     let count = pages_out(kept);
-    if is_short(words, count) {
-        return TOO_SMALL;
-    }
     let mut named = mem::replace(&mut kept.named, Vec::new(alloc));
-    let status = match collect_marked(words, count, &mut named) {
+    let status = match pages.collect(count, &mut named) {
         Ok(()) => {
             come_back(alloc, kept, ram, named.as_slice());
             DONE
@@ -150,50 +140,24 @@ pub(crate) fn give_back_marked(alloc: Global, kept: &mut Kept, ram: &mut Slot, w
     status
 }
 
-/// As above, with all pages.
-pub(crate) fn give_back_all(alloc: Global, kept: &mut Kept, ram: &mut Slot) -> u32
-    ensures back { ComesBackWhole kept.old.state ram.old result ram.new kept.new.state }
-    ensures kind { kept.new ≡ record kept.old { state = kept.new.state } }
-{
-    if let Some(status) = return_refusal(kept, ram) {
-        return status;
-    }
-    let count = pages_out(kept);
-    let mut named = mem::replace(&mut kept.named, Vec::new(alloc));
-    let status = match collect_all(count, &mut named) {
-        Ok(()) => {
-            come_back(alloc, kept, ram, named.as_slice());
-            DONE
-        }
-        Err(_) => NO_MEMORY,
-    };
-    kept.named = named;
-    status
-}
-
-/// Why RAM is not taken back, apart from the pages that are named.
-fn return_refusal(kept: &Kept, ram: &mut Slot) -> Option<u32>
+/// Why RAM is not taken back, if so.
+fn back_refusal(kept: &Kept, ram: &mut Slot, pages: &Pages) -> Option<u32>
     ensures same { ram.new ≡ ram.old }
-    ensures refusal { result ≡ return_refusal_of kept.now.state (length ram.old.content) }
+    ensures refusal { result ≡ back_refusal_of kept.now.state (length ram.old.content) pages.now }
 {
     match &kept.contents {
         Contents::Arriving(_) | Contents::ArrivingMapped(_) => Some(NO_MACHINE),
         Contents::Lent(loan) => {
+            if !pages.is_known() {
+                return Some(NOT_KNOWN);
+            }
             if ram.len() != PAGE_SIZE * loan.pages() {
                 return Some(BAD_RAM);
             }
-            None
+            pages.refusal(loan.pages())
         }
         _ => Some(NOT_LENT),
     }
-}
-
-/// Whether the bitmap has fewer bits than there are pages.
-fn is_short(words: &[u64], count: usize) -> bool
-    requires { count ≤ PAGES_MAX }
-    ensures { result ≡ nat_lt (64 * length words.now) count }
-{
-    words.len() < count.div_ceil(WORD_BITS)
 }
 
 /// How many pages the RAM has that is lent.
@@ -209,7 +173,7 @@ fn pages_out(kept: &Kept) -> usize
 
 /// The machine takes its RAM back.
 fn come_back(alloc: Global, kept: &mut Kept, ram: &mut Slot, pages: &[u32])
-    requires { back_refusal_of kept.old.state (length ram.old.content) pages.now ≡ None }
+    requires { IsReturnable kept.old.state (length ram.old.content) pages.now }
     ensures back { HasComeBack kept.old.state ram.old pages.now 0 ram.new kept.new.state }
     ensures kind { kept.new ≡ record kept.old { state = kept.new.state } }
 {
@@ -218,7 +182,7 @@ fn come_back(alloc: Global, kept: &mut Kept, ram: &mut Slot, pages: &[u32])
 }
 
 fn back(old: Contents, ram: &mut Slot, pages: &[u32]) -> Contents
-    requires { back_refusal_of (state_in old) (length ram.old.content) pages.now ≡ None }
+    requires { IsReturnable (state_in old) (length ram.old.content) pages.now }
     ensures back { HasComeBack (state_in old) ram.old pages.now 0 ram.new (state_in result) }
     ensures kind { are_mapped result ≡ are_mapped old }
 {

@@ -4,16 +4,80 @@
 //! since 0 would be read as 'no interrupt'. All else is refused by one status, also where the answer could be given, such as a
 //! sector.
 
-ghost use Rattle.vmig_c.specs.Migrated.{HasTakenLent};
-
-use crate::status::{DONE, NOT_BEGUN};
+use crate::status::{DONE, NOT_SENDING};
 use machine::{Disk, MemDisk, Parked, Shape};
 use mapped_disk::MappedDisk;
-use sender::LiveParked;
+use region::Region;
+use sender::{LiveParked, LiveWaiting, Phase};
+use std::marker::Model;
 use wire::Waiting;
 
-/// A machine that is being migrated, whose RAM is lent.
-pub(crate) type MovingLent<D> = LiveParked<D, Waiting>;
+/// A machine that is being migrated, whose RAM is lent, and how far its migration has come: no call goes on with it.
+#[derive(Drop)]
+pub struct MovingLent<D: Disk> {
+    live: LiveParked<D, Waiting>,
+    phase: Phase,
+}
+
+impl<D: Disk> Model for MovingLent<D> {
+    ghost use Rattle.std.specs.Prelude.{◌≡◌};
+    ghost use Rattle.sender.specs.Parked.{LiveParkedSeen};
+
+    ghost Value = { LiveParkedSeen };
+
+    ghost view = { λ l. l.live };
+
+    ghost invariant = { λ l. l.phase ≡ l.live.phase };
+}
+
+impl<D: Disk> MovingLent<D> {
+    ghost use Rattle.std.specs.Prelude.{◌≡◌, ◌*◌, length};
+    ghost use Rattle.guestmem.specs.Lent.{AreBelow, given_back};
+    ghost use Rattle.guestmem.specs.declared.limits.TheConstants.{PAGE_SIZE};
+    ghost use Rattle.region.specs.Address.{address};
+    ghost use Rattle.sender.specs.Parked.{live_back};
+    ghost use Rattle.vmig_c.specs.Migrated.{HasTakenLent};
+
+    /// One whose RAM was just lent.
+    pub(crate) fn new(live: LiveParked<D, Waiting>, phase: Phase) -> MovingLent<D>
+        requires { phase ≡ live.phase }
+        ensures { result ≡ live }
+    {
+        MovingLent { live, phase }
+    }
+
+    /// How far its migration has come.
+    pub(crate) fn phase(&self) -> Phase
+        ensures { result ≡ self.now.phase }
+    {
+        self.phase
+    }
+
+    /// The machine, whose RAM is lent.
+    pub(crate) fn parked(&self) -> &Parked<D>
+        ensures { result.now ≡ self.now.parked }
+    {
+        self.live.parked()
+    }
+
+    /// The machine whose RAM is given back, as `LiveParked::give_back` does.
+    pub(crate) fn give_back(self, region: Region, pages: &[u32]) -> LiveWaiting<D>
+        requires size { length region.content ≡ PAGE_SIZE * length self.parked.versions }
+        requires below { AreBelow (length self.parked.versions) pages.now }
+        ensures { result ≡ live_back self (given_back region.content (address region) self.parked.versions pages.now) pages.now }
+    {
+        let MovingLent { live, phase: _ } = self;
+        live.give_back(region, pages)
+    }
+
+    /// Takes the first of the bytes that wait into the front of the buffer.
+    fn take(&mut self, buf: &mut [u8], got: &mut usize) -> u32
+        ensures { HasTakenLent self.old result got.new buf.old buf.new self.new }
+    {
+        *got = self.live.take(buf);
+        DONE
+    }
+}
 
 /// All of a machine but its RAM, which is lent: of one that is being migrated or not, over disks in memory of the library or of the
 /// caller.
@@ -40,6 +104,7 @@ impl Loan {
     ghost use Rattle.machine.specs.declared.machine.TheConstants.{DEVICES_MAX};
     ghost use Rattle.vmig_c.specs.Kept.{is_loan_mapped, loan_of, parked_in};
     ghost use Rattle.vmig_c.specs.Kept as states;
+    ghost use Rattle.vmig_c.specs.Described.{loan_phase};
     ghost use Rattle.vmig_c.specs.Migrated.{TakesLent};
     ghost use Rattle.vmig_c.specs.Told.{lines_in};
 
@@ -88,6 +153,17 @@ impl Loan {
         }
     }
 
+    /// How far its migration has come, if it is being migrated.
+    pub(crate) fn phase(&self) -> Option<Phase>
+        ensures { result ≡ loan_phase (loan_of self.now) }
+    {
+        match self {
+            Loan::Still(_) | Loan::StillMapped(_) => None,
+            Loan::Moving(live) => Some(live.phase()),
+            Loan::MovingMapped(live) => Some(live.phase()),
+        }
+    }
+
     /// The interrupt lines, as they were when the RAM was lent.
     pub(crate) fn lines(&self) -> u16
         ensures { result ≡ lines_in (states.Lent (loan_of self.now)) }
@@ -106,16 +182,9 @@ impl Loan {
         ensures kind { is_loan_mapped self.new ≡ is_loan_mapped self.old }
     {
         match self {
-            Loan::Still(_) | Loan::StillMapped(_) => NOT_BEGUN,
-            Loan::Moving(live) => take_lent(live, buf, got),
-            Loan::MovingMapped(live) => take_lent(live, buf, got),
+            Loan::Still(_) | Loan::StillMapped(_) => NOT_SENDING,
+            Loan::Moving(live) => live.take(buf, got),
+            Loan::MovingMapped(live) => live.take(buf, got),
         }
     }
-}
-
-fn take_lent<D: Disk>(live: &mut MovingLent<D>, buf: &mut [u8], got: &mut usize) -> u32
-    ensures { HasTakenLent live.old result got.new buf.old buf.new live.new }
-{
-    *got = live.take(buf);
-    DONE
 }

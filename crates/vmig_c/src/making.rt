@@ -1,29 +1,26 @@
 //! Machines that C asks for.
 
-ghost use Rattle.std.specs.Prelude.{◌≡◌, map, replicate, Some, IfErr, IfOk};
+ghost use Rattle.std.specs.Prelude.{◌≡◌, map, replicate, None, Some, IfErr, IfOk};
 ghost use Rattle.machine.specs.First.{dealt_marks, made_machine, marks_in, zero_pages};
 ghost use Rattle.machine.specs.Seen.{all_marks, state_of};
 ghost use Rattle.machine.specs.Sound.{IsSound};
 ghost use Rattle.machine.specs.Shapes.{disk_sizes};
-ghost use Rattle.vmig_c.specs.Making.{KeepsMade, are_beyond_limits, are_plain, shapes_of};
+ghost use Rattle.vmig_c.specs.Making.{are_bad_shapes, are_plain, shapes_of};
 
 use crate::device_shape::DeviceShape;
-use crate::kept::{Contents, Kept};
-use guestmem::{NoMemory, PAGES_MAX};
+use guestmem::NoMemory;
 use machine::{Board, DEVICES_MAX, Disk, Machine, MemDisk, RamOf, Shape, Unmade};
 use std::alloc::Global;
 
-/// Whether no machine can have `pages` pages and these devices.
-pub(crate) fn are_beyond_limits(pages: u32, shapes: &[DeviceShape]) -> bool
-    ensures { result ≡ are_beyond_limits pages shapes.now }
+/// Whether no machine can have these devices.
+pub(crate) fn are_bad_shapes(shapes: &[DeviceShape]) -> bool
+    ensures { result ≡ are_bad_shapes shapes.now }
 {
-    if pages == 0 || pages > PAGES_MAX || shapes.is_empty() || shapes.len() > DEVICES_MAX {
-        return true;
-    }
-    !are_plain(shapes)
+    shapes.is_empty() || shapes.len() > DEVICES_MAX || !are_plain(shapes)
 }
 
-fn are_plain(shapes: &[DeviceShape]) -> bool
+/// Whether there can be such devices.
+pub(crate) fn are_plain(shapes: &[DeviceShape]) -> bool
     ensures { result ≡ are_plain shapes.now }
 {
     for shape in shapes {
@@ -32,25 +29,6 @@ fn are_plain(shapes: &[DeviceShape]) -> bool
         }
     }
     true
-}
-
-/// A machine in a box, over disks of zeros. The base and the limits were tested, so it fails only if it is out of memory.
-#[tactic(auto, using(crate::proofs::Zeros::made))]
-pub(crate) fn machine_of(
-    alloc: Global,
-    base: u64,
-    pages: u32,
-    shapes: &[DeviceShape],
-) -> Result<Box<Kept>, NoMemory>
-    ensures { IfOk result (λ k. KeepsMade base pages (shapes_of shapes.now) k.value) }
-{
-    let shapes = shapes_of(alloc, shapes)?;
-    let disks = zero_disks(alloc, &shapes)?;
-    let Ok(machine) = zeroed_machine(alloc, base, pages, &shapes, disks) else {
-        return Err(NoMemory);
-    };
-    let boxed = Box::new(alloc, Kept::new(alloc, Contents::Still(machine)))?;
-    Ok(boxed)
 }
 
 /// A machine of `pages` pages of zeros from the address `base` on. Where it is not made, the disks come back.
@@ -64,6 +42,7 @@ pub(crate) fn zeroed_machine<D: Disk + Drop>(
     ensures made { IfOk result (λ m. state_of m ≡ made_machine base (zero_pages pages) shapes.now (map (λ d. map Some (D.state d).sectors) disks.items)) }
     ensures marks { IfOk result (λ m. all_marks m ≡ dealt_marks shapes.now (map (λ d. marks_in (D.state d)) disks.items)) }
     ensures sound { IfOk result (λ m. IsSound (state_of m)) }
+    ensures place { IfOk result (λ m. m.memory.place ≡ None) }
     ensures disks { IfErr result (λ back. back.items ≡ disks.items) }
 {
     let ram = RamOf::Pages(pages);

@@ -1,15 +1,12 @@
-//! Machines whose disks lie in memory of the caller.
+//! Disks that lie in memory of the caller.
 
 ghost use Rattle.std.specs.Prelude.{◌≡◌, length, map, IfOk, IfErr};
 ghost use Rattle.machine.specs.First.{are_same};
 ghost use Rattle.machine.specs.Shapes.{disk_sizes};
 ghost use Rattle.vmig_c.specs.Making.{shapes_of};
-ghost use Rattle.vmig_c.specs.Mapping.{AreTaken, KeepsMapped, contents, counts};
+ghost use Rattle.vmig_c.specs.Mapping.{AreTaken, counts};
 
-use crate::arrival::Arrival;
 use crate::device_shape::DeviceShape;
-use crate::kept::{Contents, Kept};
-use crate::making::{shapes_of, zeroed_machine};
 use guestmem::NoMemory;
 use machine::Shape;
 use mapped_disk::{Image, MappedDisk};
@@ -32,37 +29,6 @@ pub(crate) fn are_counted(images: &mut [Image], shapes: &[DeviceShape]) -> bool
         at += 1;
     }
     at == images.len()
-}
-
-/// A machine in a box, over disks in the images, which are taken. The limits and the images' counts were tested, so it fails
-/// only if it is out of memory: then the images are as they were. The box is made before an image is taken.
-pub(crate) fn machine_over(
-    alloc: Global,
-    base: u64,
-    pages: u32,
-    shapes: &[DeviceShape],
-    images: &mut [Image],
-) -> Result<Box<Kept>, NoMemory>
-    ensures made { IfOk result (λ k. KeepsMapped base pages (shapes_of shapes.now) (contents images.old) k.value) }
-    ensures taken { IfOk result (λ k. AreTaken images.old images.new) }
-    ensures refused { IfErr result (λ e. images.new ≡ images.old) }
-{
-    let shapes = shapes_of(alloc, shapes)?;
-    let mut boxed = Box::new(
-        alloc,
-        Kept::new(alloc, Contents::Arriving(Arrival::new(alloc, 0))),
-    )?;
-    let disks = mapped_disks(alloc, images)?;
-    match zeroed_machine(alloc, base, pages, &shapes, disks) {
-        Ok(machine) => {
-            *boxed = Kept::new(alloc, Contents::StillMapped(machine));
-            Ok(boxed)
-        }
-        Err(disks) => {
-            give_back(disks, images);
-            Err(NoMemory)
-        }
-    }
 }
 
 /// A disk in each image, in their order. The images are taken, if there is memory for the list of disks.

@@ -1,28 +1,43 @@
 //! The calls of a migration, applied to the contents of a handle.
 
 ghost use Rattle.std.specs.Prelude.{◌≡◌, ◌++◌, IfErr, IfOk, drop, length, min, take};
-ghost use Rattle.vmig_c.specs.Migrated.{AbortsKept, BeginsKept, CopiesKept, EndsKept, HasBegun, HasCopied, HasStopped, IsAnswered, HasTaken, RemainsKept, StopsKept, TakesKept};
+ghost use Rattle.vmig_c.specs.Migrated.{AbortsKept, BeginsKept, EndsKept, HasBegun, HasEnded, HasStopped, HasTaken, IsAnswered, IsLeft, LeavesKept, SendsKept, SendsSome, StopsKept, TakesKept, send_refusal};
 ghost use Rattle.vmig_c.specs.Kept.{are_mapped, state_in};
-ghost use Rattle.vmig_c.specs.Kept as states;
-ghost use Rattle.vmig_c.specs.Told.{IsServed};
-ghost use Rattle.sender.specs.declared.event.LiveEvent.TheVariants as live_events;
 
 use crate::arrival::Arrival;
 use crate::kept::{Contents, Kept, Moving, by_state};
-use crate::status::{DONE, LENT, NO_MACHINE, NO_MEMORY, NOT_BEGUN, mig_status};
+use crate::status::{
+    DONE, LENT, NO_MACHINE, NO_MEMORY, NOT_SENDING, ROUND_DONE, ROUND_OPEN, SEND_FAILED, STOPPED,
+    mig_status,
+};
 use machine::{Disk, Machine};
-use sender::{CopyAnswer, End, Item, LiveWaiting, Stopped};
+use sender::{End, LiveWaiting, Phase, Stopped};
 use std::alloc::Global;
 use std::mem;
 use wire::Waiting;
 
-const PAGE: u32 = 74;
+/// What is still to be sent.
+#[derive(Clone, Copy)]
+#[repr(C)]
+pub struct SendLeft {
+    /// How many pages are due in this round.
+    pub due_pages: u64,
 
-const SECTOR: u32 = 75;
+    /// How many sectors are due in this round.
+    pub due_sectors: u64,
 
-const ROUND_DONE: u32 = 76;
+    /// How many pages were written since they were sent, or since the round began.
+    pub dirty_pages: u64,
 
-const ROUND_OPEN: u32 = 77;
+    /// How many sectors were.
+    pub dirty_sectors: u64,
+
+    /// The most bytes that a stop would write.
+    pub stop_bytes: u64,
+
+    /// Zeros, until a later version tells more by them.
+    pub reserved: [u64; 3],
+}
 
 /// Begins the migration of a machine that is not being migrated.
 pub(crate) fn begin(alloc: Global, kept: &mut Kept) -> u32
@@ -38,7 +53,7 @@ pub(crate) fn begin(alloc: Global, kept: &mut Kept) -> u32
 pub(crate) fn taken_out(alloc: Global, contents: &mut Contents) -> Contents
     ensures { result ≡ contents.old }
 {
-    mem::replace(contents, Contents::Arriving(Arrival::new(alloc, 0)))
+    mem::replace(contents, Contents::Arriving(Arrival::new(alloc, 0, None)))
 }
 
 fn begun(alloc: Global, old: Contents) -> (Contents, u32)
@@ -100,60 +115,71 @@ fn begun_again<D: Disk>(live: Moving<D>) -> (Moving<D>, u32)
     }
 }
 
-/// Sends the least due item.
+/// Sends items that are due, at most so many.
 #[tactic(auto, using(crate::proofs::OnHandle::by_still, crate::proofs::OnHandle::by_moving))]
-pub(crate) fn copy(kept: &mut Kept, dev: &mut u8, number: &mut u32) -> u32
-    ensures copies { CopiesKept kept.old.state result dev.new dev.old number.new number.old kept.new.state }
+pub(crate) fn send_some(kept: &mut Kept, most: u32) -> u32
+    ensures sends { SendsKept kept.old.state most result kept.new.state }
     ensures kind { kept.new ≡ record kept.old { state = kept.new.state } }
 {
     by_state!(&mut kept.contents;
-        still(_) => NOT_BEGUN,
-        moving(live) => copy_status(live, dev, number),
+        still(_) => NOT_SENDING,
+        moving(live) => some_status(live, most),
     )
 }
 
-#[tactic(auto, using(crate::proofs::Migration::copied))]
-fn copy_status<D: Disk>(live: &mut Moving<D>, dev: &mut u8, number: &mut u32) -> u32
-    ensures { HasCopied live.old result dev.new dev.old number.new number.old live.new }
+/// Sends the least due item, at most so many times, while there is one.
+fn some_status<D: Disk>(live: &mut Moving<D>, most: u32) -> u32
+    ensures { SendsSome live.old most result live.new }
 {
-    live.recall();
-    match live.copy() {
-        Ok(CopyAnswer::Copied(Item::Page(page))) => {
-            *number = page;
-            PAGE
+    if let Some(status) = send_refusal(live.phase()) {
+        return status;
+    }
+    for _ in 0..most {
+        if live.remaining().due == 0 {
+            break;
         }
-        Ok(CopyAnswer::Copied(Item::Sector { dev: of, sector })) => {
-            *dev = of;
-            *number = sector;
-            SECTOR
+        live.recall();
+        if let Err(error) = live.copy() {
+            return mig_status(error);
         }
-        Ok(CopyAnswer::RoundDone) => ROUND_DONE,
-        Err(error) => mig_status(error),
+    }
+    if live.remaining().due == 0 {
+        return ROUND_DONE;
+    }
+    DONE
+}
+
+/// Why nothing is sent in this phase, if so.
+fn send_refusal(phase: Phase) -> Option<u32>
+    ensures { result ≡ send_refusal phase }
+{
+    match phase {
+        Phase::Open(_) => None,
+        Phase::Fresh => Some(NOT_SENDING),
+        Phase::Stopped => Some(STOPPED),
+        Phase::Failed => Some(SEND_FAILED),
     }
 }
 
 /// Ends a round.
 #[tactic(auto, using(crate::proofs::OnHandle::by_still, crate::proofs::OnHandle::by_moving))]
-pub(crate) fn end_round(kept: &mut Kept, round: &mut u32) -> u32
-    ensures ends { EndsKept kept.old.state result round.new round.old kept.new.state }
+pub(crate) fn send_round(kept: &mut Kept) -> u32
+    ensures ends { EndsKept kept.old.state result kept.new.state }
     ensures kind { kept.new ≡ record kept.old { state = kept.new.state } }
 {
     by_state!(&mut kept.contents;
-        still(_) => NOT_BEGUN,
-        moving(live) => end_status(live, round),
+        still(_) => NOT_SENDING,
+        moving(live) => round_status(live),
     )
 }
 
 #[tactic(auto, using(crate::proofs::ByKept::served))]
-fn end_status<D: Disk>(live: &mut Moving<D>, round: &mut u32) -> u32
-    ensures { IsServed live.old live_events.EndRound result round.new round.old live.new }
+fn round_status<D: Disk>(live: &mut Moving<D>) -> u32
+    ensures { HasEnded live.old result live.new }
 {
     live.recall();
     match live.end_round() {
-        Ok(End::Begun(begun)) => {
-            *round = begun;
-            DONE
-        }
+        Ok(End::Begun(_)) => DONE,
         Ok(End::RoundOpen) => ROUND_OPEN,
         Err(error) => mig_status(error),
     }
@@ -166,7 +192,7 @@ pub(crate) fn stop(kept: &mut Kept, pages: &mut u64, sectors: &mut u64) -> u32
     ensures kind { kept.new ≡ record kept.old { state = kept.new.state } }
 {
     by_state!(&mut kept.contents;
-        still(_) => NOT_BEGUN,
+        still(_) => NOT_SENDING,
         moving(live) => stop_status(live, pages, sectors),
     )
 }
@@ -206,8 +232,8 @@ fn aborted(old: Contents) -> (Contents, u32)
     ensures kind { are_mapped result.0 ≡ are_mapped old }
 {
     match old {
-        Contents::Still(machine) => (Contents::Still(machine), NOT_BEGUN),
-        Contents::StillMapped(machine) => (Contents::StillMapped(machine), NOT_BEGUN),
+        Contents::Still(machine) => (Contents::Still(machine), NOT_SENDING),
+        Contents::StillMapped(machine) => (Contents::StillMapped(machine), NOT_SENDING),
         Contents::Moving(live) => (Contents::Still(live.abort()), DONE),
         Contents::MovingMapped(live) => (Contents::StillMapped(live.abort()), DONE),
         Contents::Arriving(arrival) => (Contents::Arriving(arrival), NO_MACHINE),
@@ -216,22 +242,28 @@ fn aborted(old: Contents) -> (Contents, u32)
     }
 }
 
-/// How many items are due, and how many are dirty.
-pub(crate) fn remaining(kept: &Kept, due: &mut u64, dirty: &mut u64) -> u32
-    ensures { RemainsKept kept.now.state result due.new due.old dirty.new dirty.old }
+/// What is still to be sent.
+pub(crate) fn left(kept: &Kept, left: &mut SendLeft) -> u32
+    ensures { LeavesKept kept.now.state result left.new left.old }
 {
     by_state!(&kept.contents;
-        still(_) => NOT_BEGUN,
-        moving(live) => remaining_status(live, due, dirty),
+        still(_) => NOT_SENDING,
+        moving(live) => left_status(live, left),
     )
 }
 
-fn remaining_status<D: Disk>(live: &Moving<D>, due: &mut u64, dirty: &mut u64) -> u32
-    ensures { RemainsKept (states.Moving live.now) result due.new due.old dirty.new dirty.old }
+fn left_status<D: Disk>(live: &Moving<D>, left: &mut SendLeft) -> u32
+    ensures { IsLeft live.now result left.new }
 {
-    let left = live.remaining();
-    *due = left.due;
-    *dirty = left.dirty;
+    let items = live.left();
+    *left = SendLeft {
+        due_pages: items.due_pages,
+        due_sectors: items.due_sectors,
+        dirty_pages: items.dirty_pages,
+        dirty_sectors: items.dirty_sectors,
+        stop_bytes: live.most_by_stop(),
+        reserved: [0; 3],
+    };
     DONE
 }
 
@@ -242,7 +274,7 @@ pub(crate) fn take(kept: &mut Kept, buf: &mut [u8], got: &mut usize) -> u32
     ensures kind { kept.new ≡ record kept.old { state = kept.new.state } }
 {
     by_state!(&mut kept.contents;
-        still(_) => NOT_BEGUN,
+        still(_) => NOT_SENDING,
         moving(live) => take_status(live, buf, got),
         lent(loan) => loan.take(buf, got),
     )

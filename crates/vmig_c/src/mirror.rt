@@ -10,24 +10,54 @@ ghost use Rattle.std.specs.Prelude.{◌≡◌, ◌*◌, ◌<◌, ◌≤◌, leng
 ghost use Rattle.guestmem.specs.Memory.{IsMemory};
 ghost use Rattle.guestmem.specs.Page.{page_of};
 ghost use Rattle.guestmem.specs.Write.{put_at};
-ghost use Rattle.vmig_c.specs.Mirror.{ArePushed, HasPulled, IsPushed, PullsKept, PushesKept, are_pages, away_status, is_closed, is_away, is_noted, is_short, is_stopped, memory_in, push_refusal};
+ghost use Rattle.guestmem.specs.declared.limits.TheConstants.{PAGES_MAX};
+ghost use Rattle.vmig_c.specs.Mirror.{ArePushed, HasPulled, IsPushable, IsPushed, PullsKept, PushesKept, are_pages, away_status, is_closed, is_away, is_noted, is_short, is_stopped, memory_in, push_refusal};
 ghost use Rattle.vmig_c.specs.Status.{done};
 ghost use Rattle.vmig_c.specs.Kept as states;
 
 use crate::kept::{Contents, Kept, Moving, by_state};
-use crate::status::{DONE, LENT, NO_MACHINE, OUT_OF_RAM, STOPPED, TOO_SMALL};
+use crate::pages::Pages;
+use crate::status::{DONE, LENT, NO_MACHINE, NO_MEMORY, NOT_KNOWN, STOPPED, TOO_SMALL};
 use guestmem::{PAGE_SIZE, Ram};
 use machine::{Disk, Machine};
 use sender::Phase;
+use std::alloc::Global;
+use std::mem;
 
-/// Copies the pages with these numbers from the caller's RAM into the machine's, one after another.
-pub(crate) fn push(kept: &mut Kept, pages: &[u32], ram: &[u8], seen: &mut [u64]) -> u32
+/// Copies the pages that are named from the caller's RAM into the machine's, one after another.
+pub(crate) fn push(
+    alloc: Global,
+    kept: &mut Kept,
+    pages: &Pages,
+    ram: &[u8],
+    seen: &mut [u64],
+) -> u32
     ensures pushes { PushesKept kept.old.state pages.now ram.now result seen.old seen.new kept.new.state }
     ensures kind { kept.new ≡ record kept.old { state = kept.new.state } }
 {
     if let Some(status) = push_refusal(kept, pages, ram.len(), seen.len()) {
         return status;
     }
+    if !pages.needs_list() {
+        return push_listed(kept, pages.list, ram, seen);
+    }
+    let count = pages_in(kept);
+    let mut named = mem::replace(&mut kept.named, Vec::new(alloc));
+    let status = match pages.collect(count, &mut named) {
+        Ok(()) => push_listed(kept, named.as_slice(), ram, seen),
+        Err(_) => NO_MEMORY,
+    };
+    kept.named = named;
+    status
+}
+
+/// Copies the pages with these numbers.
+fn push_listed(kept: &mut Kept, pages: &[u32], ram: &[u8], seen: &mut [u64]) -> u32
+    requires { IsPushable kept.old.state pages.now (length ram.now) (length seen.old) }
+    ensures pushed { ArePushed kept.old.state pages.now ram.now seen.old seen.new kept.new.state }
+    ensures done { result ≡ done }
+    ensures kind { kept.new ≡ record kept.old { state = kept.new.state } }
+{
     by_state!(&mut kept.contents;
         still(machine) => push_still(machine, pages, ram, seen),
         moving(live) => push_moving(live, pages, ram, seen),
@@ -35,32 +65,50 @@ pub(crate) fn push(kept: &mut Kept, pages: &[u32], ram: &[u8], seen: &mut [u64])
 }
 
 /// Why `vmig_push` is refused, if it is.
-fn push_refusal(kept: &Kept, pages: &[u32], bytes: usize, entries: usize) -> Option<u32>
+fn push_refusal(kept: &Kept, pages: &Pages, bytes: usize, entries: usize) -> Option<u32>
     ensures { result ≡ push_refusal kept.now.state pages.now bytes entries }
 {
     let Some(memory) = ram_of(kept) else {
         return Some(away_status(kept));
     };
-    if is_short(memory, bytes, entries) {
-        return Some(TOO_SMALL);
-    }
-    if !are_pages(page_count(memory), pages) {
-        return Some(OUT_OF_RAM);
-    }
     if is_stopped(kept) {
         return Some(STOPPED);
     }
-    None
+    if !pages.is_known() {
+        return Some(NOT_KNOWN);
+    }
+    if is_short(memory, bytes, entries) {
+        return Some(TOO_SMALL);
+    }
+    pages.refusal(page_count(memory) as usize)
+}
+
+/// How many pages the RAM of the machine has; 0 where it is away.
+fn pages_in(kept: &Kept) -> usize
+    ensures count { result ≡ length (memory_in kept.now.state).versions }
+    ensures few { result ≤ PAGES_MAX }
+{
+    match ram_of(kept) {
+        Some(memory) => page_count(memory) as usize,
+        None => 0,
+    }
 }
 
 pub(crate) fn is_stopped(kept: &Kept) -> bool
     ensures { result ≡ is_stopped kept.now.state }
 {
     match &kept.contents {
-        Contents::Moving(live) => matches!(live.phase(), Phase::Stopped),
-        Contents::MovingMapped(live) => matches!(live.phase(), Phase::Stopped),
+        Contents::Moving(live) => has_stopped(live.phase()),
+        Contents::MovingMapped(live) => has_stopped(live.phase()),
         _ => false,
     }
+}
+
+/// Whether a send was stopped.
+pub(crate) fn has_stopped(phase: Phase) -> bool
+    ensures { result ≡ is_closed phase }
+{
+    matches!(phase, Phase::Stopped)
 }
 
 /// Whether the caller's RAM has fewer bytes than the machine's, or `seen` has fewer entries than there are pages.
@@ -113,7 +161,7 @@ pub(crate) fn away_status(kept: &Kept) -> u32
 
 /// Pushes pages into a machine that is not being migrated. It takes no memory.
 fn push_still<D: Disk>(machine: &mut Machine<D>, pages: &[u32], ram: &[u8], seen: &mut [u64]) -> u32
-    requires { push_refusal (states.Still machine.old) pages.now (length ram.now) (length seen.old) ≡ None }
+    requires { IsPushable (states.Still machine.old) pages.now (length ram.now) (length seen.old) }
     ensures pushed { ArePushed (states.Still machine.old) pages.now ram.now seen.old seen.new (states.Still machine.new) }
     ensures done { result ≡ done }
 {
@@ -141,7 +189,7 @@ fn push_page<D: Disk>(machine: &mut Machine<D>, n: u32, ram: &[u8], seen: &mut [
 
 /// As `push_still`, for a machine that is being migrated.
 fn push_moving<D: Disk>(live: &mut Moving<D>, pages: &[u32], ram: &[u8], seen: &mut [u64]) -> u32
-    requires { push_refusal (states.Moving live.old) pages.now (length ram.now) (length seen.old) ≡ None }
+    requires { IsPushable (states.Moving live.old) pages.now (length ram.now) (length seen.old) }
     ensures pushed { ArePushed (states.Moving live.old) pages.now ram.now seen.old seen.new (states.Moving live.new) }
     ensures done { result ≡ done }
 {

@@ -97,3 +97,13 @@ pub(crate) fn collect_all(count: usize, numbers: &mut Vec<u32>) -> Result<(), No
     }
     Ok(())
 }
+
+/// Adds to each number. They are those of pages of a bitmap that begins at a later page than the first.
+pub(crate) fn shift(numbers: &mut Vec<u32>, first: u32)
+    requires { AreBelowTop first numbers.old.items }
+    ensures { numbers.new.items ≡ map (λ n. first + n) numbers.old.items }
+{
+    for number in numbers.iter_mut() {
+        *number += first;
+    }
+}

@@ -3,12 +3,16 @@
 ghost use Rattle.std.specs.Prelude.{◌≡◌};
 ghost use Rattle.machine.specs.declared.event.Event.TheVariants as events;
 ghost use Rattle.sender.specs.declared.event.LiveEvent.TheVariants as live_events;
-ghost use Rattle.vmig_c.specs.Told.{IsServed, ReadsKept, Tells, TellsSo, lines_in};
+ghost use Rattle.vmig_c.specs.Told.{IsServed, ReadsKept, Tells, TellsOr, TellsSo, lines_in};
+ghost use Rattle.vmig_c.specs.declared.serving.TheConstants.{NO_BYTE};
 
 use crate::kept::{Kept, Moving, by_state};
-use crate::status::{answer_status, done_status, written_status};
+use crate::status::{DONE, answer_status, done_status, written_status};
 use crate::stepping::reply_status;
 use machine::Disk;
+
+/// The number of no byte.
+const NO_BYTE: u32 = 256;
 
 /// The driver reads a register.
 #[tactic(auto, using(crate::proofs::OnHandle::by_still, crate::proofs::OnHandle::by_moving, crate::proofs::ByKept::told))]
@@ -31,16 +35,28 @@ fn value_status<D: Disk>(live: &mut Moving<D>, dev: u8, off: u32, width: u8, val
     reply_status(live.read_register(dev, off, width), value)
 }
 
-/// The driver writes a register.
-#[tactic(auto, using(crate::proofs::OnHandle::by_still, crate::proofs::OnHandle::by_moving, crate::proofs::ByKept::told))]
+/// The driver writes a register. `byte` becomes the byte that comes out by it, or 256, where none does.
 pub(crate) fn write_register(
     kept: &mut Kept,
     dev: u8,
     off: u32,
     width: u8,
     value: u32,
-    out: &mut u32,
+    byte: &mut u32,
 ) -> u32
+    ensures told { TellsOr NO_BYTE kept.old.state (events.RegWrite dev off width value) result byte.new byte.old kept.new.state }
+    ensures kind { kept.new ≡ record kept.old { state = kept.new.state } }
+{
+    let mut number = NO_BYTE;
+    let status = written(kept, dev, off, width, value, &mut number);
+    if status == DONE {
+        *byte = number;
+    }
+    status
+}
+
+#[tactic(auto, using(crate::proofs::OnHandle::by_still, crate::proofs::OnHandle::by_moving, crate::proofs::ByKept::told))]
+fn written(kept: &mut Kept, dev: u8, off: u32, width: u8, value: u32, out: &mut u32) -> u32
     ensures told { Tells kept.old.state (events.RegWrite dev off width value) result out.new out.old kept.new.state }
     ensures kind { kept.new ≡ record kept.old { state = kept.new.state } }
 {
@@ -110,9 +126,21 @@ fn write_status<D: Disk>(live: &mut Moving<D>, addr: u64, bytes: &[u8]) -> u32
     reply_status(live.write_ram(addr, bytes), &mut none)
 }
 
-/// The host puts bytes in.
+/// The host puts bytes in. `count` becomes how many of them were kept.
+pub(crate) fn input(kept: &mut Kept, dev: u8, bytes: &[u8], count: &mut usize) -> u32
+    ensures told { TellsOr 0 kept.old.state (events.Input dev bytes.now) result count.new count.old kept.new.state }
+    ensures kind { kept.new ≡ record kept.old { state = kept.new.state } }
+{
+    let mut number = 0;
+    let status = put_in(kept, dev, bytes, &mut number);
+    if status == DONE {
+        *count = number as usize;
+    }
+    status
+}
+
 #[tactic(auto, using(crate::proofs::OnHandle::by_still, crate::proofs::OnHandle::by_moving, crate::proofs::ByKept::told))]
-pub(crate) fn input(kept: &mut Kept, dev: u8, bytes: &[u8], accepted: &mut u32) -> u32
+fn put_in(kept: &mut Kept, dev: u8, bytes: &[u8], accepted: &mut u32) -> u32
     ensures told { Tells kept.old.state (events.Input dev bytes.now) result accepted.new accepted.old kept.new.state }
     ensures kind { kept.new ≡ record kept.old { state = kept.new.state } }
 {
@@ -151,4 +179,26 @@ fn resize_status<D: Disk>(live: &mut Moving<D>, dev: u8, cols: u16, rows: u16) -
     let mut none = 0;
     live.recall();
     reply_status(live.resize(dev, cols, rows), &mut none)
+}
+
+/// The host drops what it put in and the guest has not taken.
+#[tactic(auto, using(crate::proofs::OnHandle::by_still, crate::proofs::OnHandle::by_moving, crate::proofs::ByKept::told_so))]
+pub(crate) fn drop_input(kept: &mut Kept, dev: u8) -> u32
+    ensures told { TellsSo kept.old.state (events.Drop dev) result kept.new.state }
+    ensures kind { kept.new ≡ record kept.old { state = kept.new.state } }
+{
+    by_state!(&mut kept.contents;
+        still(machine) => done_status(machine.drop_input(dev)),
+        moving(live) => drop_status(live, dev),
+    )
+}
+
+/// As above, for a machine that is being migrated.
+#[tactic(auto, using(crate::proofs::ByKept::dropped, crate::proofs::ByKept::few_told))]
+fn drop_status<D: Disk>(live: &mut Moving<D>, dev: u8) -> u32
+    ensures { IsServed live.old (live_events.Guest (events.Drop dev)) result 0 0 live.new }
+{
+    let mut none = 0;
+    live.recall();
+    reply_status(live.drop_input(dev), &mut none)
 }

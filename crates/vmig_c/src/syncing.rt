@@ -1,58 +1,25 @@
-//! When what a guest wrote to a disk has to be durable, and what follows where it could not be made so: the disk is lost.
+//! When what a guest wrote to a disk could not be made durable: the disk is lost.
 //!
-//! When a mapped disk has to be brought to its file is asked before the step, by a call of its own: a step keeps its meaning, a
-//! host without a file need not know of it, and one whose `msync` fails has done nothing yet. Of a flush it is the step that
-//! makes it, and not the one that ends it, since that one can still fail; all writes that ended before are in the image then.
+//! A failed sync is for good, and the handle remembers it for the device: the system reports it once, so a host that called `msync` again
+//! would get a success, and so would its guest. It is no part of the machine: the files of a target are others.
 //!
-//! Where `msync` failed, the flush is made as one that failed (`Machine::fail_flush`). The end of a write without FLUSH is
-//! refused (16): its sectors are in the image, and no unit is left that could fail. So the guest reads no success; its host
-//! ends it, or moves it. For any other pick the failure is remembered all the same (81), so that a host can report a sync of
-//! its own.
+//! So each later flush of that disk is made as one that failed (`Machine::fail_flush`). The end of a write without FLUSH is idle: its
+//! sectors are in the image, and no unit is left that could fail. So the guest reads no success; its host ends it, or moves it.
 //!
-//! A failed sync is for good, and the handle remembers it for the device: the system reports it once, so a host that called
-//! `msync` again would get a success, and so would its guest. It is no part of the machine: the files of a target are others.
-//!
-//! Both calls answer alike for disks in memory of the library: a host that keeps such a disk elsewhere too can use them.
+//! The call answers alike for disks in memory of the library: a host that keeps such a disk elsewhere too can use it.
 
 ghost use Rattle.std.specs.Prelude.{◌≡◌, None, slice_get};
 ghost use Rattle.machine.specs.Seen.{state_of};
-ghost use Rattle.vmig_c.specs.Durable.{FailsKept, FailsSync, FailsUnless, Loses, disk_refusal_of, disk_refusal_unless, kind_refusal, loss_refusal, owed_lost, owed_of, owed_unless, sync_kept, sync_status_of};
+ghost use Rattle.vmig_c.specs.Durable.{FailsKept, FailsSync, FailsUnless, Loses, disk_refusal_of, disk_refusal_unless, kind_refusal, loss_refusal, owed_lost, owed_of, owed_unless};
 ghost use Rattle.vmig_c.specs.Mirror.{is_closed};
 
 use crate::kept::{Kept, Moving, by_state};
+use crate::mirror::has_stopped;
 use crate::status::{
-    DISK_FAILED, DISK_LOST, DONE, LENT, NO_DEVICE, NO_MACHINE, STOPPED, SYNC, SYNC_FAILED,
-    WRONG_KIND, mig_status,
+    DISK_FAILED, DONE, IDLE, LENT, NO_DEVICE, NO_MACHINE, STOPPED, WRONG_KIND, mig_status,
 };
 use blk::SyncOwed;
 use machine::{Disk, Kind, Machine};
-use sender::Phase;
-
-/// Whether a step of the machine of a handle makes a flush, or ends a write after which the driver takes what was written for durable. Of
-/// a disk that is lost no sync is asked for.
-pub(crate) fn sync_kept(kept: &Kept, dev: u8, pick: u8) -> u32
-    ensures { result ≡ sync_kept kept.now dev pick }
-{
-    let is_lost = kept.is_lost(dev);
-    by_state!(&kept.contents;
-        still(machine) => sync_status(is_lost, machine, dev, pick),
-        moving(live) => sync_status(is_lost, live.machine(), dev, pick),
-    )
-}
-
-fn sync_status<D: Disk>(is_lost: bool, machine: &Machine<D>, dev: u8, pick: u8) -> u32
-    ensures { result ≡ sync_status_of is_lost (state_of machine.now) dev pick }
-{
-    if dev as usize >= machine.shapes().len() {
-        return NO_DEVICE;
-    }
-    match machine.state(dev).must_sync(pick) {
-        SyncOwed::EndOfWrite if is_lost => DISK_LOST,
-        SyncOwed::Flush if is_lost => DONE,
-        SyncOwed::EndOfWrite | SyncOwed::Flush => SYNC,
-        SyncOwed::Nothing => DONE,
-    }
-}
 
 /// What a step of the machine of a handle owes and does not get, since the disk is lost.
 pub(crate) fn owed_lost(kept: &Kept, dev: u8, pick: u8) -> SyncOwed
@@ -82,23 +49,22 @@ fn owed<D: Disk>(machine: &Machine<D>, dev: u8, pick: u8) -> SyncOwed
 fn owed_live<D: Disk>(live: &Moving<D>, dev: u8, pick: u8) -> SyncOwed
     ensures { result ≡ owed_unless (is_closed live.now.phase) (state_of live.now.machine) dev pick }
 {
-    match live.phase() {
-        Phase::Stopped => SyncOwed::Nothing,
-        _ => owed(live.machine(), dev, pick),
+    if has_stopped(live.phase()) {
+        return SyncOwed::Nothing;
     }
+    owed(live.machine(), dev, pick)
 }
 
-/// The disk of a device could not be brought to its file, and is lost from now on. If the step of this pick makes a flush, it is made as
-/// one whose disk failed.
+/// The disk of a device could not be brought to its file, and is lost from now on.
 #[tactic(auto, using(crate::proofs::Failing::lost, crate::proofs::Failing::not_lost))]
-pub(crate) fn lose_kept(kept: &mut Kept, dev: u8, pick: u8) -> u32
-    ensures { Loses kept.old dev pick result kept.new }
+pub(crate) fn lose_kept(kept: &mut Kept, dev: u8) -> u32
+    ensures { Loses kept.old dev result kept.new }
 {
     if let Some(status) = loss_refusal(kept, dev) {
         return status;
     }
     kept.lose(dev);
-    fail_kept(kept, dev, pick)
+    DONE
 }
 
 /// Why no disk is lost, if none is.
@@ -117,10 +83,10 @@ fn loss_refusal(kept: &Kept, dev: u8) -> Option<u32>
 fn live_disk_refusal<D: Disk>(live: &Moving<D>, dev: u8) -> Option<u32>
     ensures { result ≡ disk_refusal_unless (is_closed live.now.phase) (state_of live.now.machine) dev }
 {
-    match live.phase() {
-        Phase::Stopped => Some(STOPPED),
-        _ => disk_refusal(live.machine(), dev),
+    if has_stopped(live.phase()) {
+        return Some(STOPPED);
     }
+    disk_refusal(live.machine(), dev)
 }
 
 fn disk_refusal<D: Disk>(machine: &Machine<D>, dev: u8) -> Option<u32>
@@ -160,7 +126,7 @@ fn fail_flush<D: Disk>(machine: &mut Machine<D>, dev: u8, pick: u8) -> u32
     if machine.fail_flush(dev, pick) {
         return DISK_FAILED;
     }
-    SYNC_FAILED
+    IDLE
 }
 
 /// As above, for a machine that is being migrated.
@@ -171,7 +137,7 @@ fn fail_live_flush<D: Disk>(live: &mut Moving<D>, dev: u8, pick: u8) -> u32
     live.recall();
     match live.fail_flush(dev, pick) {
         Ok(true) => DISK_FAILED,
-        Ok(false) => SYNC_FAILED,
+        Ok(false) => IDLE,
         Err(error) => mig_status(error),
     }
 }

@@ -1,44 +1,47 @@
 //! Images that the caller gets back.
 //!
-//! A machine whose disks are in memory of the library is refused (14): C could not free what it got.
+//! A machine whose disks are in memory of the library has none to give back: its slots stay as they are, and it is freed all the same.
 
-ghost use Rattle.std.specs.Prelude.{◌≡◌, None, Some, if◌then◌else◌, length};
-ghost use Rattle.vmig_c.specs.Kept.{are_mapped, is_loan_mapped, kept_of, state_in};
+ghost use Rattle.std.specs.Prelude.{◌≡◌, None, Some, length};
+ghost use Rattle.machine.specs.Shapes.{disk_sizes};
+ghost use Rattle.vmig_c.specs.Kept.{are_mapped, kept_of, loan_of, parked_in, state_in};
 ghost use Rattle.vmig_c.specs.Mapping.{counts};
-ghost use Rattle.vmig_c.specs.Status.{lent, not_mapped};
-ghost use Rattle.vmig_c.specs.Unmapping.{AreHandedBack, HasUnmapped, HasUnmappedArrival, HasUnmappedState, are_none, arriving_refusal, disk_in, disks_in, held_by, slots_refusal, unmap_refusal_of};
+ghost use Rattle.vmig_c.specs.Unmapping.{AreHandedBack, HasReleasedFrom, HasUnmapped, HasUnmappedArrival, are_none, arriving_refusal, disk_in, disks_in, held_by, images_of, release_refusal_of, slots_refusal};
 
 use crate::kept::{Contents, Kept};
 use crate::landing::Landing;
 use crate::loan::Loan;
 use crate::mapping::give_back;
 use crate::migrating::taken_out;
-use crate::status::{BAD_IMAGES, LENT, NO_MACHINE, NOT_MAPPED, TOO_SMALL};
-use machine::{Device, Machine, Shape};
+use crate::status::{BAD_IMAGES, LENT, TOO_SMALL};
+use machine::{Device, Disk, Machine, Shape};
 use mapped_disk::{Image, MappedDisk};
 use std::alloc::Global;
 
-/// Why `vmig_unmap` is refused, if it is.
-#[tactic(auto, using(crate::proofs::Landings::slots_for))]
-pub(crate) fn unmap_refusal(kept: &Kept, images: &mut [Image]) -> Option<u32>
+/// Why `vmig_release` is refused, if it is.
+pub(crate) fn release_refusal(kept: &Kept, images: &mut [Image]) -> Option<u32>
     ensures same { images.new ≡ images.old }
-    ensures refusal { result ≡ unmap_refusal_of kept.now images.old }
+    ensures refusal { result ≡ release_refusal_of kept.now images.old }
 {
-    match &kept.contents {
-        Contents::StillMapped(machine) => slots_refusal(disk_count(machine), images),
-        Contents::MovingMapped(live) => slots_refusal(disk_count(live.machine()), images),
-        Contents::Still(_) | Contents::Moving(_) => Some(NOT_MAPPED),
-        Contents::Arriving(_) => Some(NO_MACHINE),
-        Contents::ArrivingMapped(landing) => slots_refusal(landing.disk_count(), images),
-        Contents::Lent(loan) => Some(lent_refusal(loan)),
+    if let Contents::Lent(_) = &kept.contents {
+        return Some(LENT);
     }
+    slots_refusal(image_count(&kept.contents), images)
 }
 
-/// Why a machine whose RAM is lent is not unmapped.
-fn lent_refusal(loan: &Loan) -> u32
-    ensures { result ≡ (if is_loan_mapped loan.now then lent else not_mapped) }
+/// How many images are given back by a release.
+#[tactic(auto, using(crate::proofs::Landings::slots_for))]
+pub(crate) fn image_count(contents: &Contents) -> usize
+    ensures { result ≡ images_of (are_mapped contents.now) (state_in contents.now) }
 {
-    if loan.is_mapped() { LENT } else { NOT_MAPPED }
+    match contents {
+        Contents::StillMapped(machine) => disk_count(machine),
+        Contents::MovingMapped(live) => disk_count(live.machine()),
+        Contents::ArrivingMapped(landing) => landing.disk_count(),
+        Contents::Lent(Loan::StillMapped(parked)) => count_disks(parked.shapes()),
+        Contents::Lent(Loan::MovingMapped(live)) => count_disks(live.parked().shapes()),
+        _ => 0,
+    }
 }
 
 /// Why these slots cannot take the images of `disks` disks, if they cannot.
@@ -69,11 +72,17 @@ fn are_none(images: &mut [Image]) -> bool
 }
 
 /// How many devices have a disk.
-fn disk_count(machine: &Machine<MappedDisk>) -> usize
+fn disk_count<D: Disk>(machine: &Machine<D>) -> usize
     ensures { result ≡ length (disks_in machine.now.devices) }
 {
+    count_disks(machine.shapes())
+}
+
+fn count_disks(shapes: &[Shape]) -> usize
+    ensures { result ≡ length (disk_sizes shapes.now) }
+{
     let mut count = 0;
-    for shape in machine.shapes() {
+    for shape in shapes {
         if let Shape::Block { .. } = *shape {
             count += 1;
         }
@@ -89,16 +98,16 @@ pub(crate) fn contents_of(alloc: Global, kept: &mut Kept) -> Contents
     taken_out(alloc, &mut kept.contents)
 }
 
-/// Frees the machine, and puts its images into the slots.
-pub(crate) fn unmap(contents: Contents, images: &mut [Image])
-    requires { unmap_refusal_of (kept_of contents) images.old ≡ None }
-    ensures { HasUnmappedState (state_in contents) images.old images.new }
+/// Frees what there is, and puts its images into the slots.
+pub(crate) fn release(contents: Contents, images: &mut [Image])
+    requires { release_refusal_of (kept_of contents) images.old ≡ None }
+    ensures { HasReleasedFrom (are_mapped contents) (state_in contents) images.old images.new }
 {
     match contents {
         Contents::StillMapped(machine) => hand_back(machine, images),
         Contents::MovingMapped(live) => hand_back(live.abort(), images),
         Contents::ArrivingMapped(landing) => give_up(landing, images),
-        _ => unreachable!(),
+        other => drop(other),
     }
 }
 

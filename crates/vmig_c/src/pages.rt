@@ -1,0 +1,106 @@
+//! Pages that a caller names.
+
+ghost use Rattle.std.specs.Prelude.{◌≡◌, ◌≤◌, None, Some, IfOk, length, nat_lt, true};
+ghost use Rattle.guestmem.specs.declared.limits.TheConstants.{PAGES_MAX};
+ghost use Rattle.vmig_c.specs.Mirror.{are_pages};
+ghost use Rattle.vmig_c.specs.Named.{is_known_pages, named_pages, needs_list, pages_refusal, shifted, span_of};
+
+use crate::device_shape::are_zeros;
+use crate::mirror::are_pages;
+use crate::naming::{WORD_BITS, collect_all, collect_marked, shift};
+use crate::status::{NOT_KNOWN, OUT_OF_RAM, TOO_SMALL};
+use guestmem::NoMemory;
+
+/// Pages of RAM: those of a list, those of a bitmap, both, or all.
+#[repr(C)]
+pub struct Pages<'a> {
+    /// Their numbers.
+    pub list: &'a [u32],
+
+    /// Bit k of word n is page `first + 64 * n + k`.
+    pub words: &'a [u64],
+
+    /// The first page that the bitmap covers.
+    pub first: u32,
+
+    /// How many pages it covers. 0: up to RAM's end.
+    pub span: u32,
+
+    /// 1: every page.
+    pub all: u32,
+
+    /// 0.
+    pub zero: u32,
+
+    /// Zeros, until a later version asks for more by them.
+    pub reserved: [u64; 2],
+}
+
+impl Pages<'_> {
+    ghost use Rattle.std.specs.Prelude.{◌≡◌, ◌≤◌, None, Some, IfOk, length, nat_lt, true};
+    ghost use Rattle.guestmem.specs.declared.limits.TheConstants.{PAGES_MAX};
+    ghost use Rattle.vmig_c.specs.Mirror.{are_pages};
+    ghost use Rattle.vmig_c.specs.Named.{is_known_pages, named_pages, needs_list, pages_refusal, span_of};
+
+    /// Whether this library knows all that the struct asks for.
+    pub(crate) fn is_known(&self) -> bool
+        ensures { result ≡ is_known_pages self.now }
+    {
+        self.all <= 1 && self.zero == 0 && are_zeros(&self.reserved)
+    }
+
+    /// Why no pages of a RAM of so many are named so, if so.
+    pub(crate) fn refusal(&self, count: usize) -> Option<u32>
+        requires { count ≤ PAGES_MAX }
+        ensures { result ≡ pages_refusal self.now count }
+    {
+        let span = self.span_of(count);
+        if self.words.len() < span.div_ceil(WORD_BITS) && !self.words.is_empty() {
+            return Some(TOO_SMALL);
+        }
+        if !self.words.is_empty() && self.first as usize + span > count {
+            return Some(OUT_OF_RAM);
+        }
+        if !are_pages(count as u64, self.list) {
+            return Some(OUT_OF_RAM);
+        }
+        None
+    }
+
+    /// How many pages the bitmap covers, of a RAM of so many.
+    fn span_of(&self, count: usize) -> usize
+        requires { count ≤ PAGES_MAX }
+        ensures { result ≡ span_of self.now count }
+    {
+        if self.span != 0 {
+            return self.span as usize;
+        }
+        count.saturating_sub(self.first as usize)
+    }
+
+    /// Whether their numbers have to be collected: a list is there.
+    pub(crate) fn needs_list(&self) -> bool
+        ensures { result ≡ needs_list self.now }
+    {
+        self.all != 0 || !self.words.is_empty()
+    }
+
+    /// Makes the list that of the pages that are named. It takes no memory where the list has room for them.
+    pub(crate) fn collect(&self, count: usize, numbers: &mut Vec<u32>) -> Result<(), NoMemory>
+        requires few { count ≤ PAGES_MAX }
+        requires fit { pages_refusal self.now count ≡ None }
+        ensures { IfOk result (λ x. numbers.new.items ≡ named_pages self.now count) }
+    {
+        if self.all != 0 {
+            return collect_all(count, numbers);
+        }
+        let span = if self.words.is_empty() {
+            0
+        } else {
+            self.span_of(count)
+        };
+        collect_marked(self.words, span, numbers)?;
+        shift(numbers, self.first);
+        numbers.extend_from_slice(self.list)
+    }
+}

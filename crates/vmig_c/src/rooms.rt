@@ -1,0 +1,48 @@
+//! How much a device still takes of what the host puts in.
+
+ghost use Rattle.std.specs.Prelude.{◌≡◌, slice_get};
+ghost use Rattle.machine.specs.Seen.{state_of};
+ghost use Rattle.vmig_c.specs.Rooms.{IsRoomOf, RoomsKept, room_of};
+
+use crate::kept::{Kept, by_state};
+use crate::status::{DONE, NO_DEVICE, WRONG_KIND};
+use console::HOST_BYTES_MAX;
+use machine::{Disk, Kind, Machine};
+use net::INBOX_MAX;
+
+/// How many bytes an input would keep; of a network device, how many frames.
+pub(crate) fn room(kept: &Kept, dev: u8, room: &mut usize) -> u32
+    ensures { RoomsKept kept.now.state dev result room.new room.old }
+{
+    by_state!(&kept.contents;
+        still(machine) => room_status(machine, dev, room),
+        moving(live) => room_status(live.machine(), dev, room),
+    )
+}
+
+fn room_status<D: Disk>(machine: &Machine<D>, dev: u8, room: &mut usize) -> u32
+    ensures { IsRoomOf (slice_get (state_of machine.now).devices dev) result room.new room.old }
+{
+    if dev as usize >= machine.shapes().len() {
+        return NO_DEVICE;
+    }
+    match room_of(machine.state(dev).kind()) {
+        Some(count) => {
+            *room = count;
+            DONE
+        }
+        None => WRONG_KIND,
+    }
+}
+
+/// How much more such a device takes, if it takes anything.
+fn room_of(kind: &Kind) -> Option<usize>
+    ensures { result ≡ room_of kind.now }
+{
+    match kind {
+        Kind::Network { inbox, .. } => Some(INBOX_MAX - inbox.len()),
+        Kind::Block(_) => None,
+        Kind::Console { held, .. } => Some(HOST_BYTES_MAX - held.len()),
+        Kind::Entropy(pool) => Some(HOST_BYTES_MAX - pool.len()),
+    }
+}
