@@ -74,7 +74,7 @@
  *     lines                    0           0                 .            .            .            .
  *     give_back                NO_MACHINE  NO_MACHINE        NOT_LENT     NOT_LENT     NOT_LENT     .
  *     sector_read, save        NO_MACHINE  NO_MACHINE        .            SENDING      SENDING      LENT
- *     send_begin               NO_MACHINE  NO_MACHINE        .            SENDING      SENDING      LENT
+ *     send_begin               NO_MACHINE  NO_MACHINE        .            SENDING      STOPPED      LENT
  *     send_some, send_round,
  *       send_stop              NO_MACHINE  NO_MACHINE        NOT_SENDING  .            STOPPED      LENT
  *     send_abort, send_left    NO_MACHINE  NO_MACHINE        NOT_SENDING  .            .            LENT
@@ -251,7 +251,7 @@ enum {
     VMIG_LENT = 23,                     /* RAM is out: give it back before */
     VMIG_NOT_LENT = 24,                 /* RAM is in */
     VMIG_NOT_YOURS = 25,                /* RAM is in memory of the library, and is never lent */
-    VMIG_BAD_RAM = 26,                  /* not 1 to 16,384 whole pages, or not as much as asked for or lent */
+    VMIG_BAD_RAM = 26,                  /* not 1 to 16,384 whole pages, or not as asked for or lent; lend: not VMIG_NO_RAM */
     VMIG_NOT_KNOWN = 27,                /* a struct of another version, a flag, or a word that has to be 0 */
     VMIG_BAD_BASE = 30,                 /* not a multiple of 4,096, or RAM would reach past the last address */
 
@@ -380,8 +380,9 @@ typedef struct vmig_setup {
     vmig_ram ram;                       /* RAM with the bytes that are there, such as a kernel that you put there; or VMIG_NO_RAM:
                                          * zeros, in memory of the library */
     uint64_t base;                      /* the guest-physical address of RAM's first byte: a multiple of 4,096, and no byte of RAM
-                                         * is past the last address. All addresses of the guest count from there: those that a driver
-                                         * writes into registers and descriptors, and those of vmig_ram_read and vmig_ram_write */
+                                         * is past the last address. All addresses of the guest count from there: those that a
+                                         * driver writes into registers and descriptors, and those of vmig_ram_read and
+                                         * vmig_ram_write */
     uint32_t flags;                     /* 0 */
     uint32_t block;                     /* 0 */
     uint64_t reserved[4];               /* 0 */
@@ -556,8 +557,9 @@ vmig_status vmig_sector_read(const vmig_machine *m, uint8_t dev, uint64_t sector
 vmig_status vmig_ram_read(const vmig_machine *m, uint64_t addr, uint8_t *buf, size_t len) VMIG_CHECKED_(1);
 vmig_status vmig_ram_write(vmig_machine *m, uint64_t addr, const uint8_t *bytes, size_t len) VMIG_CHECKED_(1);
 
-/* Lends RAM of yours to you and the guest: *ram becomes it. Until it is given back you and your guest may read and write these
- * bytes, and no call does. It takes no memory, and as long for any size of RAM. NOT_YOURS. */
+/* Lends RAM of yours to you and the guest: *ram, which is VMIG_NO_RAM before, becomes it. Until it is given back you and your guest
+ * may read and write these bytes, and no call does. It takes no memory, and as long for any size of RAM.
+ * BAD_RAM (*ram is not VMIG_NO_RAM), NOT_YOURS. */
 vmig_status vmig_lend(vmig_machine *m, vmig_ram *ram) VMIG_CHECKED_(1, 2);
 
 /* Takes RAM back, with all the guest's processors outside; *ram is VMIG_NO_RAM then. Its address may be another, if the bytes moved
@@ -573,7 +575,7 @@ vmig_status vmig_give_back(vmig_machine *m, vmig_ram *ram, const vmig_pages *wri
 /* RAM that is mirrored: the machine's page n becomes the 4,096 bytes at ram + 4096 * n, for each page that is named, as if the
  * guest wrote it whole, so a machine that is being sent sends it anew; and seen[n] becomes its version. ram has len bytes and seen
  * has count entries, at least as many as RAM has bytes and pages, else TOO_SMALL. Only this call and vmig_pull write seen.
- * NOT_KNOWN, TOO_SMALL, OUT_OF_RAM (no such page). */
+ * NOT_KNOWN, TOO_SMALL, OUT_OF_RAM (no such page), NO_MEMORY (a bitmap, or all). */
 vmig_status vmig_push(vmig_machine *m, const vmig_pages *written, const uint8_t *ram, size_t len, uint64_t *seen, size_t count)
     VMIG_CHECKED_(1, 2);
 
@@ -615,9 +617,8 @@ vmig_status vmig_send_take(vmig_machine *m, uint8_t *buf, size_t size, size_t *g
 typedef struct vmig_left {
     uint64_t due_pages, due_sectors;    /* in this round */
     uint64_t dirty_pages, dirty_sectors; /* written since they were sent, or since vmig_send_begin; of lent RAM, as far as named */
-    uint64_t waiting;                   /* bytes that wait to be taken */
-    uint64_t stop_bytes;                /* a stop now would write at most so many more */
-    uint64_t reserved[2];               /* 0 */
+    uint64_t stop_bytes;                /* a stop now would write at most so many more bytes */
+    uint64_t reserved[3];               /* 0 */
 } vmig_left;
 
 vmig_status vmig_send_left(const vmig_machine *m, vmig_left *left) VMIG_CHECKED_(1, 2);

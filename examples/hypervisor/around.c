@@ -12,6 +12,9 @@
 /* A guest that waits looks around this often, for a signal may have come before the wait. */
 enum { FRAMES_A_TURN = 64, WAIT_MS_MAX = 20, STATUS_REGISTER = 0x070, DRIVER_OK = 4 };
 
+/* All that the pool of the entropy device could hold. */
+enum { POOL_MAX = 4096 };
+
 /* Whether the guest's driver drives a device. What comes before that waits, or is lost. */
 static int is_driven(struct host *h, unsigned device)
 {
@@ -60,32 +63,35 @@ static void take_size(struct host *h)
     uint16_t columns, rows;
 
     operator_words.has_new_size = 0;
-    if (terminal_size(&columns, &rows)) vmig_resize(&h->machine, CONSOLE, columns, rows);
+    if (terminal_size(&columns, &rows)) must(vmig_resize(&h->machine, CONSOLE, columns, rows), "vmig_resize");
 }
 
 /* What was typed goes to the console, once its driver is there. A guest that has none reads it at the UART. */
 static void take_typed(struct host *h)
 {
-    uint32_t kept = 0;
+    size_t kept = 0;
 
     if (h->typed.count == 0 || !is_driven(h, CONSOLE)) return;
-    vmig_input(&h->machine, CONSOLE, h->typed.bytes, h->typed.count, &kept);
-    h->typed.count -= kept;
+    must(vmig_input(&h->machine, CONSOLE, h->typed.bytes, h->typed.count, &kept), "vmig_input");
+    h->typed.count -= (uint32_t)kept;
     memmove(h->typed.bytes, h->typed.bytes + kept, h->typed.count);
 }
 
-/* Frames go to the card until it takes no more; then the last one waits. */
+/* Frames go to the card until it takes no more; then the last one waits. One that its driver does not hear is lost, and so is one of a
+ * length that the card refuses. */
 static void take_frames(struct host *h)
 {
-    uint32_t kept = 0;
+    size_t room = 0, kept;
 
     if (h->wire < 0) return;
     int hears = is_driven(h, (unsigned)h->devices.network);
     for (int i = 0; i < FRAMES_A_TURN; i++) {
         if (h->frame_length == 0) h->frame_length = network_receive(h->wire, h->frame);
         if (h->frame_length == 0) return;
-        if (hears) vmig_input(&h->machine, (uint8_t)h->devices.network, h->frame, (uint32_t)h->frame_length, &kept);
-        if (hears && kept == 0) return;
+        if (hears) must(vmig_room(&h->machine, (uint8_t)h->devices.network, &room), "vmig_room");
+        if (hears && room == 0) return;
+        if (hears && vmig_input(&h->machine, (uint8_t)h->devices.network, h->frame, h->frame_length, &kept) == VMIG_BAD_FRAME)
+            say("a frame of %zu bytes is dropped", h->frame_length);
         h->frame_length = 0;
     }
 }
@@ -104,25 +110,22 @@ void take_input(struct host *h)
     h->input_waits = 0;
 }
 
-void fill_pool(struct host *h, uint32_t taken)
+void fill_pool(struct host *h)
 {
     uint8_t bytes[POOL];
-    uint32_t kept = 0, missing;
+    size_t room = 0, kept, missing;
 
-    h->pool -= taken < h->pool ? taken : h->pool;
-    missing = POOL - h->pool;
+    must(vmig_room(&h->machine, ENTROPY, &room), "vmig_room");
+    if (room <= POOL_MAX - POOL) return;
+    missing = room - (POOL_MAX - POOL);
     if (getrandom(bytes, missing, 0) != (ssize_t)missing) fail("the host gives no random bytes");
-    vmig_input(&h->machine, ENTROPY, bytes, missing, &kept);
-    h->pool += kept;
+    must(vmig_input(&h->machine, ENTROPY, bytes, missing, &kept), "vmig_input");
 }
 
 void announce(struct host *h)
 {
-    vmig_shape shape;
-
     if (h->wire < 0) return;
-    must(vmig_device(&h->machine, (uint8_t)h->devices.network, &shape), "vmig_device");
-    network_announce(h->wire, shape.mac);
+    network_announce(h->wire, h->devices.shapes[h->devices.network].mac);
 }
 
 void hand_on(struct host *h, unsigned device, const uint8_t *bytes, size_t length)

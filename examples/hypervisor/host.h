@@ -41,7 +41,6 @@ struct host {
     int wire;                    /* of the network device, or -1 */
     uint8_t frame[FRAME_MAX];
     size_t frame_length;         /* a frame that the device did not take yet */
-    uint32_t pool;               /* the random bytes that wait in the entropy device */
     int has_ended, is_gone;      /* the guest powered off; it was moved away */
     uint64_t outcome;            /* what it said when it powered off: 0 if all is well */
     struct move move;
@@ -57,9 +56,9 @@ void look_around(struct host *h);
 void open_wire(struct host *h);
 /* Hands in what came, with RAM given back. */
 void take_input(struct host *h);
-/* The guest took this number of bytes from the entropy device's pool: it gets new ones. It is never empty, since a request would wait there, and
- * it holds few: a machine that is saved and continued twice gives both guests the same. */
-void fill_pool(struct host *h, uint32_t taken);
+/* What the guest took from the entropy device's pool is put in anew. It is never empty, since a request would wait there, and it holds
+ * few bytes: a machine that is saved and continued twice gives both guests the same. */
+void fill_pool(struct host *h);
 /* Tells the network where the guest's card is now. */
 void announce(struct host *h);
 /* A message that a device sent. */

@@ -7,9 +7,6 @@
 /* The steps of one turn: a guest can give its devices work without end. */
 enum { STEPS_A_TURN = 1000 };
 
-/* The place of no step, where others are the device and the pick. */
-#define NO_PLACE UINT32_MAX
-
 /* The guest runs until it comes out, and looks around where its slice is over or it waits. Whether the board answered what it came out
  * for; else it came out for a register of a virtio device. */
 static int run_guest(struct host *h)
@@ -25,59 +22,57 @@ static int run_guest(struct host *h)
     return is_answered;
 }
 
-/* A driver's access to a register of its device. */
+/* A driver's access to a register of its device. A window without a device reads 0. */
 static void access_register(struct host *h)
 {
     struct guest_exit *exit = &h->processor.exit;
     uint64_t at = exit->address - WINDOWS_AT;
-    uint8_t dev = (uint8_t)(at / WINDOW_SIZE);
-    uint32_t off = (uint32_t)(at % WINDOW_SIZE), value = 0, out = 0;
+    uint8_t dev = (uint8_t)(at / WINDOW_SIZE), printed;
+    uint32_t off = (uint32_t)(at % WINDOW_SIZE), value = 0, byte = VMIG_NO_BYTE;
 
     if (exit->kind == EXIT_READ) {
-        vmig_reg_read(&h->machine, dev, off, exit->width, &value);
-        processor_loads(&h->processor, value);
-    } else if (vmig_reg_write(&h->machine, dev, off, exit->width, (uint32_t)exit->value, &out) == VMIG_OUT_BYTE) {
-        uint8_t byte = (uint8_t)out;
-        hand_on(h, dev, &byte, 1);
+        vmig_status status = vmig_reg_read(&h->machine, dev, off, exit->width, &value);
+        processor_loads(&h->processor, status == VMIG_OK ? value : 0);
+    } else if (vmig_reg_write(&h->machine, dev, off, exit->width, (uint32_t)exit->value, &byte) == VMIG_OK && byte != VMIG_NO_BYTE) {
+        printed = (uint8_t)byte;
+        hand_on(h, dev, &printed, 1);
     }
 }
 
-/* The next step of a device. Before one that makes a flush, or ends a write that its driver then takes for durable, the disk is brought to
- * its file. Where that failed, now or before, the guest's flush ends with an error. Such a write cannot fail any more: the guest ends. */
-static uint32_t make_step(struct host *h, uint8_t *sent, size_t size, uint32_t *len)
+/* The step that is next. Before one that makes a flush, or ends a write that its driver then takes for durable, the disk is brought to its
+ * file. Where that fails the disk is lost: the guest's flush ends with an error, now and later. Such a write cannot fail any more, and does
+ * not end: the guest ends. */
+static vmig_status make_step(struct host *h, vmig_status next, uint8_t *sent, size_t size, uint32_t *len)
 {
-    struct disk *disk = devices_disk(&h->devices, h->dev);
-    uint32_t status;
+    int is_lost = next == VMIG_SYNC && !disk_bring(devices_disk(&h->devices, h->dev));
+    vmig_status status;
 
-    if (disk == NULL || vmig_must_sync(&h->machine, h->dev, h->pick) != VMIG_SYNC || disk_bring(disk))
-        status = vmig_step(&h->machine, h->dev, h->pick, sent, size, len);
-    else if ((status = vmig_sync_failed(&h->machine, h->dev, h->pick)) == VMIG_DISK_FAILED)
-        say("each flush of this disk fails from now on: move the guest soon, or end it");
-    if (status == VMIG_SYNC_FAILED || status == VMIG_DISK_LOST) fail("the guest ends: it would take what is lost for durable");
+    if (is_lost) must(vmig_sync_failed(&h->machine, h->dev), "vmig_sync_failed");
+    status = vmig_step(&h->machine, h->dev, h->pick, sent, size, len);
+    if (is_lost && status == VMIG_IDLE) fail("the guest ends: it would take what is lost for durable");
+    if (is_lost) say("each flush of this disk fails from now on: move the guest soon, or end it");
     return status;
 }
 
-/* The devices do their work, in turn from where they were. A step that is refused memory keeps no other waiting: those after it are made,
- * and the turn ends where it alone is left. What is more than a turn has waits for the next one. */
+/* The devices do their work, in turn from where they were. What is more than a turn has waits for the next one, which begins after the last
+ * step: so one that is refused memory keeps no other waiting. */
 static void do_work(struct host *h)
 {
     static uint8_t sent[VMIG_SENT_MAX];
-    uint32_t len = 0, refused = NO_PLACE;
+    uint32_t len = 0;
 
     h->steps_wait = 1;
-    for (int i = 0; i < STEPS_A_TURN; i++) {
-        if (vmig_next_work(&h->machine, &h->dev, &h->pick) != VMIG_WORK) {
+    for (int left = STEPS_A_TURN; left > 0; left--) {
+        vmig_status status = vmig_next(&h->machine, &h->dev, &h->pick);
+        if (status == VMIG_IDLE) {
             h->steps_wait = 0;
             return;
         }
-        uint32_t place = (uint32_t)h->dev << 8 | h->pick, status;
-        if (place == refused) return;
-        status = make_step(h, sent, sizeof sent, &len);
-        if (status < 64 && status != VMIG_NO_MEMORY) fail("vmig_step: %s", vmig_status_name(status));
-        if (status >= 64) refused = NO_PLACE;
-        else if (refused == NO_PLACE) refused = place;
+        if (!vmig_refused(status)) status = make_step(h, status, sent, sizeof sent, &len);
+        if (status == VMIG_NO_MEMORY) return;
+        if (vmig_refused(status)) fail("a step: %s", vmig_status_name(status));
         if (status == VMIG_SENT) hand_on(h, h->dev, sent, len);
-        if (status == VMIG_COMPLETED && h->dev == ENTROPY) fill_pool(h, len);
+        if (status == VMIG_COMPLETED && h->dev == ENTROPY) fill_pool(h);
         h->statistics.steps++;
     }
 }
@@ -87,10 +82,12 @@ static void do_work(struct host *h)
 static void serve(struct host *h, int is_answered)
 {
     struct memory *log = &h->processor.memory;
-    size_t named = move_needs_log(h) ? log->count_written : 0;
+    vmig_pages written = VMIG_NO_PAGES;
 
-    must(vmig_give_back(&h->machine, &h->ram, log->written, named), "vmig_give_back");
-    if (named > 0) memory_empty_log(log);
+    written.list = log->written;
+    written.count = move_needs_log(h) ? log->count_written : 0;
+    must(vmig_give_back(&h->machine, &h->ram, &written), "vmig_give_back");
+    if (written.count > 0) memory_empty_log(log);
     if (!is_answered) access_register(h);
     take_input(h);
     do_work(h);
@@ -117,7 +114,7 @@ void host_run(struct host *h)
     terminal_take();
     open_wire(h);
     enter_library(h);
-    fill_pool(h, 0);
+    fill_pool(h);
     do_work(h);
     set_lines(h);
     must(vmig_lend(&h->machine, &h->ram), "vmig_lend");

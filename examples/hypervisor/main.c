@@ -74,9 +74,8 @@ static void end(struct host *h)
     vmig_image images[DISKS_MAX] = {VMIG_NO_IMAGE};
     uint8_t *ram = h->processor.memory.ram;
 
-    if (h->ram.at != NULL) must(vmig_give_back(&h->machine, &h->ram, NULL, 0), "vmig_give_back");
-    if (h->devices.count_disks > 0) must(vmig_unmap(&h->machine, images, DISKS_MAX), "vmig_unmap");
-    else vmig_free(&h->machine);
+    if (h->ram.at != NULL) must(vmig_give_back(&h->machine, &h->ram, &(vmig_pages)VMIG_NO_PAGES), "vmig_give_back");
+    must(vmig_release(&h->machine, images, DISKS_MAX), "vmig_release");
     for (unsigned i = 0; i < h->devices.count_disks; i++) disk_close(&h->devices.disks[i]);
     devices_give_ram(ram, h->processor.memory.length);
     memory_end(&h->processor.memory);

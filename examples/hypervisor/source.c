@@ -8,8 +8,8 @@
 #include "say.h"
 #include "terminal.h"
 
-/* The bytes that are copied between two slices of the guest. It takes about as long as the slice. */
-enum { BYTES_A_TURN = 65536, SECTOR = 512 };
+/* What is copied between two slices of the guest: pages, or sectors once no page is due. It takes about as long as the slice. */
+enum { PAGES_A_TURN = 16, SECTORS_A_TURN = 128 };
 
 static const char BROKEN[] = "the line is broken", OUT_OF_MEMORY[] = "out of memory";
 
@@ -34,7 +34,7 @@ static int give_up(struct host *h, const char *why)
 {
     if (h->move.is_on) {
         line_close(&h->move.line);
-        must(vmig_abort(&h->machine), "vmig_abort");
+        must(vmig_send_abort(&h->machine), "vmig_send_abort");
     }
     h->move.is_on = 0;
     say("move: %s: the guest continues here", why);
@@ -73,7 +73,7 @@ static const char *begin_move(struct host *h)
         say("move: there is no line to %s", h->options.connect);
         return why;
     }
-    if (vmig_begin(&h->machine) != VMIG_OK) {
+    if (vmig_send_begin(&h->machine) != VMIG_OK) {
         line_close(&h->move.line);
         return OUT_OF_MEMORY;
     }
@@ -97,7 +97,7 @@ static int begin_stream(struct host *h)
     static uint8_t bytes[BODY_MAX];
     size_t got = 0;
 
-    must(vmig_take(&h->machine, bytes, sizeof bytes, &got), "vmig_take");
+    must(vmig_send_take(&h->machine, bytes, sizeof bytes, &got), "vmig_send_take");
     if (got > 0) line_begin(&h->move.line, STREAM, bytes, got);
     return got > 0;
 }
@@ -105,18 +105,16 @@ static int begin_stream(struct host *h)
 /* Copies some of what is due. Returns why the move is over, or NULL. */
 static const char *copy_some(struct move *m, vmig_machine *machine)
 {
-    uint64_t before = m->pages * PAGE + m->sectors * SECTOR;
-    uint8_t dev;
-    uint32_t number;
+    vmig_left before, after;
+    vmig_status status;
 
-    while (!m->round_is_sent && m->pages * PAGE + m->sectors * SECTOR - before < BYTES_A_TURN) {
-        switch (vmig_copy(machine, &dev, &number)) {
-        case VMIG_PAGE: m->pages++; break;
-        case VMIG_SECTOR: m->sectors++; break;
-        case VMIG_ROUND_DONE: m->round_is_sent = 1; break;
-        default: return OUT_OF_MEMORY;
-        }
-    }
+    must(vmig_send_left(machine, &before), "vmig_send_left");
+    status = vmig_send_some(machine, before.due_pages > 0 ? PAGES_A_TURN : SECTORS_A_TURN);
+    if (vmig_refused(status)) return OUT_OF_MEMORY;
+    must(vmig_send_left(machine, &after), "vmig_send_left");
+    m->pages += before.due_pages - after.due_pages;
+    m->sectors += before.due_sectors - after.due_sectors;
+    m->round_is_sent = status == VMIG_ROUND_DONE;
     return NULL;
 }
 
@@ -143,7 +141,7 @@ static const char *send_rest(struct host *h)
     uint8_t state[STATE_MAX];
     uint64_t pages = 0, sectors = 0;
 
-    if (vmig_stop(&h->machine, &pages, &sectors) != VMIG_OK) return OUT_OF_MEMORY;
+    if (vmig_send_stop(&h->machine, &pages, &sectors) != VMIG_OK) return OUT_OF_MEMORY;
     say("move: the guest is paused: %llu pages and %llu sectors are left", (unsigned long long)pages, (unsigned long long)sectors);
     do
         if (!line_finish(l)) return what_came(l);
@@ -192,13 +190,16 @@ static int finish_move(struct host *h)
 /* A round was sent, and the log was read: the next one begins, or the last. */
 static int end_round(struct host *h)
 {
-    uint64_t due = 0, left = 0;
+    vmig_left found;
+    uint64_t left;
 
-    must(vmig_remaining(&h->machine, &due, &left), "vmig_remaining");
+    must(vmig_send_left(&h->machine, &found), "vmig_send_left");
+    left = found.dirty_pages + found.dirty_sectors;
     say("move: round %u sent %llu pages and %llu sectors; %llu are left", h->move.round, (unsigned long long)h->move.pages,
         (unsigned long long)h->move.sectors, (unsigned long long)left);
     if (is_enough(h, left)) return finish_move(h);
-    must(vmig_end_round(&h->machine, &h->move.round), "vmig_end_round");
+    must(vmig_send_round(&h->machine), "vmig_send_round");
+    h->move.round++;
     h->move.round_is_sent = 0;
     h->move.pages = h->move.sectors = 0;
     h->move.left_before = left;

@@ -4,7 +4,7 @@
 #include "host.h"
 #include "memory.h"
 
-enum { STATE_VERSION = 2 };
+enum { STATE_VERSION = 3 };
 
 /* Where the next field is, and which way it goes. */
 struct coder {
@@ -54,7 +54,6 @@ static void code_board(struct coder *c, struct host *h)
     code(c, h->uart.divisor, sizeof h->uart.divisor);
     code(c, &h->typed.count, sizeof h->typed.count);
     code(c, h->typed.bytes, sizeof h->typed.bytes);
-    code(c, &h->pool, sizeof h->pool);
 }
 
 static void code_all(struct coder *c, struct host *h)
@@ -86,7 +85,7 @@ static int is_board(const struct host *h)
     for (int i = 0; i < SOURCES; i++)
         if (c->priority[i] > (i == 0 ? 0 : 7)) return 0;
     if ((c->enabled & ~sources) || (c->claimed & ~sources) || c->threshold > 7) return 0;
-    return h->uart.enabled < 16 && h->typed.count <= TYPED_MAX && h->pool <= POOL;
+    return h->uart.enabled < 16 && h->typed.count <= TYPED_MAX;
 }
 
 size_t state_write(struct host *h, uint8_t bytes[STATE_MAX])

@@ -27,12 +27,14 @@ static const char *check_hello(const struct host *h, const struct line *l)
 
 static const char *feed(struct host *h, struct arrival *a, const uint8_t *bytes, size_t length)
 {
-    uint32_t status = vmig_feed(&h->machine, bytes, length), rounds = 0;
+    vmig_status status = vmig_feed(&h->machine, bytes, length);
+    vmig_description found;
 
-    if (status != VMIG_OK) return vmig_status_name(status);
-    if (vmig_rounds(&h->machine, &rounds) == VMIG_OK && rounds > a->rounds) {
-        say("move: round %u is here", rounds);
-        a->rounds = rounds;
+    if (vmig_refused(status)) return vmig_status_name(status);
+    vmig_describe(&h->machine, &found);
+    if (found.rounds > a->rounds) {
+        say("move: round %u is here", found.rounds);
+        a->rounds = found.rounds;
         /* The guest runs elsewhere now: what is brought to the files here needs not be brought in its pause. */
         if (!devices_bring(&h->devices)) return "a disk cannot be written";
     }
@@ -76,7 +78,7 @@ static const char *take_frame(struct host *h, struct arrival *a)
 static const char *take_all(struct host *h, struct arrival *a)
 {
     struct line *l = &h->move.line;
-    uint32_t status;
+    vmig_status status;
 
     line_be_patient(l);
     do {

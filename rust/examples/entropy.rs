@@ -99,7 +99,7 @@ fn lend() -> Result<(), Box<dyn AnyError>> {
     assert_eq!(lent.ram()[0x5000], 9);
     let mut machine = lent.give_back(&[6])?.lend()?.give_back_marked(&[1 << 6])?;
     let left = machine.send_left()?;
-    assert_eq!(Left { dirty_pages: 1, waiting: left.waiting, stop_bytes: left.stop_bytes, ..Left::default() }, left);
+    assert_eq!(Left { dirty_pages: 1, stop_bytes: left.stop_bytes, ..Left::default() }, left);
     assert_eq!(machine.send_stop()?, (1, 0));
     carry(&mut machine, &mut arrival)?;
     let mut arrived = arrival.finish()?.lend()?.give_back_all()?;

@@ -15,8 +15,6 @@ pub struct Left {
     pub dirty_pages: u64,
     /// Written since they were sent.
     pub dirty_sectors: u64,
-    /// Bytes that wait to be taken.
-    pub waiting: u64,
     /// A stop would write at most so many bytes.
     pub stop_bytes: u64,
 }
@@ -61,8 +59,8 @@ impl Machine {
         let mut left = raw::Left::default();
         // SAFETY: as above.
         done(unsafe { raw::vmig_send_left(&mut self.held, &mut left) })?;
-        let raw::Left { due_pages, due_sectors, dirty_pages, dirty_sectors, waiting, stop_bytes, .. } = left;
-        Ok(Left { due_pages, due_sectors, dirty_pages, dirty_sectors, waiting, stop_bytes })
+        let raw::Left { due_pages, due_sectors, dirty_pages, dirty_sectors, stop_bytes, .. } = left;
+        Ok(Left { due_pages, due_sectors, dirty_pages, dirty_sectors, stop_bytes })
     }
 
     /// Takes the first of the bytes that wait, as many as the buffer holds, and tells how many these are.

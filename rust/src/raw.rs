@@ -177,9 +177,8 @@ pub struct Left {
     pub due_sectors: u64,
     pub dirty_pages: u64,
     pub dirty_sectors: u64,
-    pub waiting: u64,
     pub stop_bytes: u64,
-    pub reserved: [u64; 2],
+    pub reserved: [u64; 3],
 }
 
 /// Kinds of devices, by the numbers of the standard.

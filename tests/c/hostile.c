@@ -8,8 +8,14 @@
 enum { PAGES = 16, RAM = PAGES * 4096, SECTORS = 4, ACCESSES = 1000000, STEPS_A_TURN = 40, FRAME = 64 };
 enum { NETWORK = 0, DISK = 1, CONSOLE = 2, ENTROPY = 3, DEVICES = 4 };
 
+/* Where the rings of the queues end: a header of a request, and buffers. */
+enum { HEADERS = 0x4000, BUFFERS = 0x8000 };
+
 static const vmig_shape SHAPES[DEVICES] = {{.kind = VMIG_NETWORK, .mac = {2, 0, 0, 0, 0, 1}}, {.kind = VMIG_BLOCK, .sectors = SECTORS},
                                            {.kind = VMIG_CONSOLE}, {.kind = VMIG_ENTROPY}};
+
+/* How many chains the guest made available in each queue. */
+static uint16_t made[2 * DEVICES];
 
 /* What was seen of the devices, to know that the guest is one that tries something. */
 static uint32_t seen[256], printed;
@@ -56,53 +62,73 @@ static uint64_t any_number(uint32_t right)
 {
     static const uint64_t limits[] = {0, 1, 255, 256, 65535, 65536, RAM - 1, RAM, UINT32_MAX, UINT64_MAX, UINT64_MAX - 15};
 
-    switch (draw(8)) {
+    switch (draw(40)) {
     case 0: return limits[draw(sizeof limits / sizeof *limits)];
     case 1: return (uint64_t)draw(UINT32_MAX) << draw(32);
     default: return right;
     }
 }
 
-/* A driver, of which not all is well: the features of any kind, and areas that are mostly right. */
+/* A driver, of which not all is well: the features of any kind, and areas that are mostly right. Half of them are as they have to be. */
 static void set_up_somehow(vmig_machine *m, uint8_t dev)
 {
     static const uint32_t begin[] = {0, 1, 3};
-    uint32_t queues = dev == NETWORK || dev == CONSOLE ? 2 : 1, layout = draw(4) == 0 ? 4 : 0;
+    uint32_t queues = dev == NETWORK || dev == CONSOLE ? 2 : 1, layout = draw(4) == 0 ? 4 : 0, is_right = draw(2);
 
     for (size_t i = 0; i < 3; i++) write_register(m, dev, 0x070, begin[i]);
     write_register(m, dev, 0x024, 0);
-    write_register(m, dev, 0x020, draw(2) == 0 ? 0 : draw(UINT32_MAX));
+    write_register(m, dev, 0x020, is_right ? 0 : draw(UINT32_MAX));
     write_register(m, dev, 0x024, 1);
     write_register(m, dev, 0x020, 1 | layout);
     write_register(m, dev, 0x070, 0xb);
     for (uint32_t q = 0; q < queues; q++) {
-        uint32_t at = 0x800 * (draw(4) == 0 ? draw(8) : 2 * (uint32_t)dev + q);
+        uint32_t at = 0x800 * (is_right || draw(4) != 0 ? 2 * (uint32_t)dev + q : draw(8));
         write_register(m, dev, 0x030, q);
-        write_register(m, dev, 0x038, (uint32_t)any_number(16));
-        write_register(m, dev, 0x080, (uint32_t)any_number(at));
-        write_register(m, dev, 0x090, (uint32_t)any_number(at + 0x400));
-        write_register(m, dev, 0x0a0, (uint32_t)any_number(at + 0x600));
+        write_register(m, dev, 0x038, is_right ? 16 : (uint32_t)any_number(16));
+        write_register(m, dev, 0x080, is_right ? at : (uint32_t)any_number(at));
+        write_register(m, dev, 0x090, is_right ? at + 0x400 : (uint32_t)any_number(at + 0x400));
+        write_register(m, dev, 0x0a0, is_right ? at + 0x600 : (uint32_t)any_number(at + 0x600));
         write_register(m, dev, 0x044, 1);
+    }
+    for (uint32_t q = 0; q < queues; q++) {
+        made[2 * (uint32_t)dev + q] = 0;
+        write_number(m, 0x800 * (2 * (uint32_t)dev + q) + 0x402, 0, 2);
     }
     write_register(m, dev, 0x070, 0xf);
 }
 
-/* The rings of one queue name something, and its driver notifies the device. */
+/* A request of a disk, which may be one, and where it may be. */
+static void write_request(vmig_machine *m)
+{
+    write_number(m, HEADERS, draw(8) == 0 ? draw(20) : draw(3) == 0 ? 4 : draw(2), 8);
+    write_number(m, HEADERS + 8, any_number(draw(SECTORS)), 8);
+}
+
+/* The descriptor of this number in a chain of this length, which mostly fits its device. */
+static void describe_somehow(vmig_machine *m, uint8_t dev, uint32_t at, uint32_t i, uint32_t length, int is_in)
+{
+    static const uint32_t of_disk[] = {16, 512, 1};
+    uint32_t len = dev == DISK ? of_disk[i % 3] : 1 + draw(200), flags = (i + 1 < length) | (is_in ? 2u : 0);
+
+    if (dev == DISK) flags = (i + 1 < length) | (i == 2 ? 2 : i == 1 ? draw(2) << 1 : 0);
+    if (draw(20) == 0) flags = draw(65536);
+    write_number(m, at, any_number(dev == DISK && i == 0 ? HEADERS : BUFFERS + 0x200 * draw(32)), 8);
+    write_number(m, at + 8, any_number(len), 4);
+    write_number(m, at + 12, flags, 2);
+    write_number(m, at + 14, draw(32) == 0 ? draw(65536) : i + 1, 2);
+}
+
+/* The rings of one queue name something, as split rings mostly, and its driver notifies the device. */
 static void fill_ring(vmig_machine *m, uint8_t dev)
 {
-    uint32_t queue = draw(2), at = 0x800 * (2 * (uint32_t)dev + queue), descriptors = 1 + draw(6), index = draw(65536);
+    uint32_t queue = draw(dev == NETWORK || dev == CONSOLE ? 2 : 1), which = 2 * (uint32_t)dev + queue, at = 0x800 * which;
+    uint32_t length = dev == DISK ? (draw(4) == 0 ? 2 : 3) : 1 + draw(3);
 
-    for (uint32_t i = 0; i < descriptors; i++) {
-        uint32_t flags = (i + 1 < descriptors) | (draw(2) << 1) | (draw(16) == 0 ? 4 : 0) | (draw(2) << 7) | (draw(2) << 15);
-        write_number(m, at + 16 * i, any_number(0x4000 + 0x100 * draw(64)), 8);
-        write_number(m, at + 16 * i + 8, any_number(i == 0 && dev == DISK ? 16 : 1 + draw(600)), 4);
-        write_number(m, at + 16 * i + 12, draw(32) == 0 ? draw(65536) : flags, 2);
-        write_number(m, at + 16 * i + 14, draw(32) == 0 ? draw(65536) : i + 1, 2);
-    }
-    write_number(m, 0x4000 + 0x100 * draw(64), draw(5), 4);
-    write_number(m, 0x4000 + 0x100 * draw(64) + 8, any_number(draw(SECTORS)), 8);
-    for (uint32_t i = 0; i < 16; i++) write_number(m, at + 0x404 + 2 * i, draw(16) == 0 ? draw(65536) : 0, 2);
-    write_number(m, at + 0x402, index, 2);
+    if (dev == DISK) write_request(m);
+    for (uint32_t i = 0; i < length; i++) describe_somehow(m, dev, at + 16 * i, i, length, queue == 0);
+    write_number(m, at + 0x404 + 2 * (made[which] % 16u), draw(32) == 0 ? draw(65536) : 0, 2);
+    made[which] = (uint16_t)(draw(64) == 0 ? draw(65536) : made[which] + 1u);
+    write_number(m, at + 0x402, made[which], 2);
     write_register(m, dev, 0x050, queue);
 }
 

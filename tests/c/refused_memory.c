@@ -160,7 +160,6 @@ static void look(vmig_machine *m, int moves)
     static uint8_t ram[PAGES * PAGE], sector[512];
     static uint64_t seen[PAGES];
     static const uint32_t pages[] = {3, 5};
-    static const vmig_pages all = VMIG_ALL_PAGES;
     uint64_t before = requests;
     uint32_t value, count;
     uint8_t dev = 0, pick = 0;
@@ -177,7 +176,6 @@ static void look(vmig_machine *m, int moves)
     expect("pages out", CALL(vmig_pull(m, ram, sizeof ram, seen, PAGES, &count)), VMIG_OK);
     expect("all of them", count, PAGES);
     expect("pages in", CALL(push_list(m, pages, 2, ram, sizeof ram, seen, PAGES)), VMIG_OK);
-    expect("all pages in", CALL(vmig_push(m, &all, ram, sizeof ram, seen, PAGES)), VMIG_OK);
     expect("RAM", CALL(vmig_ram_read(m, 0x8000, sector, 1)), VMIG_OK);
     expect("lines", CALL(vmig_lines(m)) & 1u << ENTROPY, 1u << ENTROPY);
     expect("what is left", CALL(vmig_send_left(m, &left)), moves ? VMIG_OK : VMIG_NOT_SENDING);
@@ -185,6 +183,22 @@ static void look(vmig_machine *m, int moves)
     expect("length of a save", CALL(vmig_save(m, NULL, 0, &len)), moves ? VMIG_SENDING : VMIG_MORE);
     CALL((vmig_describe(m, &found), VMIG_OK));
     expect("its state", found.state, moves ? VMIG_IS_SENDING : VMIG_IS_IDLE);
+    expect("requests for memory", requests, before);
+}
+
+/* All pages are handed in by no list. Where that is refused memory nothing has changed. */
+static void hand_in_all(vmig_machine *m)
+{
+    static const vmig_pages all = VMIG_ALL_PAGES;
+    static uint8_t ram[PAGES * PAGE];
+    static uint64_t seen[PAGES];
+    uint32_t count;
+    uint64_t before;
+
+    expect("pages out", CALL(vmig_pull(m, ram, sizeof ram, seen, PAGES, &count)), VMIG_OK);
+    CALL_AGAIN("all pages in", vmig_push(m, &all, ram, sizeof ram, seen, PAGES), VMIG_OK);
+    before = requests;
+    expect("and again", CALL(vmig_push(m, &all, ram, sizeof ram, seen, PAGES)), VMIG_OK);
     expect("requests for memory", requests, before);
 }
 
@@ -361,6 +375,7 @@ static uint64_t play(uint64_t refused)
     CALL_AGAIN("make", make_new(PAGES, shapes, DEVICES, &m), VMIG_OK);
     run_guest(&m);
     look(&m, 0);
+    hand_in_all(&m);
     if (migrate(&m)) {
         give_up(&m);
         expect("a second migration", (uint64_t)migrate(&m), 0);

@@ -481,26 +481,28 @@ static void making_over(void)
 static void lending(vmig_machine *m)
 {
     vmig_machine none = VMIG_NONE, own = VMIG_NONE;
-    vmig_ram ram = VMIG_NO_RAM, more = VMIG_NO_RAM;
+    vmig_ram ram = VMIG_NO_RAM, full = {room, 4096};
     uint64_t pages = 77, sectors = 77;
 
-    expect("no machine", vmig_lend(&none, &ram), VMIG_NO_MACHINE);
+    expect("no machine", vmig_lend(&none, &full), VMIG_NO_MACHINE);
     expect("one that arrives", arrive_any(&none), VMIG_OK);
-    expect("is none", vmig_lend(&none, &ram), VMIG_NO_MACHINE);
+    expect("is none", vmig_lend(&none, &full), VMIG_NO_MACHINE);
     expect("nor is it given back", give_back_list(&none, &ram, NULL, 0), VMIG_NO_MACHINE);
     vmig_free(&none);
     expect("make its own", make_new(1, over_shapes, 1, &own), VMIG_OK);
+    expect("a vmig_ram that is in use", vmig_lend(&own, &full), VMIG_BAD_RAM);
     expect("RAM of the library", vmig_lend(&own, &ram), VMIG_NOT_YOURS);
     vmig_free(&own);
     expect("begin", vmig_send_begin(m), VMIG_OK);
     expect("stop", vmig_send_stop(m, &pages, &sectors), VMIG_OK);
-    expect("stopped", vmig_lend(m, &ram), VMIG_STOPPED);
+    expect("stopped", vmig_lend(m, &full), VMIG_STOPPED);
     expect("abort", vmig_send_abort(m), VMIG_OK);
-    expect("no RAM is out", ram.at == NULL && ram.len == 0 && description_of(m).lent == 0, 1);
+    expect("a vmig_ram that is in use", vmig_lend(m, &full), VMIG_BAD_RAM);
+    expect("no RAM is out", ram.at == NULL && ram.len == 0 && full.at == room && full.len == 4096 && description_of(m).lent == 0, 1);
     expect("lend", vmig_lend(m, &ram), VMIG_OK);
     expect("RAM", ram.at == room && ram.len == sizeof room, 1);
     expect("it is out", description_of(m).lent, 1);
-    expect("lent already", vmig_lend(m, &more), VMIG_LENT);
+    expect("lent already", vmig_lend(m, &full), VMIG_LENT);
     expect("a call of a lent machine", vmig_send_begin(m), VMIG_LENT);
 }
 
