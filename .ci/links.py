@@ -83,7 +83,7 @@ CHECKS = check_links, check_blocks, check_quotes
 
 # What lies elsewhere in a release, seen from its texts, and what of the repository is not in it.
 ELSEWHERE = {"crates/vmig_c/vmig.h": "../../include/vmig.h"}
-NOT_RELEASED = "examples/hypervisor", "examples/library", "examples/move-recorded", "rust", "tests", "measures", ".ci", "crates"
+NOT_RELEASED = "examples/library", "examples/move-recorded", "tests", "measures", ".ci", "crates"
 
 
 def release(folder):

@@ -3,30 +3,29 @@
  * A machine is guest RAM and 1 to 16 virtio MMIO devices (VIRTIO 1.2, 4.2): network devices, block devices, consoles and entropy
  * devices. Your hypervisor hands it what the guest and the host do, one call for each, and it hands out what is to be done outside:
  * messages, syncs of disks, a stream. It does no I/O, starts no thread, reads no clock, calls nobody back, and nothing happens
- * between two calls. Whatever a guest or a stream holds, each call is defined and ends. What each call does is proved. Link -lvmig
- * as it is installed, or libvmig_c.a and after it the toolchain's liblibc_c.a.
+ * between two calls. Whatever a guest or a stream holds, each call is defined and ends. What each call does is proved. Link -lvmig.
  *
  * A FIRST PROGRAM:
  *
- *     #include <stdio.h>
- *     #include "vmig.h"
+ *   #include <stdio.h>
+ *   #include "vmig.h"
  *
- *     int main(void)
- *     {
- *         vmig_machine machine = VMIG_NONE;
- *         vmig_shape shape = {.kind = VMIG_ENTROPY};
- *         vmig_setup setup = VMIG_SETUP;
- *         uint32_t value = 0;
- *         size_t kept = 0;
+ *   int main(void)
+ *   {
+ *       vmig_machine machine = VMIG_NONE;
+ *       vmig_shape shape = {.kind = VMIG_ENTROPY};
+ *       vmig_setup setup = VMIG_SETUP;
+ *       uint32_t value = 0;
+ *       size_t kept = 0;
  *
- *         setup.pages = 16, setup.shapes = &shape, setup.count = 1;
- *         if (vmig_make(&setup, &machine) != VMIG_OK) return 1;
- *         if (vmig_reg_read(&machine, 0, 0x000, 4, &value) != VMIG_OK) return 1;
- *         printf("0x%08x\n", (unsigned)value);
- *         if (vmig_input(&machine, 0, (const uint8_t *)"random", 6, &kept) != VMIG_OK) return 1;
- *         vmig_free(&machine);
- *         return value == 0x74726976 && kept == 6 ? 0 : 1;
- *     }
+ *       setup.pages = 16, setup.shapes = &shape, setup.count = 1;
+ *       if (vmig_make(&setup, &machine) != VMIG_OK) return 1;
+ *       if (vmig_reg_read(&machine, 0, 0x000, 4, &value) != VMIG_OK) return 1;
+ *       printf("0x%08x\n", (unsigned)value);
+ *       if (vmig_input(&machine, 0, (const uint8_t *)"random", 6, &kept) != VMIG_OK) return 1;
+ *       vmig_free(&machine);
+ *       return value == 0x74726976 && kept == 6 ? 0 : 1;
+ *   }
  *
  * RULES, which nothing checks:
  * - A vmig_machine is VMIG_NONE (all zeros) before its first use, and only these calls write it. It may be moved, as by memcpy, but

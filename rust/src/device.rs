@@ -30,9 +30,7 @@ impl Device {
         let none = raw::Shape::default();
         match self {
             Device::Network { mac } => raw::Shape { kind: raw::NETWORK, mac, ..none },
-            Device::Block { sectors, read_only, id } => {
-                raw::Shape { kind: raw::BLOCK, sectors, read_only: read_only.into(), id, ..none }
-            }
+            Device::Block { sectors, read_only, id } => raw::Shape { kind: raw::BLOCK, sectors, read_only: read_only.into(), id, ..none },
             Device::Console => raw::Shape { kind: raw::CONSOLE, ..none },
             Device::Entropy => raw::Shape { kind: raw::ENTROPY, ..none },
         }

@@ -50,7 +50,6 @@ pub enum Error {
     /// The machine is being sent.
     Sending = raw::SENDING,
 
-
     /// Memory was refused for bytes that wait to be taken: the machine can only be sent anew.
     SendFailed = raw::SEND_FAILED,
 
@@ -184,11 +183,7 @@ impl Error {
 
 /// The status of a call that was done, or why it was refused.
 pub(crate) fn done(status: u32) -> Result<u32, Error> {
-    if (1..64).contains(&status) {
-        Err(Error::of(status))
-    } else {
-        Ok(status)
-    }
+    if (1..64).contains(&status) { Err(Error::of(status)) } else { Ok(status) }
 }
 
 impl fmt::Display for Error {

@@ -8,9 +8,7 @@ pub struct Machine {
     at: *mut core::ffi::c_void,
 }
 
-pub const NONE: Machine = Machine {
-    at: core::ptr::null_mut(),
-};
+pub const NONE: Machine = Machine { at: core::ptr::null_mut() };
 
 /// A device. What its kind does not need is 0.
 #[repr(C)]
@@ -41,10 +39,7 @@ pub struct Ram {
     pub len: usize,
 }
 
-pub const NO_RAM: Ram = Ram {
-    at: core::ptr::null_mut(),
-    len: 0,
-};
+pub const NO_RAM: Ram = Ram { at: core::ptr::null_mut(), len: 0 };
 
 /// Pages of RAM: begin with `NO_PAGES`.
 #[repr(C)]
