@@ -628,8 +628,13 @@ static void loans(void)
     arriving_over();
 }
 
-/* Under a sanitizer the address space is no measure of memory. */
-#if defined(__SANITIZE_ADDRESS__) || defined(__SANITIZE_THREAD__)
+/* Under a sanitizer the address space is no measure of memory, nor is it under valgrind, which this program is not for. */
+#if defined(__has_feature)
+#if __has_feature(address_sanitizer) || __has_feature(thread_sanitizer)
+#define IS_SANITIZED
+#endif
+#endif
+#if defined(__SANITIZE_ADDRESS__) || defined(__SANITIZE_THREAD__) || defined(IS_SANITIZED)
 static void memory(void) {}
 #else
 /* Takes all memory that is left, as a list, and gives it back. */
