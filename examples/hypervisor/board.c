@@ -34,7 +34,8 @@ static void write_device(struct host *h, uint64_t address, unsigned width, uint3
     } else if (address == POWER_AT) {
         uint32_t word = value & 0xffff;
 
-        if (word == POWER_OFF || word == POWER_RESET) power_off(h, 0);
+        if (word == POWER_OFF) power_off(h, 0);
+        if (word == POWER_RESET) h->reboots = 1;
         if (word == POWER_FAIL) power_off(h, value >> 16);
     }
 }
@@ -51,10 +52,17 @@ int board_answers(struct host *h)
     case EXIT_PRINT: print(exit->value); break;
     case EXIT_TYPED: processor_loads(&h->processor, (uint64_t)(int64_t)typed_take(&h->typed)); break;
     case EXIT_OFF: power_off(h, exit->value); break;
+    case EXIT_REBOOT: h->reboots = 1; break;
     default: return 1;
     }
     set_lines(h);
     return 1;
+}
+
+void board_reset(struct host *h)
+{
+    h->interrupts = (struct interrupts){0};
+    h->uart = (struct uart){0};
 }
 
 void set_lines(struct host *h)

@@ -61,7 +61,7 @@ void call_firmware(struct processor *p)
     if (call_old(p, extension)) return;
     if (extension == BASE) value = answer_base(function, argument, &error);
     else if (extension == TIMER && function == 0) set_timer(p, argument);
-    else if (extension == RESET && function == 0) leave_with(p, EXIT_OFF, reason);
+    else if (extension == RESET && function == 0) leave_with(p, argument == 0 ? EXIT_OFF : EXIT_REBOOT, reason);
     else error = NOT_SUPPORTED;
     p->x[A0] = error;
     p->x[A1] = value;

@@ -42,10 +42,14 @@ struct host {
     uint8_t frame[FRAME_MAX];
     size_t frame_length;         /* a frame that the device did not take yet */
     int has_ended, is_gone;      /* the guest powered off; it was moved away */
+    int reboots;                 /* the guest asked for a reboot */
     uint64_t outcome;            /* what it said when it powered off: 0 if all is well */
     struct move move;
     struct statistics statistics;
 };
+
+/* main.c: puts what the guest boots from into RAM, and its processor to the beginning. */
+void load_guest(struct host *h, uint8_t *ram, uint64_t length);
 
 /* loop.c: the guest runs, from here on, until it powers off, is moved away, or the operator ends the program. */
 void host_run(struct host *h);
@@ -66,6 +70,8 @@ void hand_on(struct host *h, unsigned device, const uint8_t *bytes, size_t lengt
 
 /* board.c: what the board answers without the machine. False where the guest came out for a virtio device. */
 int board_answers(struct host *h);
+/* Everything of the board but the machine as it is when it is switched on. */
+void board_reset(struct host *h);
 /* The lines of the devices reach the processor. */
 void set_lines(struct host *h);
 

@@ -39,6 +39,28 @@ static void access_register(struct host *h)
     }
 }
 
+/* Before a reboot, with RAM still lent: what the guest boots from is loaded anew. False where it cannot be, and the guest ends: a guest that
+ * was moved here has no image here, and a disk that is lost would be used by one that does not know. */
+static int load_again(struct host *h)
+{
+    vmig_description found;
+
+    vmig_describe(&h->machine, &found);
+    h->has_ended = h->options.kernel == NULL || found.lost != 0;
+    if (h->has_ended) say("the guest asks for a reboot, and ends: %s", found.lost != 0 ? "a disk is lost" : "there is no --kernel here");
+    else load_guest(h, h->ram.at, h->ram.len);
+    return !h->has_ended;
+}
+
+/* The machine and the board are as they were when the guest was switched on, but for RAM and the disks. */
+static void reboot(struct host *h)
+{
+    must(vmig_reset(&h->machine), "vmig_reset");
+    board_reset(h);
+    fill_pool(h);
+    h->reboots = 0;
+}
+
 /* The step that is next. Before one that makes a flush, or ends a write that its driver then takes for durable, the disk is brought to its
  * file. Where that fails the disk is lost: the guest's flush ends with an error, now and later. Such a write cannot fail any more, and does
  * not end: the guest ends. */
@@ -78,7 +100,8 @@ static void do_work(struct host *h)
 }
 
 /* RAM is given back, what waits is done, and RAM is lent anew. The guest is outside all this time, so one look at the lines at the end
- * is enough. The pages that it wrote are named where a round of a move ends, or the guest is to be paused, and not before. */
+ * is enough. The pages that it wrote are named where a round of a move ends, or the guest is to be paused, and not before; all of them,
+ * where RAM was loaded anew. */
 static void serve(struct host *h, int is_answered)
 {
     struct memory *log = &h->processor.memory;
@@ -86,8 +109,10 @@ static void serve(struct host *h, int is_answered)
 
     written.list = log->written;
     written.count = move_needs_log(h) ? log->count_written : 0;
+    written.all = (uint32_t)h->reboots;
     must(vmig_give_back(&h->machine, &h->ram, &written), "vmig_give_back");
     if (written.count > 0) memory_empty_log(log);
+    if (h->reboots) reboot(h);
     if (!is_answered) access_register(h);
     take_input(h);
     do_work(h);
@@ -102,7 +127,8 @@ static void turn(struct host *h)
 {
     int is_answered = run_guest(h);
 
-    if (is_answered && !h->steps_wait && !h->input_waits && !move_is_due(h)) return;
+    if (h->reboots && !load_again(h)) return;
+    if (is_answered && !h->steps_wait && !h->input_waits && !h->reboots && !move_is_due(h)) return;
     h->statistics.loans++;
     enter_library(h);
     serve(h, is_answered);

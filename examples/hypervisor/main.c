@@ -35,8 +35,8 @@ static uint64_t pages_of(const char *name)
     return ((uint64_t)length + PAGE - 1) / PAGE * PAGE;
 }
 
-/* The initial RAM disk is at the end of RAM, and the device tree before it. Returns the address of the tree. */
-static uint64_t load_guest(struct host *h, uint8_t *ram, uint64_t length)
+/* The initial RAM disk is at the end of RAM, and the device tree before it. */
+void load_guest(struct host *h, uint8_t *ram, uint64_t length)
 {
     const struct options *o = &h->options;
     uint64_t end = length, initrd_length = o->initrd == NULL ? 0 : pages_of(o->initrd), tree, tree_length;
@@ -54,18 +54,17 @@ static uint64_t load_guest(struct host *h, uint8_t *ram, uint64_t length)
     tree_length = tree_write(blob, &facts);
     if (tree_length == 0) fail("--append: the text is too long");
     memcpy(ram + tree, blob, tree_length);
-    return RAM_BASE + tree;
+    processor_reset(&h->processor, RAM_BASE + tree);
 }
 
 static void begin_guest(struct host *h)
 {
-    uint64_t length = (uint64_t)h->options.mib * MIB, tree;
+    uint64_t length = (uint64_t)h->options.mib * MIB;
     uint8_t *ram = devices_take_ram(length);
 
-    tree = load_guest(h, ram, length);
     if (!memory_begin(&h->processor.memory, ram, length)) fail("no memory for the log of RAM");
+    load_guest(h, ram, length);
     devices_make(&h->devices, ram, length, &h->machine);
-    processor_reset(&h->processor, tree);
 }
 
 /* All is given back. The bytes of the disks are in their files. */

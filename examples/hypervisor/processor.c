@@ -184,6 +184,9 @@ void processor_run(struct processor *p, uint64_t instructions)
 
 void processor_reset(struct processor *p, uint64_t tree)
 {
+    memset(p->x, 0, sizeof p->x);
+    p->sstatus = p->stvec = p->sscratch = p->sepc = p->scause = p->stval = p->sie = p->satp = 0;
+    p->software_pending = p->external_pending = 0;
     p->mode = SUPERVISOR;
     p->pc = RAM_BASE + LOAD_OFFSET;
     p->x[11] = tree;
@@ -191,6 +194,7 @@ void processor_reset(struct processor *p, uint64_t tree)
     p->timer = UINT64_MAX;
     p->reserved = NOT_RESERVED;
     p->time_offset = -clock_ticks();
+    memory_forget(&p->memory);
     set_context(p);
 }
 

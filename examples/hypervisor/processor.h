@@ -41,7 +41,8 @@ enum exit_kind {
     EXIT_WRITE,  /* it writes a device */
     EXIT_PRINT,  /* the firmware is to print the byte `value` */
     EXIT_TYPED,  /* the firmware is to give a typed byte in a0, or -1 */
-    EXIT_OFF     /* it powers off: `value` is 0 if all is well */
+    EXIT_OFF,    /* it powers off: `value` is 0 if all is well */
+    EXIT_REBOOT  /* it asks for a reboot */
 };
 
 struct guest_exit {
