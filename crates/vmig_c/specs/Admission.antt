@@ -1,7 +1,10 @@
--- Limits on a machine that arrives: its header is compared with them as soon as it is whole, before any byte that completes it is
+-- What is asked of a machine that arrives: its header is compared with it as soon as it is whole, before any byte that completes it is
 -- let in.
-use Rattle.std.specs.Prelude.{◌≡◌, ◌⊎◌, ℕ, ◌&&◌, not, nat_lt, Bool, true, false, List, ◌++◌, Option, Some, None}
+use Rattle.std.specs.Prelude.{◌≡◌, ◌⊎◌, ℕ, ◌*◌, ◌==◌, ◌&&◌, ◌||◌, not, nat_lt, if◌then◌else◌, bytes_eq, Bool, true, false, List, [], ◌∷◌, ◌++◌, Option, Some, None}
+use Rattle.guestmem.specs.declared.limits.TheConstants.{PAGE_SIZE}
+use Rattle.machine.specs.First.{is_base}
 use Rattle.machine.specs.declared.shape.Shape.{Shape}
+use Rattle.machine.specs.declared.shape.Shape.TheVariants.{Net, Block, Console, Entropy}
 use Rattle.wire.specs.Header.{Begins, Opening}
 use Rattle.receiver.specs.Faults.{WaitsHead}
 use Rattle.receiver.specs.declared.recv_error.RecvError.TheVariants.{AlreadyFailed}
@@ -9,27 +12,58 @@ use Rattle.vmig_c.specs.AdmissionSeen.{AdmissionSeen, Granted, Pending, Denied}
 use Rattle.vmig_c.specs.Announced.{IsRefusedAt}
 use Rattle.vmig_c.specs.Awaited.{stream_status}
 use Rattle.vmig_c.specs.Images.{sectors_in}
-use Rattle.vmig_c.specs.Status.{stream_too_large}
+use Rattle.vmig_c.specs.Status.{stream_mismatch, stream_too_large}
 use Rattle.vmig_c.specs.declared.admission.Limits.{Limits}
 
 -- A machine of these pages and devices has no more pages, and no more sectors in all its disks together.
 abbrev pub is_within : Limits → ℕ → List Shape → Bool
 is_within limits pages shapes = not (nat_lt limits.pages pages) && not (nat_lt limits.sectors (sectors_in shapes))
 
--- The header is whole, and announces a machine within the limits.
-pub record IsAdmitted (limits : Limits) (bytes : List ℕ) : Type 0 where
-  pub opening : Opening
-  pub rest : List ℕ
-  pub begins : Begins bytes opening rest
-  pub within : is_within limits opening.pages opening.shapes ≡ true
+-- Both devices are made as the same.
+abbrev pub same_flag : Bool → Bool → Bool
+same_flag true b = b
+same_flag false b = not b
 
--- The header is whole, and announces a machine beyond the limits.
-pub record IsTooLarge (limits : Limits) (bytes : List ℕ) (status : ℕ) : Type 0 where
+abbrev pub is_same_shape : Shape → Shape → Bool
+is_same_shape (Net mac) (Net other) = bytes_eq mac other
+is_same_shape (Block sectors read_only id) (Block count only other) = sectors == count && (same_flag read_only only && bytes_eq id other)
+is_same_shape Console Console = true
+is_same_shape Entropy Entropy = true
+is_same_shape _ _ = false
+
+abbrev pub are_same_shapes : List Shape → List Shape → Bool
+are_same_shapes [] [] = true
+are_same_shapes (s ∷ ss) (t ∷ ts) = is_same_shape s t && are_same_shapes ss ts
+are_same_shapes _ _ = false
+
+-- These devices are expected; where none is, any are.
+abbrev pub are_expected : List Shape → List Shape → Bool
+are_expected [] shapes = true
+are_expected (s ∷ ss) shapes = are_same_shapes (s ∷ ss) shapes
+
+-- Why a machine of these pages and devices is not let in: it is too large, or another than is expected, or its RAM may not begin at its
+-- base.
+abbrev pub stream_refusal : Limits → List Shape → ℕ → List Shape → Option ℕ
+stream_refusal limits expected pages shapes =
+    if not (is_within limits pages shapes) then Some stream_too_large
+    else if not (are_expected expected shapes) || not (is_base limits.base (PAGE_SIZE * pages)) then Some stream_mismatch
+    else None
+
+-- The header is whole, of a machine of these pages and devices, and it is let in.
+pub record IsAdmitted (limits : Limits) (expected : List Shape) (bytes : List ℕ) (pages : ℕ) (shapes : List Shape) : Type 0 where
   pub opening : Opening
   pub rest : List ℕ
   pub begins : Begins bytes opening rest
-  pub beyond : is_within limits opening.pages opening.shapes ≡ false
-  pub status_is : status ≡ stream_too_large
+  pub fits : stream_refusal limits expected opening.pages opening.shapes ≡ None
+  pub pages_are : pages ≡ opening.pages
+  pub shapes_are : shapes ≡ opening.shapes
+
+-- The header is whole, of a machine that is not let in.
+pub record IsUnfit (limits : Limits) (expected : List Shape) (bytes : List ℕ) (status : ℕ) : Type 0 where
+  pub opening : Opening
+  pub rest : List ℕ
+  pub begins : Begins bytes opening rest
+  pub refused : stream_refusal limits expected opening.pages opening.shapes ≡ Some status
 
 -- The header has a fault within the first bytes, or memory for it was refused.
 pub record IsFaultyHead (bytes : List ℕ) (status : ℕ) : Type 0 where
@@ -39,32 +73,34 @@ pub record IsFaultyHead (bytes : List ℕ) (status : ℕ) : Type 0 where
   pub refused : IsRefusedAt front status
 
 -- The header is not whole, and has no fault so far: these bytes are kept.
-pub record IsPendingWith (limits : Limits) (bytes : List ℕ) (kept : Limits) (held : List ℕ) : Type 0 where
+pub record IsPendingWith (limits : Limits) (expected : List Shape) (bytes : List ℕ) (kept : Limits) (shapes : List Shape) (held : List ℕ) : Type 0 where
   pub waits : WaitsHead bytes
   pub same : kept ≡ limits
+  pub shapes_same : shapes ≡ expected
   pub held_are : held ≡ bytes
 
--- What is answered for all bytes so far: that they are let in, or a status that refuses them.
-abbrev pub AdmitsAt : Limits → List ℕ → Option ℕ → AdmissionSeen → Type 0
-AdmitsAt limits bytes None Granted = IsAdmitted limits bytes
-AdmitsAt limits bytes None (Pending kept held) = IsPendingWith limits bytes kept held
-AdmitsAt limits bytes None Denied = ⊥
-AdmitsAt limits bytes (Some status) Denied = IsTooLarge limits bytes status ⊎ IsFaultyHead bytes status
-AdmitsAt limits bytes (Some status) Granted = ⊥
-AdmitsAt limits bytes (Some status) (Pending kept held) = ⊥
+-- What is answered for all bytes so far: that they are let in, or a status that refuses them for good.
+abbrev pub AdmitsAt : Limits → List Shape → List ℕ → Option ℕ → AdmissionSeen → Type 0
+AdmitsAt limits expected bytes None (Granted pages shapes) = IsAdmitted limits expected bytes pages shapes
+AdmitsAt limits expected bytes None (Pending kept shapes held) = IsPendingWith limits expected bytes kept shapes held
+AdmitsAt limits expected bytes None (Denied told) = ⊥
+AdmitsAt limits expected bytes (Some status) (Denied told) = (told ≡ status) × (IsUnfit limits expected bytes status ⊎ IsFaultyHead bytes status)
+AdmitsAt limits expected bytes (Some status) (Granted pages shapes) = ⊥
+AdmitsAt limits expected bytes (Some status) (Pending kept shapes held) = ⊥
 
 -- What is answered for the next piece. A stream that was refused stays refused.
 abbrev pub Admits : AdmissionSeen → List ℕ → Option ℕ → AdmissionSeen → Type 0
-Admits Granted piece told next = (told ≡ None) × (next ≡ Granted)
-Admits Denied piece told next = (told ≡ Some (stream_status AlreadyFailed)) × (next ≡ Denied)
-Admits (Pending limits held) piece told next = AdmitsAt limits (held ++ piece) told next
+Admits (Granted pages shapes) piece told next = (told ≡ None) × (next ≡ Granted pages shapes)
+Admits (Denied first) piece told next = (told ≡ Some (stream_status AlreadyFailed)) × (next ≡ Denied first)
+Admits (Pending limits expected held) piece told next = AdmitsAt limits expected (held ++ piece) told next
 
 abbrev pub IsPending : AdmissionSeen → Type 0
-IsPending Granted = ⊥
-IsPending (Pending limits held) = Unit {0}
-IsPending Denied = ⊥
+IsPending (Granted pages shapes) = ⊥
+IsPending (Pending limits expected held) = Unit {0}
+IsPending (Denied first) = ⊥
 
-abbrev pub is_denied : AdmissionSeen → Bool
-is_denied Granted = false
-is_denied (Pending limits held) = false
-is_denied Denied = true
+-- The status with which the stream was refused first, if it was.
+abbrev pub first_refusal : AdmissionSeen → Option ℕ
+first_refusal (Granted pages shapes) = None
+first_refusal (Pending limits expected held) = None
+first_refusal (Denied first) = Some first

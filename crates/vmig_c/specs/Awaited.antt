@@ -1,12 +1,13 @@
 -- A machine whose stream arrives in pieces.
 use denote.RawPtr.{Ptr}
-use Rattle.std.specs.Prelude.{◌≡◌, ◌≢◌, ℕ, ◌+◌, List, [], ◌++◌, map, Option, Bool, true, false}
+use Rattle.std.specs.Prelude.{◌≡◌, ◌≢◌, ℕ, ◌+◌, List, [], ◌++◌, map, Option, Some, None, Bool, true, false}
+use Rattle.guestmem.specs.Memory.{Memory}
 use Rattle.machine.specs.Seen.{Seen, no_marks, state_of}
 use Rattle.machine.specs.State.{base_of}
 use Rattle.receiver.specs.Codes.{recv_code_of}
 use Rattle.receiver.specs.Faults.{Fault}
 use Rattle.receiver.specs.Receiving.{HasBeenFed, HasRounds, IsFinish, end_error, IsWholeFor, NoFault, Received, TellsNow}
-use Rattle.receiver.specs.Opened.{ram_at}
+use Rattle.receiver.specs.Opened.{given_at, ram_at}
 use Rattle.receiver.specs.declared.ram_terms.RamTerms.{RamTerms}
 use Rattle.receiver.specs.declared.recv_error.RecvError.{RecvError}
 use Rattle.receiver.specs.declared.recv_error.RecvError.TheVariants.{NoMemory, DiskFailed, AlreadyFailed}
@@ -17,9 +18,19 @@ use Rattle.vmig_c.specs.Plain.{ArePlain}
 use Rattle.vmig_c.specs.declared.arrival.Progress.{Progress}
 use Rattle.vmig_c.specs.declared.arrival.Progress.TheVariants.{Head, Body, Failed}
 
--- Nothing was fed, and RAM will begin at this address.
-abbrev pub nothing_fed : ℕ → ArrivalSeen
-nothing_fed base = AtHead base []
+-- What is told of RAM: the address at which it will begin, and the length of the RAM that is handed in, if one is.
+abbrev pub terms_for : ℕ → Option Memory → RamTerms
+terms_for base None = ram_at base
+terms_for base (Some ram) = given_at base ram.bytes
+
+-- Where that RAM lies, if that is memory of the caller.
+abbrev pub place_for : Option Memory → Option Ptr
+place_for None = None
+place_for (Some ram) = ram.place
+
+-- Nothing was fed, and this was told of RAM.
+abbrev pub nothing_fed : RamTerms → Option Ptr → ArrivalSeen
+nothing_fed ram place = AtHead ram place []
 
 -- The stream was refused: no more is taken, and there will be no machine.
 abbrev pub refused_for_good : ArrivalSeen
@@ -27,59 +38,67 @@ refused_for_good = Refused
 
 -- What contracts see.
 abbrev pub awaited_by : Progress → ArrivalSeen
-awaited_by (Head base held) = AtHead base held.items
+awaited_by (Head base ram held) = AtHead (terms_for base ram) (place_for ram) held.items
 awaited_by (Body r) = AtBody r
 awaited_by Failed = Refused
 
 -- The header is incomplete.
 abbrev pub IsAtHead : ArrivalSeen → Type 0
-IsAtHead (AtHead base held) = Unit {0}
+IsAtHead (AtHead ram place held) = Unit {0}
 IsAtHead (AtBody r) = ⊥
 IsAtHead Refused = ⊥
 IsAtHead (Over r) = ⊥
 
 -- These are all bytes that were fed, and there was no refusal. Once the header was read, the disks are of the sizes that it says.
 abbrev pub HasCome : ArrivalSeen → List ℕ → Type 0
-HasCome (AtHead base held) bytes = bytes ≡ held
+HasCome (AtHead ram place held) bytes = bytes ≡ held
 HasCome (AtBody r) bytes = HasBeenFed r bytes × HasHeader bytes r.sizes
 HasCome Refused bytes = ⊥
 HasCome (Over r) bytes = HasBeenFed r bytes
 
 -- The sizes of the disks: until the header is whole there is none, but for images.
 abbrev pub awaited_sizes : ArrivalSeen → List ℕ
-awaited_sizes (AtHead base held) = []
+awaited_sizes (AtHead ram place held) = []
 awaited_sizes (AtBody r) = r.sizes
 awaited_sizes Refused = []
 awaited_sizes (Over r) = r.sizes
 
 -- The address at which RAM will begin.
 abbrev pub awaited_base : ArrivalSeen → ℕ
-awaited_base (AtHead base held) = base
+awaited_base (AtHead ram place held) = ram.base
 awaited_base (AtBody r) = r.ram.base
 awaited_base Refused = 0
 awaited_base (Over r) = r.ram.base
 
--- What was told of RAM: that address, and the length of the RAM that was handed in, which only images may come with.
+-- What was told of RAM: that address, and the length of the RAM that was handed in.
 abbrev pub awaited_ram : ArrivalSeen → RamTerms
-awaited_ram (AtHead base held) = ram_at base
+awaited_ram (AtHead ram place held) = ram
 awaited_ram (AtBody r) = r.ram
 awaited_ram Refused = ram_at 0
 awaited_ram (Over r) = r.ram
+
+-- Where its RAM will lie, if that is memory of the caller.
+abbrev pub awaited_place : ArrivalSeen → Option Ptr
+awaited_place (AtHead ram place held) = place
+awaited_place (AtBody r) = r.place
+awaited_place Refused = None
+awaited_place (Over r) = r.place
 
 -- The disks lie in memory: none ever failed, or will.
 abbrev pub AreSteady : Received → Type 0
 AreSteady r = r.marks ≡ map (λ size. no_marks) r.sizes
 
 -- A receiver that was told this of RAM, over disks in memory of these sizes, was fed these bytes, and there is no fault in them.
-pub record IsFedTo (ram : RamTerms) (sizes bytes : List ℕ) (r : Received) : Type 0 where
+pub record IsFedTo (ram : RamTerms) (place : Option Ptr) (sizes bytes : List ℕ) (r : Received) : Type 0 where
   pub fed : HasBeenFed r bytes
   pub ram_is : r.ram ≡ ram
+  pub place_is : r.place ≡ place
   pub sizes_are : r.sizes ≡ sizes
   pub steady : AreSteady r
   pub quiet : NoFault ram sizes bytes
 
 abbrev pub IsComing : Progress → Type 0
-IsComing (Head base held) = HasNoHeader held.items
+IsComing (Head base ram held) = HasNoHeader held.items
 IsComing (Body r) = AreSteady r
 IsComing Failed = Unit {0}
 
@@ -118,26 +137,12 @@ HasSameDisks (Over r) (Over next) = next.disks ≡ r.disks
 HasSameDisks (Over r) next = ⊥
 HasSameDisks a next = Unit {0}
 
--- Its RAM will still lie in this place, if one is known.
-abbrev pub IsAt : Option Ptr → ArrivalSeen → Type 0
-IsAt place (Over r) = r.place ≡ place
-IsAt place _ = ⊥
-
-abbrev pub HasSamePlace : ArrivalSeen → ArrivalSeen → Type 0
-HasSamePlace (Over r) next = IsAt r.place next
-HasSamePlace a next = Unit {0}
-
--- The RAM of the machine lies where that of its arrival was to lie.
-abbrev pub LiesThere : ArrivalSeen → Seen → Type 0
-LiesThere (Over r) m = m.memory.place ≡ r.place
-LiesThere a m = Unit {0}
-
 -- The next piece was taken.
 pub record IsFed (a : ArrivalSeen) (piece : List ℕ) (next : ArrivalSeen) : Type 0 where
   pub went_on : IsOpen a
   pub goes_on : (b : List ℕ) → HasCome a b → GoesOnWith (b ++ piece) next
   pub ram : awaited_ram next ≡ awaited_ram a
-  pub place : HasSamePlace a next
+  pub place : awaited_place next ≡ awaited_place a
 
 -- There is a fault in the bytes, for what was told of RAM and disks of the sizes that the header says.
 pub record IsFaulty (ram : RamTerms) (bytes : List ℕ) (error : RecvError) : Type 0 where
@@ -170,14 +175,14 @@ abbrev pub TellsEnd : ArrivalSeen → RecvError → Type 0
 TellsEnd Refused error = error ≡ AlreadyFailed
 TellsEnd (Over r) error = (error ≡ end_error r.failed) × ((b : List ℕ) → HasBeenFed r b → IsFinish b error)
 TellsEnd (AtBody r) error = (error ≡ end_error r.failed) × ((b : List ℕ) → HasCome (AtBody r) b → IsFinish b error)
-TellsEnd (AtHead base held) error = (b : List ℕ) → b ≡ held → IsFinish b error
+TellsEnd (AtHead ram place held) error = (b : List ℕ) → b ≡ held → IsFinish b error
 
--- The bytes are the stream of this machine, whose RAM begins where it was to. Its disks lie in memory.
+-- The bytes are the stream of this machine, whose RAM begins where it was to, and lies where it was to. Its disks lie in memory.
 pub record HasArrived (a : ArrivalSeen) (m : Seen) : Type 0 where
   pub went_on : IsOpen a
   pub stream : (b : List ℕ) → HasCome a b → IsStream b (state_of m)
   pub base : base_of (state_of m).devices ≡ awaited_base a
-  pub place : LiesThere a m
+  pub place : m.memory.place ≡ awaited_place a
   pub plain : ArePlain m
 
 -- This number of rounds ended in the bytes so far; after a refusal it is 0.

@@ -1,75 +1,162 @@
--- What a machine is, as C is told.
-use Rattle.std.specs.Prelude.{◌≡◌, ℕ, List, length, map, replicate, if◌then◌else◌, Option, Some, None, slice_get}
+-- What a handle has, as C is told.
+use Rattle.std.specs.Prelude.{◌≡◌, ℕ, ◌+◌, ◌*◌, nat_lt, Bool, true, false, List, [], ◌∷◌, ◌++◌, drop, length, map, max, replicate, if◌then◌else◌, Option, Some, None}
 use Rattle.machine.specs.Layout.{pages_of}
 use Rattle.machine.specs.Parked.{ParkedSeen}
-use Rattle.machine.specs.Seen.{state_of}
+use Rattle.machine.specs.Seen.{Seen, state_of}
 use Rattle.machine.specs.Shapes.{made_as}
-use Rattle.machine.specs.State.{MachineState, DeviceState, base_of}
+use Rattle.machine.specs.State.{DeviceState, base_of}
+use Rattle.machine.specs.declared.machine.TheConstants.{DEVICES_MAX}
 use Rattle.machine.specs.declared.shape.Shape.{Shape}
 use Rattle.machine.specs.declared.shape.Shape.TheVariants.{Net, Block, Console, Entropy}
-use Rattle.vmig_c.specs.Kept.{KeptSeen, State, Still, Moving, Arriving, Lent, parked_in}
-use Rattle.vmig_c.specs.OnHandle.{OfHandle, Refuses, RefusesBoth}
-use Rattle.vmig_c.specs.Status.{done, no_device, no_machine}
+use Rattle.sender.specs.declared.mig_error.MigError.TheVariants.{StreamFailed}
+use Rattle.sender.specs.declared.phase.Phase.{Phase}
+use Rattle.sender.specs.declared.phase.Phase.TheVariants as phases
+use Rattle.vmig_c.specs.AdmissionSeen.{AdmissionSeen, Granted, Pending, Denied}
+use Rattle.vmig_c.specs.ArrivalSeen.{ArrivalSeen}
+use Rattle.vmig_c.specs.Awaited.{CountsRounds, TellsWhole, awaited_base}
+use Rattle.vmig_c.specs.Kept.{KeptSeen, LoanSeen, StillLent, MovingLent, State, Still, Moving, Arriving, Lent}
+use Rattle.vmig_c.specs.Making.{no_shape}
+use Rattle.vmig_c.specs.Status.{mig_status}
+use Rattle.vmig_c.specs.Unmapping.{images_in}
+use Rattle.vmig_c.specs.declared.description.Description.{Description}
 use Rattle.vmig_c.specs.declared.device_shape.DeviceShape.{DeviceShape}
 
 -- What a device was made as. What its kind does not need is zeros.
 abbrev pub described : Shape → DeviceShape
-described (Net mac) = record { kind = 1; read_only = 0; mac = mac; sectors = 0; id = replicate 20 0 }
-described (Block sectors read_only id) = record { kind = 2; read_only = if read_only then 1 else 0; mac = replicate 6 0; sectors = sectors; id = id }
-described Console = record { kind = 3; read_only = 0; mac = replicate 6 0; sectors = 0; id = replicate 20 0 }
-described Entropy = record { kind = 4; read_only = 0; mac = replicate 6 0; sectors = 0; id = replicate 20 0 }
+described (Net mac) = record no_shape { kind = 1; mac = mac }
+described (Block sectors read_only id) = record no_shape { kind = 2; read_only = if read_only then 1 else 0; sectors = sectors; id = id }
+described Console = record no_shape { kind = 3 }
+described Entropy = record no_shape { kind = 4 }
 
--- The pages and the devices of a machine were counted.
-pub record IsSized (m : MachineState) (status pages devices : ℕ) : Type 0 where
-  pub status_is : status ≡ done
-  pub pages_are : pages ≡ pages_of m
-  pub devices_are : devices ≡ length m.devices
+-- The states of a handle that has something. One that has nothing is 0.
+abbrev pub is_arriving : ℕ
+is_arriving = 1
 
--- As above, of a machine whose RAM is lent.
-pub record IsSizedLent (p : ParkedSeen) (status pages devices : ℕ) : Type 0 where
-  pub status_is : status ≡ done
-  pub pages_are : pages ≡ length p.versions
-  pub devices_are : devices ≡ length p.devices
+abbrev pub is_failed : ℕ
+is_failed = 2
 
--- As above, for what a handle holds. What arrives is no machine yet.
-abbrev pub SizesKept : State → ℕ → ℕ → ℕ → ℕ → ℕ → Type 0
-SizesKept (Still m) status pages old_pages devices old_devices = IsSized (state_of m) status pages devices
-SizesKept (Moving l) status pages old_pages devices old_devices = IsSized (state_of l.machine) status pages devices
-SizesKept (Arriving r) status pages old_pages devices old_devices = RefusesBoth status pages old_pages devices old_devices no_machine
-SizesKept (Lent x) status pages old_pages devices old_devices = IsSizedLent (parked_in x) status pages devices
+abbrev pub is_idle : ℕ
+is_idle = 3
 
-abbrev pub Sizes : Option KeptSeen → ℕ → ℕ → ℕ → ℕ → ℕ → Type 0
-Sizes k status pages old_pages devices old_devices = OfHandle (RefusesBoth status pages old_pages devices old_devices) (λ state. SizesKept state status pages old_pages devices old_devices) k
+abbrev pub is_sending : ℕ
+is_sending = 4
 
--- The guest-physical address at which the RAM of a machine of these devices begins was told.
-pub record IsBased (devices : List DeviceState) (status base : ℕ) : Type 0 where
-  pub status_is : status ≡ done
-  pub base_is : base ≡ base_of devices
+abbrev pub is_send_failed : ℕ
+is_send_failed = 5
 
--- As above, for what a handle holds. What arrives is no machine yet.
-abbrev pub BasesKept : State → ℕ → ℕ → ℕ → Type 0
-BasesKept (Still m) status base old = IsBased (state_of m).devices status base
-BasesKept (Moving l) status base old = IsBased (state_of l.machine).devices status base
-BasesKept (Arriving r) status base old = Refuses status base old no_machine
-BasesKept (Lent x) status base old = IsBased (map (λ d. d.state) (parked_in x).devices) status base
+abbrev pub is_stopped : ℕ
+is_stopped = 6
 
-abbrev pub Bases : Option KeptSeen → ℕ → ℕ → ℕ → Type 0
-Bases k status base old = OfHandle (Refuses status base old) (λ state. BasesKept state status base old) k
+-- Of nothing all is 0.
+abbrev pub no_shapes : List DeviceShape
+no_shapes = replicate DEVICES_MAX no_shape
 
--- A device is told by what it was made as, if there is one.
-abbrev pub Tells : Option Shape → ℕ → DeviceShape → DeviceShape → Type 0
-Tells None status shape old = (status ≡ no_device) × (shape ≡ old)
-Tells (Some made) status shape old = (status ≡ done) × (shape ≡ described made)
+abbrev pub nothing_told : Description
+nothing_told = record {
+  state = 0;
+  lent = 0;
+  pages = 0;
+  count = 0;
+  base = 0;
+  flags = 0;
+  calls_out = 0;
+  rounds = 0;
+  fault = 0;
+  fault_at = 0;
+  images = 0;
+  lost = 0;
+  message = 0;
+  whole = 0;
+  reserved = replicate 4 0;
+  shapes = no_shapes;
+}
 
-abbrev pub TellsOf : MachineState → ℕ → ℕ → DeviceShape → DeviceShape → Type 0
-TellsOf m dev status shape old = Tells (slice_get (map (λ d. made_as d.kind) m.devices) dev) status shape old
+-- It tells of these pages and devices beside. Behind the last device the shapes are zeros.
+abbrev pub with_shapes : Description → ℕ → List Shape → Description
+with_shapes d pages shapes = record d { pages = pages; count = length shapes; shapes = map described shapes ++ drop (length shapes) d.shapes }
 
--- As above, for what a handle holds.
-abbrev pub DescribesKept : State → ℕ → ℕ → DeviceShape → DeviceShape → Type 0
-DescribesKept (Still m) dev status shape old = TellsOf (state_of m) dev status shape old
-DescribesKept (Moving l) dev status shape old = TellsOf (state_of l.machine) dev status shape old
-DescribesKept (Lent x) dev status shape old = Tells (slice_get (map (λ d. made_as d.state.kind) (parked_in x).devices) dev) status shape old
-DescribesKept (Arriving r) dev status shape old = Refuses status shape old no_machine
+-- The most bytes that a step of such a device sends: those of a frame, or of a console's text.
+abbrev pub message_for : Shape → ℕ
+message_for (Net mac) = 1514
+message_for (Block sectors read_only id) = 0
+message_for Console = 65536
+message_for Entropy = 0
 
-abbrev pub Describes : Option KeptSeen → ℕ → ℕ → DeviceShape → DeviceShape → Type 0
-Describes k dev status shape old = OfHandle (Refuses status shape old) (λ state. DescribesKept state dev status shape old) k
+abbrev pub message_of : List Shape → ℕ
+message_of [] = 0
+message_of (shape ∷ shapes) = max (message_for shape) (message_of shapes)
+
+-- A machine of so many pages, whose RAM begins there, with these devices.
+abbrev pub told_machine : ℕ → ℕ → List DeviceState → Description
+told_machine base pages devices =
+    let shapes = map (λ d. made_as d.kind) devices in
+    record (with_shapes nothing_told pages shapes) { state = is_idle; base = base; message = message_of shapes }
+
+abbrev pub told_still : Seen → Description
+told_still m = told_machine (base_of (state_of m).devices) (pages_of (state_of m)) (state_of m).devices
+
+-- As above, where it is being sent, by how far that has come.
+abbrev pub sent_as : Description → Phase → Description
+sent_as d phases.Fresh = record d { state = is_sending }
+sent_as d (phases.Open round) = record d { state = is_sending; rounds = round }
+sent_as d phases.Stopped = record d { state = is_stopped }
+sent_as d phases.Failed = record d { state = is_send_failed; fault = mig_status StreamFailed }
+
+-- As above, where its RAM is lent.
+abbrev pub told_parked : ParkedSeen → Description
+told_parked p = record (told_machine (base_of (map (λ d. d.state) p.devices)) (length p.versions) (map (λ d. d.state) p.devices)) { lent = 1 }
+
+abbrev pub told_lent : LoanSeen → Description
+told_lent (StillLent p) = told_parked p
+told_lent (MovingLent l) = sent_as (told_parked l.parked) l.phase
+
+abbrev pub loan_phase : LoanSeen → Option Phase
+loan_phase (StillLent p) = None
+loan_phase (MovingLent l) = Some l.phase
+
+-- What arrives: what its header says, once it is whole; or why the stream was refused, and after how many bytes.
+abbrev pub number_of : Bool → ℕ
+number_of true = 1
+number_of false = 0
+
+abbrev pub told_head : AdmissionSeen → Description
+told_head (Granted pages shapes) = if nat_lt DEVICES_MAX (length shapes) then nothing_told else with_shapes nothing_told pages shapes
+told_head (Pending limits expected held) = nothing_told
+told_head (Denied first) = nothing_told
+
+abbrev pub told_coming : Description → ℕ → ℕ → Bool → Description
+told_coming d base rounds whole = record d { state = is_arriving; base = base; rounds = rounds; whole = number_of whole }
+
+abbrev pub told_arriving : AdmissionSeen → ℕ → ℕ → ℕ → Bool → Description
+told_arriving (Denied first) fed base rounds whole = record nothing_told { state = is_failed; fault = first; fault_at = fed }
+told_arriving (Granted pages shapes) fed base rounds whole = told_coming (told_head (Granted pages shapes)) base rounds whole
+told_arriving (Pending limits expected held) fed base rounds whole = told_coming nothing_told base rounds whole
+
+pub record IsToldArriving (k : KeptSeen) (r : ArrivalSeen) (d : Description) : Type 0 where
+  pub rounds : ℕ
+  pub whole : Bool
+  pub counts : CountsRounds r rounds
+  pub tells : TellsWhole r whole
+  pub is : d ≡ told_arriving k.admission k.fed (awaited_base r) rounds whole
+
+-- Bit d for device d, whose disk was lost.
+abbrev pub lost_bits : List Bool → ℕ
+lost_bits [] = 0
+lost_bits (b ∷ bs) = number_of b + 2 * lost_bits bs
+
+-- By its state, before what is told of each: its images, and which disks were lost.
+abbrev pub IsToldState : KeptSeen → State → Description → Type 0
+IsToldState k (Still m) d = d ≡ told_still m
+IsToldState k (Moving l) d = d ≡ sent_as (told_still l.machine) l.phase
+IsToldState k (Arriving r) d = IsToldArriving k r d
+IsToldState k (Lent x) d = d ≡ told_lent x
+
+pub record IsDescribed (k : KeptSeen) (d : Description) : Type 0 where
+  pub told : Description
+  pub by_state : IsToldState k k.state told
+  pub is : d ≡ record told { images = images_in k; lost = lost_bits k.lost }
+
+-- What is told of a handle.
+abbrev pub Describes : Option KeptSeen → Description → Type 0
+Describes None d = d ≡ nothing_told
+Describes (Some k) d = IsDescribed k d

@@ -19,35 +19,7 @@ use Rattle.vmig_c.specs.Kept.{KeptSeen, State, Still, Moving, Arriving, Lent, is
 use Rattle.vmig_c.specs.Mirror.{Mirrors, is_closed}
 use Rattle.vmig_c.specs.OnHandle.{ByState, Refuses, Unless}
 use Rattle.vmig_c.specs.Plain.{ArePlain}
-use Rattle.vmig_c.specs.Status.{disk_lost, done, lent, mig_status, no_device, no_machine, status_of, sync, sync_failed}
-
--- What is told of a step before it is made. Of a disk that is lost no sync is asked for any more: a flush fails in any case, and the end
--- of such a write is not made.
-abbrev pub sync_status : Bool → SyncOwed → ℕ
-sync_status lost Nothing = done
-sync_status lost Flush = if lost then done else sync
-sync_status lost EndOfWrite = if lost then disk_lost else sync
-
-abbrev pub sync_status_for : Bool → Option DeviceState → ℕ → ℕ
-sync_status_for lost None pick = no_device
-sync_status_for lost (Some d) pick = sync_status lost (owed d pick)
-
-abbrev pub sync_status_of : Bool → MachineState → ℕ → ℕ → ℕ
-sync_status_of lost m dev pick = sync_status_for lost (slice_get m.devices dev) pick
-
--- The same of what lies behind a handle.
-abbrev pub sync_in : Bool → State → ℕ → ℕ → ℕ
-sync_in lost (Still m) dev pick = sync_status_of lost (state_of m) dev pick
-sync_in lost (Moving l) dev pick = sync_status_of lost (state_of l.machine) dev pick
-sync_in lost (Arriving r) dev pick = no_machine
-sync_in lost (Lent x) dev pick = lent
-
-abbrev pub sync_kept : KeptSeen → ℕ → ℕ → ℕ
-sync_kept k dev pick = sync_in (is_lost k dev) k.state dev pick
-
-abbrev pub sync_told : Option KeptSeen → ℕ → ℕ → ℕ
-sync_told None dev pick = no_machine
-sync_told (Some k) dev pick = sync_kept k dev pick
+use Rattle.vmig_c.specs.Status.{done, idle, lent, mig_status, no_device, no_machine, status_of}
 
 -- What a step owes of a machine that makes steps. One that was stopped, arrives or has lent its RAM makes none.
 abbrev pub owed_for : Option DeviceState → ℕ → SyncOwed
@@ -75,7 +47,7 @@ owed_lost k dev pick = if is_lost k dev then owed_in k.state dev pick else Nothi
 -- it is.
 abbrev pub failed_status : Bool → ℕ
 failed_status true = status_of DiskFailed
-failed_status false = sync_failed
+failed_status false = idle
 
 pub record FailsSync (m : Seen) (dev pick status : ℕ) (next : Seen) : Type 0 where
   pub status_is : status ≡ failed_status (makes_flush (state_of m) dev pick)
@@ -119,30 +91,30 @@ loss_refusal (Moving l) dev = disk_refusal_unless (is_closed l.phase) (state_of 
 loss_refusal (Arriving r) dev = Some no_machine
 loss_refusal (Lent x) dev = Some lent
 
--- The disk of this device is lost from now on. If the step of this pick makes a flush, it is made as one whose disk failed.
-pub record HasLost (k : KeptSeen) (dev pick status : ℕ) (next : KeptSeen) : Type 0 where
-  pub fails : FailsKept k.state dev pick status next.state
-  pub rest : next ≡ record k { state = next.state; lost = slice_set k.lost dev true }
+-- The disk of this device is lost from now on, and nothing else changed.
+pub record HasLost (k : KeptSeen) (dev status : ℕ) (next : KeptSeen) : Type 0 where
+  pub status_is : status ≡ done
+  pub rest : next ≡ record k { lost = slice_set k.lost dev true }
 
-abbrev pub Loses : KeptSeen → ℕ → ℕ → ℕ → KeptSeen → Type 0
-Loses k dev pick status next = Unless (loss_refusal k.state dev) (Refuses status next k) (HasLost k dev pick status next)
+abbrev pub Loses : KeptSeen → ℕ → ℕ → KeptSeen → Type 0
+Loses k dev status next = Unless (loss_refusal k.state dev) (Refuses status next k) (HasLost k dev status next)
 
-pub record HasFailed (k : KeptSeen) (dev pick status : ℕ) (after : Option KeptSeen) : Type 0 where
+pub record HasFailed (k : KeptSeen) (dev status : ℕ) (after : Option KeptSeen) : Type 0 where
   pub next : KeptSeen
   pub is_next : after ≡ Some next
-  pub loses : Loses k dev pick status next
+  pub loses : Loses k dev status next
 
-abbrev pub Failed : Option KeptSeen → ℕ → ℕ → ℕ → Option KeptSeen → Type 0
-Failed None dev pick status after = (status ≡ no_machine) × (after ≡ None)
-Failed (Some k) dev pick status after = HasFailed k dev pick status after
+abbrev pub Failed : Option KeptSeen → ℕ → ℕ → Option KeptSeen → Type 0
+Failed None dev status after = (status ≡ no_machine) × (after ≡ None)
+Failed (Some k) dev status after = HasFailed k dev status after
 
 -- A status from 1 to 63 says that it was refused: nothing changed.
 abbrev pub RefusedFailsNothing : Type 0
-RefusedFailsNothing = (k next : KeptSeen) (dev pick status : ℕ) → Loses k dev pick status next → 1 ≤ status → status < 64 → next ≡ k
+RefusedFailsNothing = (k next : KeptSeen) (dev status : ℕ) → Loses k dev status next → 1 ≤ status → status < 64 → next ≡ k
 
--- Where it was not refused, the disk is lost, whatever the pick.
+-- Where it was not refused, the disk is lost.
 abbrev pub FailedIsLost : Type 0
-FailedIsLost = (k next : KeptSeen) (dev pick status : ℕ) → Loses k dev pick status next → loss_refusal k.state dev ≡ None → dev < length k.lost → is_lost next dev ≡ true
+FailedIsLost = (k next : KeptSeen) (dev status : ℕ) → Loses k dev status next → loss_refusal k.state dev ≡ None → dev < length k.lost → is_lost next dev ≡ true
 
 -- The disks of a machine that lie in memory are so after it: none of them has failed.
 abbrev pub FailedStaysPlain : Type 0

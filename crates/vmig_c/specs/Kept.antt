@@ -1,5 +1,5 @@
 -- The contents of a handle, as contracts see them.
-use Rattle.std.specs.Prelude.{◌≡◌, ℕ, Bool, true, false, List, replicate, slice_index_or}
+use Rattle.std.specs.Prelude.{◌≡◌, ℕ, Bool, true, false, List, [], replicate, slice_index_or}
 use Rattle.machine.specs.Parked.{ParkedSeen}
 use Rattle.machine.specs.Seen.{Seen}
 use Rattle.machine.specs.declared.machine.TheConstants.{DEVICES_MAX}
@@ -31,12 +31,13 @@ pub data State : Type 0 where
   Arriving : ArrivalSeen → State
   Lent : LoanSeen → State
 
--- Whether its disks lie in memory of the caller, in which state it is, what limits there are on what arrives, and for each device
--- whether its disk was lost.
+-- Whether its disks lie in memory of the caller, in which state it is, whether what arrives is let in, how many bytes of it were taken, and
+-- for each device whether its disk was lost.
 pub record KeptSeen : Type 0 where
   pub is_mapped : Bool
   pub state : State
   pub admission : AdmissionSeen
+  pub fed : ℕ
   pub lost : List Bool
 
 -- No disk was lost.
@@ -47,21 +48,16 @@ none_lost = replicate DEVICES_MAX false
 abbrev pub is_lost : KeptSeen → ℕ → Bool
 is_lost k dev = slice_index_or k.lost dev false
 
--- As it is at first: whose memory its disks lie in, and none of them is lost.
-abbrev pub IsNew : Bool → KeptSeen → Type 0
-IsNew mapped k = (k.is_mapped ≡ mapped) × (k.lost ≡ none_lost)
-
--- Its disks lie in memory of the library, or of the caller, none of them is lost, and there is no limit on what arrives.
-abbrev pub own : State → KeptSeen
-own state = record { is_mapped = false; state = state; admission = Granted; lost = none_lost }
-
-abbrev pub mapped : State → KeptSeen
-mapped state = record { is_mapped = true; state = state; admission = Granted; lost = none_lost }
+-- As it is at first: whose memory its disks lie in, none of them is lost, and nothing was fed.
+pub record IsNew (mapped : Bool) (k : KeptSeen) : Type 0 where
+  pub is_mapped : k.is_mapped ≡ mapped
+  pub none_lost : k.lost ≡ none_lost
+  pub none_fed : k.fed ≡ 0
 
 abbrev pub admission_of : Admission → AdmissionSeen
-admission_of admissions.Granted = Granted
-admission_of (admissions.Pending limits held) = Pending limits held.items
-admission_of admissions.Denied = Denied
+admission_of (admissions.Granted pages shapes) = Granted pages shapes.items
+admission_of (admissions.Pending limits expected held) = Pending limits expected.items held.items
+admission_of (admissions.Denied status) = Denied status
 
 abbrev pub is_loan_mapped : Loan → Bool
 is_loan_mapped (loans.Still p) = false
@@ -93,8 +89,12 @@ state_in (contents.Arriving r) = Arriving r
 state_in (contents.ArrivingMapped r) = Arriving r
 state_in (contents.Lent loan) = Lent (loan_of loan)
 
-abbrev pub kept_with : Contents → AdmissionSeen → List Bool → KeptSeen
-kept_with contents admission lost = record { is_mapped = are_mapped contents; state = state_in contents; admission = admission; lost = lost }
+abbrev pub kept_with : Contents → AdmissionSeen → ℕ → List Bool → KeptSeen
+kept_with contents admission fed lost = record { is_mapped = are_mapped contents; state = state_in contents; admission = admission; fed = fed; lost = lost }
+
+-- Where no stream arrives none was asked for.
+abbrev pub unasked : AdmissionSeen
+unasked = Granted 0 []
 
 abbrev pub kept_of : Contents → KeptSeen
-kept_of contents = kept_with contents Granted none_lost
+kept_of contents = kept_with contents unasked 0 none_lost

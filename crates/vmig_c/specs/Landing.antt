@@ -1,13 +1,11 @@
 -- What arrives over images in memory of the caller, before its first piece.
-use Rattle.std.specs.Prelude.{◌≡◌, ℕ, true, List, [], length, map, Option, None}
+use Rattle.std.specs.Prelude.{◌≡◌, ℕ, List, [], length, map, Option}
 use denote.RawPtr.{Ptr}
 use Rattle.blk.specs.Disk.{DiskState}
-use Rattle.receiver.specs.Opened.{ram_at}
 use Rattle.receiver.specs.declared.ram_terms.RamTerms.{RamTerms}
 use Rattle.receiver.specs.Receiving.{HasBeenFed, Received}
 use Rattle.mapped_disk.specs.declared.image.Image.{Image}
 use Rattle.vmig_c.specs.ArrivalSeen.{ArrivalSeen, Over}
-use Rattle.vmig_c.specs.Kept.{IsNew, KeptSeen, State, Arriving}
 use Rattle.vmig_c.specs.Plain.{mem_state}
 
 -- What a disk over an image means.
@@ -30,14 +28,3 @@ IsAwaitedAt ram place sectors _ = ⊥
 abbrev pub AreDisksOf : ArrivalSeen → List (List (List ℕ)) → Type 0
 AreDisksOf (Over r) sectors = map (λ d. d.sectors) r.disks ≡ sectors
 AreDisksOf _ sectors = ⊥
-
-abbrev pub StandsAwaited : RamTerms → Option Ptr → List (List (List ℕ)) → State → Type 0
-StandsAwaited ram place sectors (Arriving a) = IsAwaitedAt ram place sectors a
-StandsAwaited ram place sectors _ = ⊥
-
-abbrev pub KeepsAwaitedAt : RamTerms → Option Ptr → List (List (List ℕ)) → KeptSeen → Type 0
-KeepsAwaitedAt ram place sectors k = IsNew true k × StandsAwaited ram place sectors k.state
-
--- Its RAM will lie in memory of the library.
-abbrev pub KeepsAwaited : ℕ → List (List (List ℕ)) → KeptSeen → Type 0
-KeepsAwaited base sectors k = KeepsAwaitedAt (ram_at base) None sectors k

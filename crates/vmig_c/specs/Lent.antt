@@ -1,5 +1,5 @@
 -- RAM that is lent to the caller, in whose memory it lies, and given back.
-use Rattle.std.specs.Prelude.{◌≡◌, ◌⊎◌, ℕ, ◌*◌, ◌==◌, not, nat_lt, if◌then◌else◌, Bool, List, length, Option, Some, None}
+use Rattle.std.specs.Prelude.{◌≡◌, ◌⊎◌, ℕ, ◌*◌, ◌==◌, not, if◌then◌else◌, Bool, true, List, length, Option, Some, None}
 use denote.RawPtr.{Ptr}
 use Rattle.region.specs.Address.{address}
 use Rattle.region.specs.Empty.{empty_slot}
@@ -10,16 +10,15 @@ use Rattle.guestmem.specs.Lent.{given_back}
 use Rattle.guestmem.specs.Memory.{IsMemory}
 use Rattle.guestmem.specs.declared.limits.TheConstants.{PAGE_SIZE}
 use Rattle.machine.specs.Parked.{IsParked, back_with}
-use Rattle.machine.specs.Refusal.{code_of}
-use Rattle.machine.specs.declared.reply.Refusal.TheVariants.{OutOfRam}
 use Rattle.sender.specs.LiveState.{HasPlaces, LiveSeen}
 use Rattle.sender.specs.Parked.{IsLiveParked, LiveParkedSeen, live_back}
 use Rattle.sender.specs.declared.mig_error.MigError.TheVariants.{AlreadyStopped}
 use Rattle.vmig_c.specs.Kept.{KeptSeen, LoanSeen, StillLent, MovingLent, State, Still, Moving, Arriving, Lent, parked_in}
-use Rattle.vmig_c.specs.Mirror.{are_pages, is_stopped, memory_in}
-use Rattle.vmig_c.specs.Named.{marked, numbers_below}
+use Rattle.vmig_c.specs.Mirror.{is_stopped, memory_in}
+use Rattle.vmig_c.specs.Named.{are_pages, is_known_pages, named_pages, needs_list, pages_refusal}
 use Rattle.vmig_c.specs.OnHandle.{OnHandle, Refuses, Unless}
-use Rattle.vmig_c.specs.Status.{bad_ram, done, lent, mig_status, no_machine, no_memory, not_lent, not_over, too_small}
+use Rattle.vmig_c.specs.Status.{bad_ram, done, lent, mig_status, no_machine, no_memory, not_known, not_lent, not_yours}
+use Rattle.vmig_c.specs.declared.pages.Pages.{Pages}
 
 -- Where the bytes lie that a slot names.
 abbrev pub place_of : Slot → Ptr
@@ -58,7 +57,7 @@ pub record HasLent (k : State) (status : ℕ) (new_ram : Slot) (next : State) : 
 -- Its RAM lies in memory of the library, which is not given away.
 pub record IsNotOver (k : State) (status : ℕ) (ram new_ram : Slot) (next : State) : Type 0 where
   pub own : (memory_in k).place ≡ None
-  pub unlent : IsUnlent k ram status new_ram next not_over
+  pub unlent : IsUnlent k ram status new_ram next not_yours
 
 abbrev pub LendsIfOver : State → Slot → ℕ → Slot → State → Type 0
 LendsIfOver k ram status new_ram next = HasLent k status new_ram next ⊎ IsNotOver k status ram new_ram next
@@ -70,28 +69,27 @@ LendsKept k ram status new_ram next = Unless (lend_refusal_of k (length ram.cont
 abbrev pub Lends : Option KeptSeen → Slot → ℕ → Slot → Option KeptSeen → Type 0
 Lends k ram status new_ram after = OnHandle (Refuses status new_ram ram) (λ old next. LendsKept old.state ram status new_ram next) k after
 
--- Why RAM is not taken back, apart from the pages that are named: there is none out, or it is of another length.
-abbrev pub return_refusal_of : State → ℕ → Option ℕ
-return_refusal_of (Arriving r) bytes = Some no_machine
-return_refusal_of (Lent x) bytes = if not (bytes == PAGE_SIZE * length (parked_in x).versions) then Some bad_ram else None
-return_refusal_of _ bytes = Some not_lent
-
 -- How many pages the RAM has that is lent.
 abbrev pub lent_pages : State → ℕ
 lent_pages (Lent x) = length (parked_in x).versions
 lent_pages _ = 0
 
--- The first of two refusals.
-abbrev pub first_of : Option ℕ → Option ℕ → Option ℕ
-first_of (Some refusal) other = Some refusal
-first_of None other = other
+-- Why RAM is not taken back: there is none out, or it is of another length, or pages are named that are not there.
+abbrev pub return_refusal_of : ℕ → ℕ → Pages → Option ℕ
+return_refusal_of count bytes pages =
+    if not (is_known_pages pages) then Some not_known
+    else if not (bytes == PAGE_SIZE * count) then Some bad_ram
+    else pages_refusal pages count
 
--- A page that is named is none of the RAM.
-abbrev pub pages_refusal : ℕ → List ℕ → Option ℕ
-pages_refusal count pages = if not (are_pages count pages) then Some (code_of OutOfRam) else None
+abbrev pub back_refusal_of : State → ℕ → Pages → Option ℕ
+back_refusal_of (Arriving r) bytes pages = Some no_machine
+back_refusal_of (Lent x) bytes pages = return_refusal_of (length (parked_in x).versions) bytes pages
+back_refusal_of _ bytes pages = Some not_lent
 
-abbrev pub back_refusal_of : State → ℕ → List ℕ → Option ℕ
-back_refusal_of k bytes pages = first_of (return_refusal_of k bytes) (pages_refusal (lent_pages k) pages)
+-- So many bytes are the RAM that is lent, and each number is that of one of its pages.
+abbrev pub IsReturnable : State → ℕ → List ℕ → Type 0
+IsReturnable (Lent x) bytes pages = (bytes ≡ PAGE_SIZE * length (parked_in x).versions) × (are_pages (length (parked_in x).versions) pages ≡ true)
+IsReturnable _ bytes pages = ⊥
 
 -- The machine has the RAM of the region again, and these pages were written: their versions have risen, and where it is being
 -- migrated they are dirty.
@@ -109,38 +107,12 @@ pub record HasComeBack (k : State) (ram : Slot) (pages : List ℕ) (status : ℕ
   pub taken : new_ram ≡ empty_slot
   pub back : IsBack k ram pages next
 
-abbrev pub ComesBack : State → Slot → List ℕ → ℕ → Slot → State → Type 0
-ComesBack k ram pages status new_ram next = Unless (back_refusal_of k (length ram.content) pages) (IsUnlent k ram status new_ram next) (HasComeBack k ram pages status new_ram next)
+-- Where their numbers have to be collected memory may be refused: then nothing changed.
+abbrev pub ComesBack : State → Slot → Pages → ℕ → Slot → State → Type 0
+ComesBack k ram pages status new_ram next =
+    let refused = IsUnlent k ram status new_ram next in
+    Unless (back_refusal_of k (length ram.content) pages) refused (HasComeBack k ram (named_pages pages (lent_pages k)) status new_ram next ⊎ ((needs_list pages ≡ true) × refused no_memory))
 
 -- The RAM of the machine behind a handle was given back, and these pages were named.
-abbrev pub GivesBack : Option KeptSeen → Slot → List ℕ → ℕ → Slot → Option KeptSeen → Type 0
+abbrev pub GivesBack : Option KeptSeen → Slot → Pages → ℕ → Slot → Option KeptSeen → Type 0
 GivesBack k ram pages status new_ram after = OnHandle (Refuses status new_ram ram) (λ old next. ComesBack old.state ram pages status new_ram next) k after
-
--- Pages whose numbers are collected first, for which memory may be refused. Then nothing changed.
-abbrev pub ListsBack : Option ℕ → State → Slot → List ℕ → ℕ → Slot → State → Type 0
-ListsBack refusal k ram pages status new_ram next =
-    let refused = IsUnlent k ram status new_ram next in
-    Unless refusal refused (HasComeBack k ram pages status new_ram next ⊎ refused no_memory)
-
--- The bitmap has a bit for each page, and may have more, which name nothing.
-abbrev pub words_refusal : ℕ → ℕ → Option ℕ
-words_refusal count words = if nat_lt (64 * words) count then Some too_small else None
-
-abbrev pub mark_refusal_of : State → ℕ → ℕ → Option ℕ
-mark_refusal_of k bytes words = first_of (return_refusal_of k bytes) (words_refusal (lent_pages k) words)
-
-abbrev pub ComesBackMarked : State → Slot → List ℕ → ℕ → Slot → State → Type 0
-ComesBackMarked k ram words status new_ram next =
-    ListsBack (mark_refusal_of k (length ram.content) (length words)) k ram (marked words (lent_pages k)) status new_ram next
-
--- As above, and the pages are marked in a bitmap.
-abbrev pub GivesBackMarked : Option KeptSeen → Slot → List ℕ → ℕ → Slot → Option KeptSeen → Type 0
-GivesBackMarked k ram words status new_ram after = OnHandle (Refuses status new_ram ram) (λ old next. ComesBackMarked old.state ram words status new_ram next) k after
-
-abbrev pub ComesBackWhole : State → Slot → ℕ → Slot → State → Type 0
-ComesBackWhole k ram status new_ram next =
-    ListsBack (return_refusal_of k (length ram.content)) k ram (numbers_below (lent_pages k)) status new_ram next
-
--- As above, and all pages were written.
-abbrev pub GivesBackWhole : Option KeptSeen → Slot → ℕ → Slot → Option KeptSeen → Type 0
-GivesBackWhole k ram status new_ram after = OnHandle (Refuses status new_ram ram) (λ old next. ComesBackWhole old.state ram status new_ram next) k after

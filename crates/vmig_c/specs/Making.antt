@@ -1,21 +1,15 @@
--- Machines that C asks for.
-use Rattle.std.specs.Prelude.{◌≡◌, ◌⊎◌, ℕ, ◌==◌, ◌||◌, ◌&&◌, not, nat_lt, Bool, true, false, List, [], ◌∷◌, length, map, replicate, Option, Some, None, if◌then◌else◌}
-use Rattle.guestmem.specs.declared.limits.TheConstants.{PAGES_MAX}
+-- Devices that C asks for.
+use Rattle.std.specs.Prelude.{ℕ, ◌==◌, ◌||◌, ◌&&◌, not, nat_lt, Bool, true, false, List, [], ◌∷◌, length, map, replicate, Some, if◌then◌else◌}
 use Rattle.blk.specs.Sectors.{Sector}
-use Rattle.machine.specs.First.{made_machine, zero_pages}
-use Rattle.machine.specs.Seen.{Seen, state_of}
-use Rattle.machine.specs.Shapes.{disk_sizes, is_beyond}
-use Rattle.machine.specs.Sound.{IsSound}
+use Rattle.machine.specs.Shapes.{is_beyond}
 use Rattle.machine.specs.declared.machine.TheConstants.{DEVICES_MAX}
 use Rattle.machine.specs.declared.shape.Shape.{Shape}
 use Rattle.machine.specs.declared.shape.Shape.TheVariants.{Net, Block, Console, Entropy}
-use Rattle.vmig_c.specs.Plain.{ArePlain}
-use Rattle.vmig_c.specs.Status.{done, in_use, no_memory, bad_shape}
-use Rattle.vmig_c.specs.Kept.{IsNew, KeptSeen, State, Still}
+use Rattle.vmig_c.specs.Named.{are_zeros}
 use Rattle.vmig_c.specs.declared.device_shape.DeviceShape.{DeviceShape}
 
 -- The kinds are the standard's numbers (VIRTIO 1.2, 5): 1 a network device, 2 a block device, 3 a console, 4 an entropy
--- device. What a kind does not need is not read.
+-- device.
 abbrev pub is_known : ℕ → Bool
 is_known kind = kind == 1 || kind == 2 || kind == 3 || kind == 4
 
@@ -25,56 +19,30 @@ shape_of s = if s.kind == 1 then Net s.mac else if s.kind == 2 then Block s.sect
 abbrev pub shapes_of : List DeviceShape → List Shape
 shapes_of shapes = map shape_of shapes
 
--- A device of a known kind within its limits.
+-- That of no device.
+abbrev pub no_shape : DeviceShape
+no_shape = record { kind = 0; read_only = 0; mac = replicate 6 0; sectors = 0; id = replicate 20 0; frame = 0; reserved = replicate 2 0 }
+
+-- Nothing is said of a disk.
+abbrev pub has_no_disk : DeviceShape → Bool
+has_no_disk s = s.read_only == 0 && (s.sectors == 0 && are_zeros s.id)
+
+-- What its kind does not need is 0, and so is what no kind needs yet. Whether a disk is read-only is 1 or 0.
+abbrev pub has_only : DeviceShape → Bool
+has_only s = (s.kind == 1 || are_zeros s.mac) && ((s.kind == 2 || has_no_disk s) && (not (nat_lt 1 s.read_only) && (s.frame == 0 && are_zeros s.reserved)))
+
+-- A device of a known kind within its limits, of which nothing else is said.
 abbrev pub is_plain : DeviceShape → Bool
-is_plain s = is_known s.kind && not (is_beyond (shape_of s))
+is_plain s = has_only s && (is_known s.kind && not (is_beyond (shape_of s)))
 
 abbrev pub are_plain : List DeviceShape → Bool
 are_plain [] = true
 are_plain (s ∷ shapes) = is_plain s && are_plain shapes
 
--- The pages are not 1 to 16,384, or the devices not 1 to 16, or not all plain.
-abbrev pub are_beyond_limits : ℕ → List DeviceShape → Bool
-are_beyond_limits pages shapes = pages == 0 || nat_lt PAGES_MAX pages || length shapes == 0 || nat_lt DEVICES_MAX (length shapes) || not (are_plain shapes)
-
--- Why no machine is made, apart from memory being refused.
-abbrev pub make_refusal : Option KeptSeen → ℕ → List DeviceShape → Option ℕ
-make_refusal (Some m) pages shapes = Some in_use
-make_refusal None pages shapes = if are_beyond_limits pages shapes then Some bad_shape else None
+-- The devices are not 1 to 16, or not all plain.
+abbrev pub are_bad_shapes : List DeviceShape → Bool
+are_bad_shapes shapes = length shapes == 0 || nat_lt DEVICES_MAX (length shapes) || not (are_plain shapes)
 
 -- A disk of zeros, all its sectors good.
 abbrev pub zero_sectors : ℕ → List Sector
 zero_sectors count = replicate count (Some (replicate 512 0))
-
--- The new machine of these pages and devices, over disks of zeros.
-pub record IsMade (base : ℕ) (pages : ℕ) (shapes : List Shape) (m : Seen) : Type 0 where
-  pub first : state_of m ≡ made_machine base (zero_pages pages) shapes (map zero_sectors (disk_sizes shapes))
-  pub plain : ArePlain m
-  pub sound : IsSound (state_of m)
-
--- It is not being migrated, and its disks lie in memory of the library.
-abbrev pub StandsMade : ℕ → ℕ → List Shape → State → Type 0
-StandsMade base pages shapes (Still m) = IsMade base pages shapes m
-StandsMade base pages shapes _ = ⊥
-
-abbrev pub KeepsMade : ℕ → ℕ → List Shape → KeptSeen → Type 0
-KeepsMade base pages shapes k = IsNew false k × StandsMade base pages shapes k.state
-
-pub record HasMade (base : ℕ) (pages : ℕ) (shapes : List DeviceShape) (status : ℕ) (after : Option KeptSeen) : Type 0 where
-  pub kept : KeptSeen
-  pub is_there : after ≡ Some kept
-  pub is_made : KeepsMade base pages (shapes_of shapes) kept
-  pub status_is : status ≡ done
-
--- Memory was refused, and nothing changed.
-pub record HasNoMemory (old : Option KeptSeen) (status : ℕ) (after : Option KeptSeen) : Type 0 where
-  pub status_is : status ≡ no_memory
-  pub same : after ≡ old
-
-abbrev pub MakesBy : ℕ → Option ℕ → Option KeptSeen → ℕ → List DeviceShape → ℕ → Option KeptSeen → Type 0
-MakesBy base (Some refusal) old pages shapes status after = (status ≡ refusal) × (after ≡ old)
-MakesBy base None old pages shapes status after = HasMade base pages shapes status after ⊎ HasNoMemory old status after
-
--- A machine was made, or the status says why not, and nothing changed.
-abbrev pub Makes : ℕ → Option KeptSeen → ℕ → List DeviceShape → ℕ → Option KeptSeen → Type 0
-Makes base old pages shapes status after = MakesBy base (make_refusal old pages shapes) old pages shapes status after

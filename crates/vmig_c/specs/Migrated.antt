@@ -1,22 +1,24 @@
 -- The migration of a machine behind a handle, call by call.
-use Rattle.std.specs.Prelude.{false, ◌≡◌, ℕ, List, [], ◌++◌, count_by, min, length, take, drop, Option, Some}
+use Rattle.std.specs.Prelude.{Bool, true, false, ◌≡◌, ◌==◌, ℕ, zero, suc, List, [], ◌++◌, min, length, replicate, take, drop, Option, Some, None}
+use Rattle.dirtylog.specs.Members.{member_count}
+use Rattle.machine.specs.Layout.{pages_of}
 use Rattle.machine.specs.Seen.{AreHonest, Seen, state_of}
-use Rattle.sender.specs.Calls.{Serves}
+use Rattle.sender.specs.Calls.{Serves, StopsWithin}
 use Rattle.sender.specs.Follows.{Relates}
 use Rattle.sender.specs.History.{nothing}
-use Rattle.sender.specs.LiveState.{HasPlaces, LiveSeen}
+use Rattle.sender.specs.LiveState.{HasPlaces, LiveSeen, now}
 use Rattle.sender.specs.Parked.{LiveParkedSeen}
-use Rattle.sender.specs.declared.event.Item.TheVariants.{Page, Sector}
 use Rattle.sender.specs.declared.event.LiveEvent.TheVariants as events
 use Rattle.sender.specs.declared.event.LiveReply.{LiveReply}
 use Rattle.sender.specs.declared.event.LiveReply.TheVariants as live
-use Rattle.sender.specs.declared.mig_error.MigError.TheVariants.{NotBegun}
+use Rattle.sender.specs.declared.mig_error.MigError.TheVariants.{AlreadyStopped, NotBegun, StreamFailed}
+use Rattle.sender.specs.declared.phase.Phase.{Phase}
 use Rattle.sender.specs.declared.phase.Phase.TheVariants as phases
 use Rattle.wire.specs.Sinks.{Takes, over_writer}
-use Rattle.vmig_c.specs.Status.{done, lent, live_status, mig_status, no_machine, no_memory}
-use Rattle.vmig_c.specs.Told.{IsServed}
+use Rattle.vmig_c.specs.Status.{done, lent, live_status, mig_status, no_machine, no_memory, round_done}
 use Rattle.vmig_c.specs.Kept.{KeptSeen, LoanSeen, StillLent, MovingLent, State, Still, Moving, Arriving, Lent}
-use Rattle.vmig_c.specs.OnHandle.{ByState, OfHandle, OfState, OnHandle, Refuses, RefusesBoth}
+use Rattle.vmig_c.specs.OnHandle.{ByState, OfHandle, OfState, OnHandle, Refuses, RefusesBoth, Unless}
+use Rattle.vmig_c.specs.declared.migrating.SendLeft.{SendLeft}
 
 -- Every call of a migration but its begin is refused for a machine that is not being migrated.
 abbrev pub ByMigration : (ℕ → Type 0) → (LiveSeen → LiveSeen → Type 0) → State → State → Type 0
@@ -53,29 +55,57 @@ BeginsKept (Arriving r) status (Arriving next) = Refuses status next r no_machin
 BeginsKept (Lent x) status (Lent next) = Refuses status next x lent
 BeginsKept _ status _ = ⊥
 
--- The numbers of the item that was sent: a page has no device.
-abbrev pub copied_dev : LiveReply → ℕ → ℕ
-copied_dev (live.Copied (Sector dev n)) before = dev
-copied_dev _ before = before
+-- Why nothing is sent in this phase.
+abbrev pub send_refusal : Phase → Option ℕ
+send_refusal phases.Fresh = Some (mig_status NotBegun)
+send_refusal (phases.Open round) = None
+send_refusal phases.Stopped = Some (mig_status AlreadyStopped)
+send_refusal phases.Failed = Some (mig_status StreamFailed)
 
-abbrev pub copied_number : LiveReply → ℕ → ℕ
-copied_number (live.Copied (Page n)) before = n
-copied_number (live.Copied (Sector dev n)) before = n
-copied_number _ before = before
+-- Nothing is due any more.
+abbrev pub is_none_due : LiveSeen → Bool
+is_none_due l = member_count l.due == 0
 
-pub record HasCopied (l : LiveSeen) (status dev old_dev number old_number : ℕ) (next : LiveSeen) : Type 0 where
+abbrev pub end_status : Bool → ℕ
+end_status true = round_done
+end_status false = done
+
+-- The least due item was sent, and it went on from there; or that was refused, and ended it.
+abbrev pub GoesOn : LiveReply → (LiveSeen → Type 0) → LiveSeen → ℕ → LiveSeen → Type 0
+GoesOn (live.Mig error) rest mid status next = (status ≡ mig_status error) × (next ≡ mid)
+GoesOn reply rest mid status next = rest mid
+
+pub record SendsOne (rest : LiveSeen → Type 0) (l : LiveSeen) (status : ℕ) (next : LiveSeen) : Type 0 where
+  pub mid : LiveSeen
   pub reply : LiveReply
   pub places : HasPlaces l
-  pub serves : Serves l events.Copy reply next
+  pub serves : Serves l events.Copy reply mid
+  pub goes_on : GoesOn reply rest mid status next
+
+abbrev pub SendsIf : Bool → (LiveSeen → Type 0) → LiveSeen → ℕ → LiveSeen → Type 0
+SendsIf true rest l status next = (status ≡ round_done) × (next ≡ l)
+SendsIf false rest l status next = SendsOne rest l status next
+
+-- Due items were sent one after another, so many at most.
+abbrev pub SendsUpTo : ℕ → LiveSeen → ℕ → LiveSeen → Type 0
+SendsUpTo zero l status next = (status ≡ end_status (is_none_due l)) × (next ≡ l)
+SendsUpTo (suc n) l status next = SendsIf (is_none_due l) (λ mid. SendsUpTo n mid status next) l status next
+
+abbrev pub SendsSome : LiveSeen → ℕ → ℕ → LiveSeen → Type 0
+SendsSome l most status next = Unless (send_refusal l.phase) (λ reason. (status ≡ reason) × (next ≡ l)) (SendsUpTo most l status next)
+
+abbrev pub SendsKept : State → ℕ → ℕ → State → Type 0
+SendsKept k most status next = ByMigration (λ reason. status ≡ reason) (λ l after. SendsSome l most status after) k next
+
+-- A round was ended, or not, as the reply says. Which round is open then a description tells.
+pub record HasEnded (l : LiveSeen) (status : ℕ) (next : LiveSeen) : Type 0 where
+  pub reply : LiveReply
+  pub places : HasPlaces l
+  pub serves : Serves l events.EndRound reply next
   pub status_is : status ≡ live_status reply
-  pub dev_is : dev ≡ copied_dev reply old_dev
-  pub number_is : number ≡ copied_number reply old_number
 
-abbrev pub CopiesKept : State → ℕ → ℕ → ℕ → ℕ → ℕ → State → Type 0
-CopiesKept k status dev old_dev number old_number next = ByMigration (RefusesBoth status dev old_dev number old_number) (λ l after. HasCopied l status dev old_dev number old_number after) k next
-
-abbrev pub EndsKept : State → ℕ → ℕ → ℕ → State → Type 0
-EndsKept k status round before next = ByMigration (Refuses status round before) (λ l after. IsServed l events.EndRound status round before after) k next
+abbrev pub EndsKept : State → ℕ → State → Type 0
+EndsKept k status next = ByMigration (λ reason. status ≡ reason) (λ l after. HasEnded l status after) k next
 
 -- How many pages and sectors a stop sent.
 abbrev pub stopped_pages : LiveReply → ℕ → ℕ
@@ -105,11 +135,20 @@ AbortsKept (Arriving r) status (Arriving next) = Refuses status next r no_machin
 AbortsKept (Lent x) status (Lent next) = Refuses status next x lent
 AbortsKept _ status _ = ⊥
 
--- How many items are due, and how many are dirty.
-abbrev pub RemainsKept : State → ℕ → ℕ → ℕ → ℕ → ℕ → Type 0
-RemainsKept k status due old_due dirty old_dirty =
-    let refused = RefusesBoth status due old_due dirty old_dirty in
-    OfState refused (λ m. refused (mig_status NotBegun)) (λ l. (status ≡ done) × (due ≡ count_by (λ b. b) l.due) × (dirty ≡ count_by (λ b. b) l.dirty)) k
+-- How many pages and sectors are due in this round, and how many were written since; and the most bytes that a stop would write.
+pub record IsLeft (l : LiveSeen) (status : ℕ) (left : SendLeft) : Type 0 where
+  pub status_is : status ≡ done
+  pub due_pages : left.due_pages ≡ member_count (take (pages_of (now l)) l.due)
+  pub due_sectors : left.due_sectors ≡ member_count (drop (pages_of (now l)) l.due)
+  pub dirty_pages : left.dirty_pages ≡ member_count (take (pages_of (now l)) l.dirty)
+  pub dirty_sectors : left.dirty_sectors ≡ member_count (drop (pages_of (now l)) l.dirty)
+  pub stop_bytes : StopsWithin l left.stop_bytes
+  pub reserved : left.reserved ≡ replicate 3 0
+
+abbrev pub LeavesKept : State → ℕ → SendLeft → SendLeft → Type 0
+LeavesKept k status left old =
+    let refused = Refuses status left old in
+    OfState refused (λ m. refused (mig_status NotBegun)) (λ l. IsLeft l status left) k
 
 -- The first of the bytes that wait went to the front of the buffer, as many as fit, and no longer wait. The digest is still
 -- of the same bytes, and all else is unchanged.
@@ -144,13 +183,13 @@ TakesKept _ status got old_got buf new_buf _ = ⊥
 abbrev pub Begun : Option KeptSeen → ℕ → Option KeptSeen → Type 0
 Begun k status after = OnHandle (λ reason. status ≡ reason) (λ old next. BeginsKept old.state status next) k after
 
--- Its least due item is sent.
-abbrev pub Copied : Option KeptSeen → ℕ → ℕ → ℕ → ℕ → ℕ → Option KeptSeen → Type 0
-Copied k status dev old_dev number old_number after = OnHandle (RefusesBoth status dev old_dev number old_number) (λ old next. CopiesKept old.state status dev old_dev number old_number next) k after
+-- Items of it that are due are sent, so many at most.
+abbrev pub SentSome : Option KeptSeen → ℕ → ℕ → Option KeptSeen → Type 0
+SentSome k most status after = OnHandle (λ reason. status ≡ reason) (λ old next. SendsKept old.state most status next) k after
 
 -- Its round is ended.
-abbrev pub EndedRound : Option KeptSeen → ℕ → ℕ → ℕ → Option KeptSeen → Type 0
-EndedRound k status round old_round after = OnHandle (Refuses status round old_round) (λ old next. EndsKept old.state status round old_round next) k after
+abbrev pub EndedRound : Option KeptSeen → ℕ → Option KeptSeen → Type 0
+EndedRound k status after = OnHandle (λ reason. status ≡ reason) (λ old next. EndsKept old.state status next) k after
 
 -- It is stopped.
 abbrev pub HasBeenStopped : Option KeptSeen → ℕ → ℕ → ℕ → ℕ → ℕ → Option KeptSeen → Type 0
@@ -160,9 +199,9 @@ HasBeenStopped k status pages old_pages sectors old_sectors after = OnHandle (Re
 abbrev pub Aborted : Option KeptSeen → ℕ → Option KeptSeen → Type 0
 Aborted k status after = OnHandle (λ reason. status ≡ reason) (λ old next. AbortsKept old.state status next) k after
 
--- How many items of it are due, and how many are dirty.
-abbrev pub Remaining : Option KeptSeen → ℕ → ℕ → ℕ → ℕ → ℕ → Type 0
-Remaining k status due old_due dirty old_dirty = OfHandle (RefusesBoth status due old_due dirty old_dirty) (λ state. RemainsKept state status due old_due dirty old_dirty) k
+-- What of it is still to be sent.
+abbrev pub Leaves : Option KeptSeen → ℕ → SendLeft → SendLeft → Type 0
+Leaves k status left old = OfHandle (Refuses status left old) (λ state. LeavesKept state status left old) k
 
 -- C takes some of the bytes that wait.
 abbrev pub Taken : Option KeptSeen → ℕ → ℕ → ℕ → List ℕ → List ℕ → Option KeptSeen → Type 0

@@ -1,24 +1,24 @@
 -- A caller who keeps the guest's RAM in memory of its own, and mirrors it into the machine: whole pages are handed in and out,
 -- and a list of the caller holds the version at which it had each page.
-use Rattle.std.specs.Prelude.{◌≡◌, ℕ, ◌-◌, ◌^◌, ◌<◌, ◌≤◌, ◌==◌, ◌&&◌, ◌||◌, ◌++◌, not, nat_lt, if◌then◌else◌, Bool, true, false, List, [], ◌∷◌, Option, Some, None, length, take, drop, slice_index, slice_set}
+use Rattle.std.specs.Prelude.{◌≡◌, ◌⊎◌, ℕ, ◌-◌, ◌^◌, ◌<◌, ◌≤◌, ◌==◌, ◌&&◌, ◌||◌, ◌++◌, not, nat_lt, if◌then◌else◌, Bool, true, false, List, [], ◌∷◌, Option, Some, None, length, take, drop, slice_index, slice_set}
 use Rattle.guestmem.specs.Memory.{IsMemory, Memory}
 use Rattle.guestmem.specs.Page.{page_of}
 use Rattle.machine.specs.Applied.{IsApplied}
 use Rattle.machine.specs.Parked.{page_address}
-use Rattle.machine.specs.Refusal.{code_of}
 use Rattle.machine.specs.Seen.{Seen}
 use Rattle.machine.specs.declared.event.Event.{Event}
 use Rattle.machine.specs.declared.event.Event.TheVariants.{MemWrite}
-use Rattle.machine.specs.declared.reply.Refusal.TheVariants.{OutOfRam}
 use Rattle.machine.specs.declared.reply.Reply.{Reply}
 use Rattle.sender.specs.LiveState.{how_many}
 use Rattle.sender.specs.declared.mig_error.MigError.TheVariants.{AlreadyStopped}
 use Rattle.sender.specs.declared.phase.Phase.{Phase}
 use Rattle.sender.specs.declared.phase.Phase.TheVariants as phases
+use Rattle.vmig_c.specs.Named.{are_pages, is_known_pages, named_pages, needs_list, pages_refusal}
 use Rattle.vmig_c.specs.OnHandle.{OfHandle, OnHandle, Refuses, Unless}
-use Rattle.vmig_c.specs.Status.{done, lent, mig_status, no_machine, too_small}
+use Rattle.vmig_c.specs.Status.{done, lent, mig_status, no_machine, no_memory, not_known, too_small}
 use Rattle.vmig_c.specs.Told.{TellsSo}
 use Rattle.vmig_c.specs.Kept.{KeptSeen, State, Still, Moving, Arriving, Lent}
+use Rattle.vmig_c.specs.declared.pages.Pages.{Pages}
 
 -- A machine that is arriving is none yet, and one whose RAM is lent has no bytes of it.
 abbrev pub is_away : State → Bool
@@ -53,11 +53,6 @@ unseen = 2 ^ 64 - 1
 abbrev pub is_short : Memory → ℕ → ℕ → Bool
 is_short m bytes entries = nat_lt bytes (length m.bytes) || nat_lt entries (length m.versions)
 
--- Each number is that of a page, where there are `count` pages.
-abbrev pub are_pages : ℕ → List ℕ → Bool
-are_pages count [] = true
-are_pages count (n ∷ pages) = nat_lt n count && are_pages count pages
-
 -- A machine that was stopped.
 abbrev pub is_closed : Phase → Bool
 is_closed phases.Stopped = true
@@ -69,13 +64,20 @@ is_stopped (Moving l) = is_closed l.phase
 is_stopped _ = false
 
 -- Why pages are not handed in.
-abbrev pub push_refusal : State → List ℕ → ℕ → ℕ → Option ℕ
+abbrev pub push_refusal : State → Pages → ℕ → ℕ → Option ℕ
 push_refusal k pages bytes entries =
     if is_away k then Some (away_status k)
-    else if is_short (memory_in k) bytes entries then Some too_small
-    else if not (are_pages (length (memory_in k).versions) pages) then Some (code_of OutOfRam)
     else if is_stopped k then Some (mig_status AlreadyStopped)
-    else None
+    else if not (is_known_pages pages) then Some not_known
+    else if is_short (memory_in k) bytes entries then Some too_small
+    else pages_refusal pages (length (memory_in k).versions)
+
+-- There is a machine that runs, room for all of its RAM, and each number is that of one of its pages.
+pub record IsPushable (k : State) (pages : List ℕ) (bytes entries : ℕ) : Type 0 where
+  pub here : is_away k ≡ false
+  pub going : is_stopped k ≡ false
+  pub room : is_short (memory_in k) bytes entries ≡ false
+  pub are : are_pages (length (memory_in k).versions) pages ≡ true
 
 -- A page was handed in: the guest wrote it whole, and its version after that is noted.
 pub record IsPushed (k : State) (n : ℕ) (ram seen new_seen : List ℕ) (next : State) : Type 0 where
@@ -91,12 +93,15 @@ pub record HasPushed (k : State) (pages ram : List ℕ) (status : ℕ) (seen new
   pub pushed : ArePushed k pages ram seen new_seen next
   pub status_is : status ≡ done
 
-abbrev pub PushesKept : State → List ℕ → List ℕ → ℕ → List ℕ → List ℕ → State → Type 0
+-- Where their numbers have to be collected memory may be refused: then nothing changed.
+abbrev pub PushesKept : State → Pages → List ℕ → ℕ → List ℕ → List ℕ → State → Type 0
 PushesKept k pages ram status seen new_seen next =
-    Unless (push_refusal k pages (length ram) (length seen)) (λ reason. Refuses status new_seen seen reason × (next ≡ k)) (HasPushed k pages ram status seen new_seen next)
+    let refused = λ reason. Refuses status new_seen seen reason × (next ≡ k) in
+    Unless (push_refusal k pages (length ram) (length seen)) refused
+    (HasPushed k (named_pages pages (length (memory_in k).versions)) ram status seen new_seen next ⊎ ((needs_list pages ≡ true) × refused no_memory))
 
 -- Pages were handed in to the machine behind a handle.
-abbrev pub Pushed : Option KeptSeen → List ℕ → List ℕ → ℕ → List ℕ → List ℕ → Option KeptSeen → Type 0
+abbrev pub Pushed : Option KeptSeen → Pages → List ℕ → ℕ → List ℕ → List ℕ → Option KeptSeen → Type 0
 Pushed k pages ram status seen new_seen after = OnHandle (Refuses status new_seen seen) (λ old next. PushesKept old.state pages ram status seen new_seen next) k after
 
 -- The caller has the current content of the page: it noted its version, and that is not the greatest number.
@@ -167,6 +172,6 @@ is_among (k ∷ pages) n = n == k || is_among pages n
 
 -- Once pages were handed in, they are mirrored, and so is each other page that was before.
 abbrev pub PushedMirrors : Type 0
-PushedMirrors = (k next : State) (pages ram seen new_seen : List ℕ) → IsMemory (memory_in k) → push_refusal k pages (length ram) (length seen) ≡ None
+PushedMirrors = (k next : State) (pages ram seen new_seen : List ℕ) → IsMemory (memory_in k) → IsPushable k pages (length ram) (length seen)
     → ((n : ℕ) → n < length (memory_in k).versions → is_among pages n ≡ false → MirrorsPage (memory_in k) ram seen n)
     → ArePushed k pages ram seen new_seen next → Mirrors (memory_in next) ram new_seen

@@ -1,31 +1,47 @@
--- Which step of the machine behind a handle has something to do.
-use Rattle.std.specs.Prelude.{◌≡◌, ℕ, Bool, true, false, Option, Some, None}
-use Rattle.machine.specs.NextWork.{next_work}
+-- Which step of the machine behind a handle has something to do, and whether the disk has to be durable before it.
+use Rattle.std.specs.Prelude.{◌≡◌, ℕ, Bool, true, false, List, Option, Some, None, slice_get, slice_index_or, if◌then◌else◌}
+use Rattle.blk.specs.declared.durable.SyncOwed.{SyncOwed}
+use Rattle.blk.specs.declared.durable.SyncOwed.TheVariants.{Nothing, Flush, EndOfWrite}
+use Rattle.machine.specs.NextWork.{next_work_with_lost}
 use Rattle.machine.specs.Seen.{Seen, state_of}
+use Rattle.machine.specs.State.{DeviceState}
 use Rattle.machine.specs.declared.work.Work.{Work}
 use Rattle.sender.specs.declared.mig_error.MigError.TheVariants.{AlreadyStopped}
+use Rattle.vmig_c.specs.Durable.{owed_for}
 use Rattle.vmig_c.specs.Kept.{KeptSeen, State}
 use Rattle.vmig_c.specs.Mirror.{is_closed}
-use Rattle.vmig_c.specs.OnHandle.{OfHandle, OfState, RefusesBoth}
-use Rattle.vmig_c.specs.Status.{idle, mig_status, work}
+use Rattle.vmig_c.specs.OnHandle.{OfState, RefusesBoth}
+use Rattle.vmig_c.specs.Status.{idle, mig_status, no_machine, sync, work}
+
+-- A step makes a flush, or ends a write after which the driver takes what was written for durable: what was written has to be durable
+-- before. Of a disk that is lost nothing is asked for any more.
+abbrev pub owed_status : SyncOwed → ℕ
+owed_status Nothing = work
+owed_status Flush = sync
+owed_status EndOfWrite = sync
+
+abbrev pub work_status : List Bool → List DeviceState → Work → ℕ
+work_status lost devices w = if slice_index_or lost w.dev false then work else owed_status (owed_for (slice_get devices w.dev) w.pick)
 
 -- The status and the two numbers of a step that was found. If none was, the numbers are unchanged.
-abbrev pub NamesWork : Option Work → ℕ → ℕ → ℕ → ℕ → ℕ → Type 0
-NamesWork (Some w) status dev old_dev pick old_pick = (status ≡ work) × (dev ≡ w.dev) × (pick ≡ w.pick)
-NamesWork None status dev old_dev pick old_pick = RefusesBoth status dev old_dev pick old_pick idle
+abbrev pub NamesWork : List Bool → List DeviceState → Option Work → ℕ → ℕ → ℕ → ℕ → ℕ → Type 0
+NamesWork lost devices (Some w) status dev old_dev pick old_pick = (status ≡ work_status lost devices w) × (dev ≡ w.dev) × (pick ≡ w.pick)
+NamesWork lost devices None status dev old_dev pick old_pick = RefusesBoth status dev old_dev pick old_pick idle
 
--- The first step, in turn, after the one that the numbers named.
-abbrev pub FindsWorkOf : Seen → ℕ → ℕ → ℕ → ℕ → ℕ → Type 0
-FindsWorkOf m status dev old_dev pick old_pick = NamesWork (next_work (state_of m).devices (record { dev = old_dev; pick = old_pick })) status dev old_dev pick old_pick
+-- The first step, in turn, after the one that the numbers named. One that would end a write of a lost disk is passed over.
+abbrev pub FindsWorkOf : List Bool → Seen → ℕ → ℕ → ℕ → ℕ → ℕ → Type 0
+FindsWorkOf lost m status dev old_dev pick old_pick =
+    NamesWork lost (state_of m).devices (next_work_with_lost (state_of m).devices lost (record { dev = old_dev; pick = old_pick })) status dev old_dev pick old_pick
 
 -- A machine that was stopped makes no steps.
-abbrev pub FindsUnless : Bool → Seen → ℕ → ℕ → ℕ → ℕ → ℕ → Type 0
-FindsUnless true m status dev old_dev pick old_pick = RefusesBoth status dev old_dev pick old_pick (mig_status AlreadyStopped)
-FindsUnless false m status dev old_dev pick old_pick = FindsWorkOf m status dev old_dev pick old_pick
+abbrev pub FindsUnless : Bool → List Bool → Seen → ℕ → ℕ → ℕ → ℕ → ℕ → Type 0
+FindsUnless true lost m status dev old_dev pick old_pick = RefusesBoth status dev old_dev pick old_pick (mig_status AlreadyStopped)
+FindsUnless false lost m status dev old_dev pick old_pick = FindsWorkOf lost m status dev old_dev pick old_pick
 
-abbrev pub FindsWork : State → ℕ → ℕ → ℕ → ℕ → ℕ → Type 0
+abbrev pub FindsWork : KeptSeen → ℕ → ℕ → ℕ → ℕ → ℕ → Type 0
 FindsWork k status dev old_dev pick old_pick =
-    OfState (RefusesBoth status dev old_dev pick old_pick) (λ m. FindsWorkOf m status dev old_dev pick old_pick) (λ l. FindsUnless (is_closed l.phase) l.machine status dev old_dev pick old_pick) k
+    OfState (RefusesBoth status dev old_dev pick old_pick) (λ m. FindsWorkOf k.lost m status dev old_dev pick old_pick) (λ l. FindsUnless (is_closed l.phase) k.lost l.machine status dev old_dev pick old_pick) k.state
 
 abbrev pub FoundWork : Option KeptSeen → ℕ → ℕ → ℕ → ℕ → ℕ → Type 0
-FoundWork k status dev old_dev pick old_pick = OfHandle (RefusesBoth status dev old_dev pick old_pick) (λ state. FindsWork state status dev old_dev pick old_pick) k
+FoundWork None status dev old_dev pick old_pick = RefusesBoth status dev old_dev pick old_pick no_machine
+FoundWork (Some k) status dev old_dev pick old_pick = FindsWork k status dev old_dev pick old_pick

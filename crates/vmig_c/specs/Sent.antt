@@ -31,7 +31,6 @@ use Rattle.vmig_c.specs.Awaited.{HasArrived, HasCome, awaited_base}
 use Rattle.vmig_c.specs.Lent.{IsLiveLoan}
 use Rattle.vmig_c.specs.Migrated.{HasTaken, HasTakenLent, IsFresh}
 use Rattle.vmig_c.specs.Mirror.{is_closed}
-use Rattle.vmig_c.specs.Moving.{IsReceivedAs}
 
 -- This happened to the machine since its migration began, and these bytes were taken.
 abbrev pub IsSent : MachineState → History → List ℕ → LiveSeen → Type 0
@@ -97,8 +96,3 @@ StoppedIsWhole = (m : MachineState) (h : History) (taken : List ℕ) (l : LiveSe
 abbrev pub ArrivedIsSent : Type 0
 ArrivedIsSent = (m : MachineState) (h : History) (taken : List ℕ) (l : LiveSeen) (r : ArrivalSeen) (arrived : Seen) → IsSent m h taken l → IsSound m → phase_of h ≡ phases.Stopped → HasCome r (taken ++ l.out.held) → awaited_base r ≡ live_base l → HasArrived r arrived
     → state_of arrived ≡ now l
-
--- The same of what is received, whose RAM begins at address 0.
-abbrev pub ReceivedIsSent : Type 0
-ReceivedIsSent = (m : MachineState) (h : History) (taken : List ℕ) (l : LiveSeen) (received : Seen) (rounds : ℕ) → IsSent m h taken l → IsSound m → phase_of h ≡ phases.Stopped → live_base l ≡ 0 → IsReceivedAs (taken ++ l.out.held) received rounds
-    → state_of received ≡ now l

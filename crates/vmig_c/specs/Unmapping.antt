@@ -1,5 +1,5 @@
 -- Images that the caller has back.
-use Rattle.std.specs.Prelude.{◌≡◌, ℕ, ◌==◌, ◌&&◌, ◌++◌, not, nat_lt, if◌then◌else◌, Bool, true, List, [], ◌∷◌, All, length, map, Option, Some, None}
+use Rattle.std.specs.Prelude.{◌≡◌, ℕ, ◌++◌, not, nat_lt, if◌then◌else◌, Bool, true, false, List, [], ◌∷◌, All, length, map, Option, Some, None}
 use Rattle.std.specs.List.{flat_map}
 use Rattle.blk.specs.Sectors.{Sector, sectors_of}
 use Rattle.machine.specs.Seen.{DeviceSeen, Seen}
@@ -7,10 +7,12 @@ use Rattle.machine.specs.Shapes.{disk_size_of, made_as}
 use Rattle.mapped_disk.specs.declared.image.Image.{Image}
 use Rattle.receiver.specs.Receiving.{Received}
 use Rattle.vmig_c.specs.ArrivalSeen.{ArrivalSeen, Over}
-use Rattle.vmig_c.specs.Kept.{KeptSeen, State, Still, Moving, Arriving, Lent}
+use Rattle.vmig_c.specs.Awaited.{awaited_sizes}
+use Rattle.vmig_c.specs.Kept.{KeptSeen, State, Still, Moving, Arriving, Lent, parked_in}
 use Rattle.vmig_c.specs.Mapping.{contents, counts}
+use Rattle.vmig_c.specs.Named.{are_zeros}
 use Rattle.vmig_c.specs.OnHandle.{RefusesBoth, Unless}
-use Rattle.vmig_c.specs.Status.{bad_images, done, lent, no_machine, not_mapped, too_small}
+use Rattle.vmig_c.specs.Status.{bad_images, done, lent, no_machine, too_small}
 
 -- The sectors of the devices that have a disk, in their order.
 abbrev pub disk_if : Option ℕ → List Sector → List (List Sector)
@@ -48,32 +50,28 @@ pub record HasUnmapped (m : Seen) (images new_images : List Image) : Type 0 wher
   pub empty : All (λ c. c ≡ []) rest
   pub count : length new_images ≡ length images
 
-abbrev pub are_none : List ℕ → Bool
-are_none [] = true
-are_none (n ∷ ns) = n == 0 && are_none ns
-
 -- Why these images are not slots for this number of disks: one has sectors, or there are fewer of them.
 abbrev pub slots_refusal : ℕ → List Image → Option ℕ
-slots_refusal disks images = if not (are_none (counts images)) then Some bad_images else if nat_lt (length images) disks then Some too_small else None
+slots_refusal disks images = if not (are_zeros (counts images)) then Some bad_images else if nat_lt (length images) disks then Some too_small else None
 
--- The slots are for all images over which a machine arrives.
-abbrev pub arriving_refusal : ArrivalSeen → List Image → Option ℕ
-arriving_refusal (Over r) images = slots_refusal (length r.sizes) images
-arriving_refusal _ images = Some no_machine
+-- How many images are given back: those of the disks, if these lie in memory of the caller.
+abbrev pub images_of : Bool → State → ℕ
+images_of false k = 0
+images_of true (Still m) = length (disks_in m.devices)
+images_of true (Moving l) = length (disks_in l.machine.devices)
+images_of true (Arriving r) = length (awaited_sizes r)
+images_of true (Lent x) = length (disks_in (parked_in x).devices)
 
--- Why no machine is unmapped. Disks in memory of the library are not given away, and one that arrives over them is no machine yet.
-abbrev pub mapped_refusal_of : State → List Image → Option ℕ
-mapped_refusal_of (Still m) images = slots_refusal (length (disks_in m.devices)) images
-mapped_refusal_of (Moving l) images = slots_refusal (length (disks_in l.machine.devices)) images
-mapped_refusal_of (Arriving r) images = arriving_refusal r images
-mapped_refusal_of (Lent x) images = Some lent
+abbrev pub images_in : KeptSeen → ℕ
+images_in k = images_of k.is_mapped k.state
 
-abbrev pub own_refusal_of : State → Option ℕ
-own_refusal_of (Arriving r) = Some no_machine
-own_refusal_of _ = Some not_mapped
+-- Why nothing is released: its RAM is lent, or these are no slots for the images.
+abbrev pub release_refusal_in : State → Option ℕ → Option ℕ
+release_refusal_in (Lent x) refusal = Some lent
+release_refusal_in _ refusal = refusal
 
-abbrev pub unmap_refusal_of : KeptSeen → List Image → Option ℕ
-unmap_refusal_of k images = if k.is_mapped then mapped_refusal_of k.state images else own_refusal_of k.state
+abbrev pub release_refusal_of : KeptSeen → List Image → Option ℕ
+release_refusal_of k images = release_refusal_in k.state (slots_refusal (images_in k) images)
 
 -- The first slots have what the disks hold over which a machine was to arrive, and the others are of no sectors.
 pub record HasGivenUp (r : Received) (images new_images : List Image) : Type 0 where
@@ -86,18 +84,20 @@ abbrev pub HasUnmappedArrival : ArrivalSeen → List Image → List Image → Ty
 HasUnmappedArrival (Over r) images new_images = HasGivenUp r images new_images
 HasUnmappedArrival _ images new_images = ⊥
 
-abbrev pub HasUnmappedState : State → List Image → List Image → Type 0
-HasUnmappedState (Still m) images new_images = HasUnmapped m images new_images
-HasUnmappedState (Moving l) images new_images = HasUnmapped l.machine images new_images
-HasUnmappedState (Arriving r) images new_images = HasUnmappedArrival r images new_images
-HasUnmappedState (Lent x) images new_images = ⊥
+-- Where there is no image, the slots stay as they are.
+abbrev pub HasReleasedFrom : Bool → State → List Image → List Image → Type 0
+HasReleasedFrom false k images new_images = new_images ≡ images
+HasReleasedFrom true (Still m) images new_images = HasUnmapped m images new_images
+HasReleasedFrom true (Moving l) images new_images = HasUnmapped l.machine images new_images
+HasReleasedFrom true (Arriving r) images new_images = HasUnmappedArrival r images new_images
+HasReleasedFrom true (Lent x) images new_images = ⊥
 
-pub record IsUnmapped (k : KeptSeen) (images new_images : List Image) (status : ℕ) (after : Option KeptSeen) : Type 0 where
+pub record IsReleased (k : KeptSeen) (images new_images : List Image) (status : ℕ) (after : Option KeptSeen) : Type 0 where
   pub status_is : status ≡ done
   pub gone : after ≡ None
-  pub has : HasUnmappedState k.state images new_images
+  pub has : HasReleasedFrom k.is_mapped k.state images new_images
 
--- The machine is gone, and its images are back; or the status says why not, and nothing changed.
-abbrev pub Unmaps : Option KeptSeen → List Image → List Image → ℕ → Option KeptSeen → Type 0
-Unmaps None images new_images status after = RefusesBoth status after None new_images images no_machine
-Unmaps (Some k) images new_images status after = Unless (unmap_refusal_of k images) (RefusesBoth status after (Some k) new_images images) (IsUnmapped k images new_images status after)
+-- What there was is gone, and its images are back; or the status says why not, and nothing changed.
+abbrev pub Releases : Option KeptSeen → List Image → List Image → ℕ → Option KeptSeen → Type 0
+Releases None images new_images status after = RefusesBoth status after None new_images images no_machine
+Releases (Some k) images new_images status after = Unless (release_refusal_of k images) (RefusesBoth status after (Some k) new_images images) (IsReleased k images new_images status after)

@@ -5,7 +5,7 @@ ghost use Rattle.vmig_c.specs.Mirror.{AppliedMirrors, PulledMirrors, PushedMirro
 ghost use Rattle.vmig_c.specs.Plain.{PlainStays, RefusedChangesNothing};
 ghost use Rattle.vmig_c.specs.Refused.{RefusedTellsNothing};
 ghost use Rattle.vmig_c.specs.Stepped.{RefusedStepsNothing};
-ghost use Rattle.vmig_c.specs.Sent.{ArrivedIsSent, CallsStaySent, FailuresStaySent, FirstIsSent, LentComesBackSent, LentTakingsStaySent, ReceivedIsSent, StoppedIsWhole, TakingsStaySent};
+ghost use Rattle.vmig_c.specs.Sent.{ArrivedIsSent, CallsStaySent, FailuresStaySent, FirstIsSent, LentComesBackSent, LentTakingsStaySent, StoppedIsWhole, TakingsStaySent};
 
 /// A machine over disks in memory stays one.
 pub fn plain_stays()
@@ -80,11 +80,6 @@ pub fn stopped_is_whole()
 /// The machine that arrives from these bytes, fed in any pieces, is the one that was stopped.
 pub fn arrived_is_sent()
     ensures { ArrivedIsSent }
-{}
-
-/// So is the machine that is received from all of them at once.
-pub fn received_is_sent()
-    ensures { ReceivedIsSent }
 {}
 
 /// The memory of a caller that has seen no page is a mirror.

@@ -14,7 +14,7 @@ ghost use Rattle.region.specs.Slot.{region_of};
 ghost use Rattle.vmig_c.specs.Kept.{are_mapped, is_loan_mapped, loan_of, parked_in, state_in};
 ghost use Rattle.vmig_c.specs.declared.kept.Contents.TheVariants as contents;
 ghost use Rattle.vmig_c.specs.Lent.{ComesBack, HasComeBack, IsBackWith, IsLiveLoan, IsReturnable, LendsIfOver, LendsKept, back_refusal_of, lend_refusal_of, lent_pages};
-ghost use Rattle.vmig_c.specs.Mirror.{are_pages};
+ghost use Rattle.vmig_c.specs.Named.{are_pages};
 
 use crate::kept::{Contents, Kept, Moving};
 use crate::loan::{Loan, MovingLent};

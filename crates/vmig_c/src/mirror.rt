@@ -11,7 +11,8 @@ ghost use Rattle.guestmem.specs.Memory.{IsMemory};
 ghost use Rattle.guestmem.specs.Page.{page_of};
 ghost use Rattle.guestmem.specs.Write.{put_at};
 ghost use Rattle.guestmem.specs.declared.limits.TheConstants.{PAGES_MAX};
-ghost use Rattle.vmig_c.specs.Mirror.{ArePushed, HasPulled, IsPushable, IsPushed, PullsKept, PushesKept, are_pages, away_status, is_closed, is_away, is_noted, is_short, is_stopped, memory_in, push_refusal};
+ghost use Rattle.vmig_c.specs.Mirror.{ArePushed, HasPulled, IsPushable, IsPushed, PullsKept, PushesKept, away_status, is_closed, is_away, is_noted, is_short, is_stopped, memory_in, push_refusal};
+ghost use Rattle.vmig_c.specs.Named.{are_pages};
 ghost use Rattle.vmig_c.specs.Status.{done};
 ghost use Rattle.vmig_c.specs.Kept as states;
 

@@ -5,7 +5,7 @@
 
 ghost use Rattle.std.specs.Prelude.{◌≡◌, ◌≤◌, ◌*◌, ◌<◌, ◌+◌, ◌/◌, ◌%◌, ℕ, IfOk, IsOk, length, false, true, vec_capacity};
 ghost use Rattle.guestmem.specs.declared.limits.TheConstants.{PAGES_MAX};
-ghost use Rattle.vmig_c.specs.Named.{is_marked, marked, numbers_below};
+ghost use Rattle.vmig_c.specs.Named.{AreBelowTop, is_marked, marked, numbers_below, shifted};
 
 use dirtylog::bit_from;
 use guestmem::NoMemory;
@@ -101,7 +101,7 @@ pub(crate) fn collect_all(count: usize, numbers: &mut Vec<u32>) -> Result<(), No
 /// Adds to each number. They are those of pages of a bitmap that begins at a later page than the first.
 pub(crate) fn shift(numbers: &mut Vec<u32>, first: u32)
     requires { AreBelowTop first numbers.old.items }
-    ensures { numbers.new.items ≡ map (λ n. first + n) numbers.old.items }
+    ensures { numbers.new.items ≡ shifted first numbers.old.items }
 {
     for number in numbers.iter_mut() {
         *number += first;

@@ -1,10 +1,5 @@
 //! Pages that a caller names.
 
-ghost use Rattle.std.specs.Prelude.{◌≡◌, ◌≤◌, None, Some, IfOk, length, nat_lt, true};
-ghost use Rattle.guestmem.specs.declared.limits.TheConstants.{PAGES_MAX};
-ghost use Rattle.vmig_c.specs.Mirror.{are_pages};
-ghost use Rattle.vmig_c.specs.Named.{is_known_pages, named_pages, needs_list, pages_refusal, shifted, span_of};
-
 use crate::device_shape::are_zeros;
 use crate::mirror::are_pages;
 use crate::naming::{WORD_BITS, collect_all, collect_marked, shift};
@@ -37,9 +32,8 @@ pub struct Pages<'a> {
 }
 
 impl Pages<'_> {
-    ghost use Rattle.std.specs.Prelude.{◌≡◌, ◌≤◌, None, Some, IfOk, length, nat_lt, true};
+    ghost use Rattle.std.specs.Prelude.{◌≡◌, ◌≤◌, ◌<◌, ◌^◌, None, IfOk};
     ghost use Rattle.guestmem.specs.declared.limits.TheConstants.{PAGES_MAX};
-    ghost use Rattle.vmig_c.specs.Mirror.{are_pages};
     ghost use Rattle.vmig_c.specs.Named.{is_known_pages, named_pages, needs_list, pages_refusal, span_of};
 
     /// Whether this library knows all that the struct asks for.
@@ -70,7 +64,8 @@ impl Pages<'_> {
     /// How many pages the bitmap covers, of a RAM of so many.
     fn span_of(&self, count: usize) -> usize
         requires { count ≤ PAGES_MAX }
-        ensures { result ≡ span_of self.now count }
+        ensures span { result ≡ span_of self.now count }
+        ensures few { result < 2 ^ 32 }
     {
         if self.span != 0 {
             return self.span as usize;

@@ -3,12 +3,12 @@
 //! It is no event of its own: it is what each driver does when it resets its device, and what the host does that drops what it put in. So
 //! a machine that is being sent goes on as with these calls, and nothing is said of a reset that is not said of them.
 
-ghost use Rattle.std.specs.Prelude.{◌≡◌, ◌<◌, length, map, slice_get};
+ghost use Rattle.std.specs.Prelude.{◌≡◌, ◌<◌, Some, false, length, slice_get};
 ghost use Rattle.machine.specs.Seen.{state_of};
-ghost use Rattle.machine.specs.Shapes.{made_as};
+ghost use Rattle.machine.specs.declared.shape.Shape.{Shape};
 ghost use Rattle.vmig_c.specs.Kept as states;
 ghost use Rattle.vmig_c.specs.Mirror.{is_closed};
-ghost use Rattle.vmig_c.specs.Resetting.{AreDone, ResetsKept, ResetsLive, ResetsStill, has_input, resets_of, shapes_of};
+ghost use Rattle.vmig_c.specs.Resetting.{AreDone, ResetsKept, ResetsLive, ResetsStill, has_input, reset_of, shapes_of};
 
 use crate::kept::{Kept, Moving, by_state};
 use crate::mirror::has_stopped;
@@ -41,7 +41,7 @@ fn reset_still<D: Disk>(machine: &mut Machine<D>) -> u32
 
 fn reset_device<D: Disk>(machine: &mut Machine<D>, dev: u8)
     requires { dev < length (state_of machine.old).devices }
-    ensures done { AreDone (states.Still machine.old) (resets_of dev (shapes_of machine.old)) (states.Still machine.new) }
+    ensures done { (shape : Shape) → slice_get (shapes_of machine.old) dev ≡ Some shape → AreDone (states.Still machine.old) (reset_of dev shape) (states.Still machine.new) }
     ensures shapes { shapes_of machine.new ≡ shapes_of machine.old }
 {
     let shape = machine.state(dev).shape();
@@ -67,7 +67,7 @@ fn reset_moving<D: Disk>(live: &mut Moving<D>) -> u32
 fn reset_live_device<D: Disk>(live: &mut Moving<D>, dev: u8)
     requires there { dev < length (state_of live.old.machine).devices }
     requires going { is_closed live.old.phase ≡ false }
-    ensures done { AreDone (states.Moving live.old) (resets_of dev (shapes_of live.old.machine)) (states.Moving live.new) }
+    ensures done { (shape : Shape) → slice_get (shapes_of live.old.machine) dev ≡ Some shape → AreDone (states.Moving live.old) (reset_of dev shape) (states.Moving live.new) }
     ensures shapes { shapes_of live.new.machine ≡ shapes_of live.old.machine }
     ensures going { is_closed live.new.phase ≡ false }
 {

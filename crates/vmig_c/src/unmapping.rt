@@ -4,9 +4,11 @@
 
 ghost use Rattle.std.specs.Prelude.{◌≡◌, None, Some, length};
 ghost use Rattle.machine.specs.Shapes.{disk_sizes};
-ghost use Rattle.vmig_c.specs.Kept.{are_mapped, kept_of, loan_of, parked_in, state_in};
+ghost use Rattle.vmig_c.specs.Awaited.{awaited_sizes};
+ghost use Rattle.vmig_c.specs.Kept.{are_mapped, kept_of, state_in};
 ghost use Rattle.vmig_c.specs.Mapping.{counts};
-ghost use Rattle.vmig_c.specs.Unmapping.{AreHandedBack, HasReleasedFrom, HasUnmapped, HasUnmappedArrival, are_none, arriving_refusal, disk_in, disks_in, held_by, images_of, release_refusal_of, slots_refusal};
+ghost use Rattle.vmig_c.specs.Named.{are_zeros};
+ghost use Rattle.vmig_c.specs.Unmapping.{AreHandedBack, HasReleasedFrom, HasUnmapped, HasUnmappedArrival, disk_in, disks_in, held_by, images_of, release_refusal_of, slots_refusal};
 
 use crate::kept::{Contents, Kept};
 use crate::landing::Landing;
@@ -30,7 +32,6 @@ pub(crate) fn release_refusal(kept: &Kept, images: &mut [Image]) -> Option<u32>
 }
 
 /// How many images are given back by a release.
-#[tactic(auto, using(crate::proofs::Landings::slots_for))]
 pub(crate) fn image_count(contents: &Contents) -> usize
     ensures { result ≡ images_of (are_mapped contents.now) (state_in contents.now) }
 {
@@ -61,7 +62,7 @@ fn slots_refusal(disks: usize, images: &mut [Image]) -> Option<u32>
 /// Whether no image has a sector.
 fn are_none(images: &mut [Image]) -> bool
     ensures same { images.new ≡ images.old }
-    ensures none { result ≡ are_none (counts images.old) }
+    ensures none { result ≡ are_zeros (counts images.old) }
 {
     for at in 0..images.len() {
         if images[at].count() != 0 {
@@ -127,7 +128,7 @@ fn hand_back(machine: Machine<MappedDisk>, images: &mut [Image])
 
 /// Ends an arrival, and puts its images into the slots.
 fn give_up(landing: Landing, images: &mut [Image])
-    requires { arriving_refusal landing images.old ≡ None }
+    requires { slots_refusal (length (awaited_sizes landing)) images.old ≡ None }
     ensures { HasUnmappedArrival landing images.old images.new }
 {
     let disks = landing.into_disks();
