@@ -9,7 +9,9 @@ use crate::raw;
 /// What the first bytes of a stream announce.
 #[derive(Clone, Debug, PartialEq, Eq)]
 pub struct Announced {
+    /// The pages of its RAM.
     pub pages: u32,
+    /// Its devices, in their order.
     pub devices: Vec<Device>,
 }
 

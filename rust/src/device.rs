@@ -7,10 +7,14 @@ use crate::raw;
 #[derive(Clone, Copy, Debug, PartialEq, Eq)]
 pub enum Device {
     /// A network device with this MAC.
-    Network { mac: [u8; 6] },
+    Network {
+        /// The address of its card.
+        mac: [u8; 6],
+    },
 
     /// A block device of 1 to 2,097,152 sectors of 512 bytes.
     Block {
+        /// Its sectors.
         sectors: u64,
         /// Whether the driver may only read it.
         read_only: bool,

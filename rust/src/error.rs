@@ -198,7 +198,9 @@ impl std::error::Error for Error {}
 /// A call that was refused, and the value that it took, as it was: a machine with its guest, a loan or memory. So it does not become an
 /// [`Error`] by itself, which would drop the value.
 pub struct Refused<T> {
+    /// Why it was refused.
     pub error: Error,
+    /// The value.
     pub value: T,
 }
 
