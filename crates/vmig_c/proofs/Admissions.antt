@@ -1,7 +1,9 @@
 -- Limits on what arrives.
-use Rattle.std.proofs.Common.{◌≡◌, ℕ, ◌+◌, ◌-◌, ◌<◌, ◌≤◌, nat_lt, Bool, true, false, List, [], ◌++◌, ◌⊎◌, drop, length, refl, sym, ap, ◌∙◌, arith, inl, inr, get_or}
+use Rattle.std.proofs.Common.{◌≡◌, ◌≢◌, ℕ, ◌+◌, ◌-◌, ◌<◌, ◌≤◌, ◌&&◌, nat_lt, Bool, true, false, List, [], ◌∷◌, ◌++◌, ◌⊎◌, drop, length, refl, sym, ap, ◌∙◌, arith, inl, inr, get_or}
+use Prim.Native.Nat.{suc}
+use Rattle.std.specs.Prelude.{None, Some}
 use Rattle.std.proofs.lemmas.Bool.Decides.{nat_tests}
-use Rattle.std.proofs.lemmas.List.{append-nil, append_assoc, drop_more}
+use Rattle.std.proofs.lemmas.List.{append-nil, append_assoc, drop_all, drop_more}
 use Rattle.machine.specs.Shapes.{sector_count}
 use Rattle.machine.specs.declared.shape.Shape.{Shape}
 use Rattle.wire.specs.Header.{Begins, Opening}
@@ -9,7 +11,7 @@ use Rattle.receiver.specs.Faults.{IsHeaderFault, TellsHead}
 use Rattle.receiver.specs.declared.ram_terms.RamTerms.{RamTerms}
 use Rattle.receiver.specs.declared.recv_error.RecvError.{RecvError}
 use Rattle.receiver.specs.declared.recv_error.RecvError.TheVariants.{NoMemory}
-use Rattle.vmig_c.specs.Admission.{IsAdmitted, IsFaultyHead, IsTooLarge, is_within}
+use Rattle.vmig_c.specs.Admission.{IsAdmitted, IsFaultyHead, IsUnfit, are_expected, are_same_shapes, is_same_shape, stream_refusal}
 use Rattle.vmig_c.specs.Awaited.{stream_status}
 use Rattle.vmig_c.specs.Images.{sectors_in}
 use Rattle.vmig_c.specs.declared.admission.Limits.{Limits}
@@ -46,17 +48,54 @@ begins_longer bytes more opening rest begins = record {
 }
 
 -- What the first bytes show is so of all.
-pub admitted : (limits : Limits) (bytes front more : List ℕ) (opening : Opening) (rest : List ℕ) → front ++ more ≡ bytes → Begins front opening rest → is_within limits opening.pages opening.shapes ≡ true → IsAdmitted limits bytes
-admitted limits bytes front more opening rest all begins within = rw (← all) (record { opening = opening; rest = rest ++ more; begins = begins_longer front more opening rest begins; within = within })
+pub admitted : (limits : Limits) (expected : List Shape) (bytes front more : List ℕ) (opening : Opening) (rest : List ℕ) → front ++ more ≡ bytes → Begins front opening rest → stream_refusal limits expected opening.pages opening.shapes ≡ None
+    → IsAdmitted limits expected bytes opening.pages opening.shapes
+admitted limits expected bytes front more opening rest all begins fits =
+    rw (← all) (record { opening = opening; rest = rest ++ more; begins = begins_longer front more opening rest begins; fits = fits; pages_are = refl; shapes_are = refl })
 
-pub too_large : (limits : Limits) (bytes front more : List ℕ) (opening : Opening) (rest : List ℕ) → front ++ more ≡ bytes → Begins front opening rest → is_within limits opening.pages opening.shapes ≡ false
-    → IsTooLarge limits bytes 49 ⊎ IsFaultyHead bytes 49
-too_large limits bytes front more opening rest all begins beyond =
-    rw (← all) (inl (record { opening = opening; rest = rest ++ more; begins = begins_longer front more opening rest begins; beyond = beyond; status_is = refl }))
+pub unfit : (limits : Limits) (expected : List Shape) (bytes front more : List ℕ) (opening : Opening) (rest : List ℕ) (status : ℕ) → front ++ more ≡ bytes → Begins front opening rest → stream_refusal limits expected opening.pages opening.shapes ≡ Some status
+    → (status ≡ status) × (IsUnfit limits expected bytes status ⊎ IsFaultyHead bytes status)
+unfit limits expected bytes front more opening rest status all begins refused =
+    (refl, rw (← all) (inl (record { opening = opening; rest = rest ++ more; begins = begins_longer front more opening rest begins; refused = refused })))
 
-pub faulty : (limits : Limits) (bytes front more : List ℕ) (error : RecvError) (status : ℕ) → front ++ more ≡ bytes → TellsHead error ((ram : RamTerms) (sizes : List ℕ) → (at : ℕ) × IsHeaderFault ram sizes front error at) → status ≡ stream_status error
-    → IsTooLarge limits bytes status ⊎ IsFaultyHead bytes status
-faulty limits bytes front more error status all why is = inr (record { front = front; rest = more; are = sym all; refused = record { error = error; status_is = is; why = why } })
+pub faulty : (limits : Limits) (expected : List Shape) (bytes front more : List ℕ) (error : RecvError) (status : ℕ) → front ++ more ≡ bytes → TellsHead error ((ram : RamTerms) (sizes : List ℕ) → (at : ℕ) × IsHeaderFault ram sizes front error at) → status ≡ stream_status error
+    → (status ≡ status) × (IsUnfit limits expected bytes status ⊎ IsFaultyHead bytes status)
+faulty limits expected bytes front more error status all why is = (refl, inr (record { front = front; rest = more; are = sym all; refused = record { error = error; status_is = is; why = why } }))
 
-pub full : (limits : Limits) (bytes : List ℕ) (status : ℕ) → status ≡ stream_status NoMemory → IsTooLarge limits bytes status ⊎ IsFaultyHead bytes status
-full limits bytes status is = faulty limits bytes bytes [] NoMemory status (append-nil bytes) tt is
+pub full : (limits : Limits) (expected : List Shape) (bytes : List ℕ) (status : ℕ) → status ≡ stream_status NoMemory → (status ≡ status) × (IsUnfit limits expected bytes status ⊎ IsFaultyHead bytes status)
+full limits expected bytes status is = faulty limits expected bytes bytes [] NoMemory status (append-nil bytes) tt is
+
+not_both : (a b : Bool) → b ≡ false → (a && b) ≡ false
+not_both true b is = is
+not_both false b is = refl
+
+-- Devices that are compared one after another.
+pub same_more : (a b : List Shape) (i : ℕ) (d e : Shape) (all : Bool) → i < length a → length a ≡ length b → are_same_shapes (drop i a) (drop i b) ≡ all → is_same_shape (get_or a i d) (get_or b i e) ≡ true → are_same_shapes (drop (i + 1) a) (drop (i + 1) b) ≡ all
+same_more a b i d e all below size so_far same =
+    let first : drop i a ≡ get_or a i d ∷ drop (i + 1) a = drop_more a i d below in
+    let second : drop i b ≡ get_or b i e ∷ drop (i + 1) b = drop_more b i e (omega (arith, below, size)) in
+    rw (first, second, same) at so_far
+
+pub other_here : (a b : List Shape) (i : ℕ) (d e : Shape) (all : Bool) → i < length a → length a ≡ length b → are_same_shapes (drop i a) (drop i b) ≡ all → is_same_shape (get_or a i d) (get_or b i e) ≡ false → false ≡ all
+other_here a b i d e all below size so_far same =
+    let first : drop i a ≡ get_or a i d ∷ drop (i + 1) a = drop_more a i d below in
+    let second : drop i b ≡ get_or b i e ∷ drop (i + 1) b = drop_more b i e (omega (arith, below, size)) in
+    rw (first, second, same) at so_far
+
+pub all_same : (a b : List Shape) (i : ℕ) (all : Bool) → length a ≤ i → length a ≡ length b → are_same_shapes (drop i a) (drop i b) ≡ all → true ≡ all
+all_same a b i all past size so_far = rw (drop_all i a past, drop_all i b (omega (arith, past, size))) at so_far
+
+-- Lists of another length are no same ones.
+pub not_as_long : (a b : List Shape) → length a ≢ length b → are_same_shapes a b ≡ false
+not_as_long [] [] other = absurd (other refl)
+not_as_long [] (t ∷ b) other = refl
+not_as_long (s ∷ a) [] other = refl
+not_as_long (s ∷ a) (t ∷ b) other = not_both (is_same_shape s t) (are_same_shapes a b) (not_as_long a b (λ same. other (ap suc same)))
+
+pub some_expected : (a b : List Shape) → length a ≢ 0 → are_expected a b ≡ are_same_shapes a b
+some_expected [] b some = absurd (some refl)
+some_expected (s ∷ a) b some = refl
+
+pub none_expected : (a b : List Shape) → length a ≡ 0 → are_expected a b ≡ true
+none_expected [] b none = refl
+none_expected (s ∷ a) b none = absurd cc

@@ -1,21 +1,25 @@
 -- The calls of an arrival, by cases on the handle.
-use Rattle.std.proofs.Common.{◌≡◌, ℕ, false, List, refl, ap, ◌∙◌, subst, true≢false, inl, inr}
+use Rattle.std.proofs.Common.{◌≡◌, ℕ, false, List, ap, ◌∙◌, subst, true≢false}
 use Rattle.std.specs.Prelude.{Option, Some, None, is_some}
-use Rattle.vmig_c.specs.Arriving.{DoesFed, Fed, FeedsKept}
-use Rattle.vmig_c.specs.Awaited.{nothing_fed}
-use Rattle.vmig_c.specs.Kept.{KeptSeen, own, Arriving}
+use Rattle.vmig_c.specs.Arriving.{DoesFed, DoesFinish, Fed, FeedsKept, Finished, FinishesKept, fed_after}
+use Rattle.vmig_c.specs.Kept.{KeptSeen}
+use Rattle.std.proofs.Common.{refl}
 
-pub fed_full : (k after : Option KeptSeen) (piece : List ℕ) → is_some k ≡ false → after ≡ k → Fed k piece 10 after
-fed_full None after piece is same = inr (refl, same)
-fed_full (Some m) after piece is same = absurd (true≢false is)
+pub fed_none : (k after : Option KeptSeen) (piece : List ℕ) → is_some k ≡ false → after ≡ k → Fed k piece 8 after
+fed_none None after piece is same = (refl, same)
+fed_none (Some m) after piece is same = absurd (true≢false is)
 
-pub fed_first : (k after : Option KeptSeen) (m next : KeptSeen) (piece : List ℕ) (status : ℕ) → is_some k ≡ false → m ≡ own (Arriving (nothing_fed 0)) → after ≡ Some next
-    → next ≡ record m { state = next.state; admission = next.admission } → FeedsKept m.admission m.state piece status next.admission next.state → Fed k piece status after
-fed_first None after m next piece status is first becomes kind does =
-    inl (subst (λ (x : KeptSeen). DoesFed x piece status after) first (record { next = next.state; admission = next.admission; is_next = becomes ∙ ap Some kind; does = does }))
-fed_first (Some old) after m next piece status is first becomes kind does = absurd (true≢false is)
+pub fed_some : (k after : Option KeptSeen) (m next : KeptSeen) (piece : List ℕ) (status : ℕ) → Some m ≡ k → after ≡ Some next → next ≡ record m { state = next.state; admission = next.admission; fed = next.fed }
+    → next.fed ≡ fed_after status m.fed piece → FeedsKept m.admission m.state piece status next.admission next.state → Fed k piece status after
+fed_some k after m next piece status is becomes kind counts does =
+    let fed : next ≡ record m { state = next.state; admission = next.admission; fed = fed_after status m.fed piece } = kind ∙ ap (λ (n : ℕ). record m { state = next.state; admission = next.admission; fed = n }) counts in
+    subst (λ (o : Option KeptSeen). Fed o piece status after) is (record { next = next.state; admission = next.admission; is_next = becomes ∙ ap Some fed; does = does })
 
-pub fed_some : (k after : Option KeptSeen) (m next : KeptSeen) (piece : List ℕ) (status : ℕ) → Some m ≡ k → after ≡ Some next → next ≡ record m { state = next.state; admission = next.admission }
-    → FeedsKept m.admission m.state piece status next.admission next.state → Fed k piece status after
-fed_some k after m next piece status is becomes kind does =
-    subst (λ (o : Option KeptSeen). Fed o piece status after) is (record { next = next.state; admission = next.admission; is_next = becomes ∙ ap Some kind; does = does })
+pub finished_none : (k after : Option KeptSeen) → is_some k ≡ false → after ≡ k → Finished k 8 after
+finished_none None after is same = (refl, same)
+finished_none (Some m) after is same = absurd (true≢false is)
+
+pub finished_some : (k after : Option KeptSeen) (m next : KeptSeen) (status : ℕ) → Some m ≡ k → after ≡ Some next → next ≡ record m { state = next.state; admission = next.admission }
+    → FinishesKept m.admission m.state status next.admission next.state → Finished k status after
+finished_some k after m next status is becomes kind does =
+    subst (λ (o : Option KeptSeen). Finished o status after) is (record { next = next.state; admission = next.admission; is_next = becomes ∙ ap Some kind; does = does })

@@ -1,6 +1,8 @@
 -- Machines whose streams arrive in pieces.
 use Rattle.std.proofs.Common.{◌≡◌, ℕ, Bool, true, false, List, [], ◌∷◌, ◌++◌, refl, sym, ap, ◌∙◌, subst, map, length, take, drop, inl, inr, append_assoc, append-nil, arith, true≢false}
-use Rattle.std.specs.Prelude.{IsTrue, IfErr, IfOk, Result, Ok, Err, slice_get}
+use denote.RawPtr.{Ptr}
+use Rattle.std.specs.Prelude.{IsTrue, IfErr, IfOk, Result, Ok, Err, Option, Some, None, slice_get}
+use Rattle.guestmem.specs.Memory.{Memory}
 use Rattle.std.proofs.lemmas.List.{length-append, take-append-drop}
 use Rattle.std.proofs.lemmas.List.Elements.{All-map}
 use Rattle.std.proofs.lemmas.Option.{slice_get-map}
@@ -19,11 +21,11 @@ use Rattle.receiver.specs.declared.recv_error.RecvError.{RecvError}
 use Rattle.receiver.specs.declared.recv_error.RecvError.TheVariants.{BadMagic, BadVersion, BadShape, ShapeMismatch, BadTag, BadPage, BadSector, BadRound, BadDevice, BadDigest, Missing, Trailing, Truncated, DiskFailed, NoMemory, AlreadyFailed}
 use Rattle.receiver.proofs.Heads.{no_header_fault}
 use Rattle.receiver.proofs.Prefixes.{header_stays, stays}
-use Rattle.receiver.specs.Faults.{Fault, IsHeaderFault}
+use Rattle.receiver.specs.Faults.{Fault, IsHeaderFault, TellsHead, WaitsHead}
 use Rattle.receiver.specs.Opened.{ram_at, said_by}
 use Rattle.receiver.specs.declared.ram_terms.RamTerms.{RamTerms}
 use Rattle.vmig_c.specs.ArrivalSeen.{ArrivalSeen, AtHead, AtBody, Refused, Over}
-use Rattle.vmig_c.specs.Awaited.{AreSteady, CountsRounds, GoesOnWith, IsClosed, HasArrived, HasCome, IsFaulty, IsFed, IsFedTo, IsWholeIf, TellsEnd, TellsOf, TellsWhole, TellsWhy, awaited_by, awaited_ram, IsComing, IsAtHead}
+use Rattle.vmig_c.specs.Awaited.{AreSteady, CountsRounds, GoesOnWith, IsClosed, HasArrived, HasCome, IsFaulty, IsFed, IsFedTo, IsWholeIf, TellsEnd, TellsOf, TellsWhole, TellsWhy, awaited_base, awaited_by, awaited_place, awaited_ram, place_for, terms_for, IsComing, IsAtHead}
 use Rattle.vmig_c.specs.declared.arrival.Progress.{Progress}
 use Rattle.vmig_c.specs.declared.arrival.Progress.TheVariants.{Head, Body, Failed}
 use Rattle.vmig_c.specs.Headed.{AreFitting, HasHeader, HasNoHeader}
@@ -86,8 +88,8 @@ more_come r next piece b ram sizes fed quiet h =
     let header : HasHeader (b ++ piece) next.sizes = rw sizes (longer b piece r.sizes h.1) in
     record { come = (fed b h.0, header); fit = inl header; quiet = rw (ram, sizes) (quiet b h.0) }
 
-pub more_fed : (r next : Received) (piece : List ℕ) → next.ram ≡ r.ram → next.sizes ≡ r.sizes → ((b : List ℕ) → HasBeenFed r b → HasBeenFed next (b ++ piece)) → ((b : List ℕ) → HasBeenFed r b → NoFault r.ram r.sizes (b ++ piece)) → IsFed (AtBody r) piece (AtBody next)
-more_fed r next piece ram sizes fed quiet = record { went_on = tt; goes_on = λ b h. more_come r next piece b ram sizes fed quiet h; ram = ram; place = tt }
+pub more_fed : (r next : Received) (piece : List ℕ) → next.ram ≡ r.ram → next.place ≡ r.place → next.sizes ≡ r.sizes → ((b : List ℕ) → HasBeenFed r b → HasBeenFed next (b ++ piece)) → ((b : List ℕ) → HasBeenFed r b → NoFault r.ram r.sizes (b ++ piece)) → IsFed (AtBody r) piece (AtBody next)
+more_fed r next piece ram place sizes fed quiet = record { went_on = tt; goes_on = λ b h. more_come r next piece b ram sizes fed quiet h; ram = ram; place = place }
 
 pub more_refused : (r : Received) (new : List Marks) (piece : List ℕ) (e : RecvError) → AreSteady r → MarksRefused r.marks e new → ((b : List ℕ) → HasBeenFed r b → TellsNow r.ram r.sizes b piece e) → TellsOf (AtBody r) piece e
 more_refused r new piece e steady marks tells = λ b h. told r.ram r.sizes b piece e (inl (longer b piece r.sizes h.1)) (tells b h.0) (never_failed r new e steady marks)
@@ -105,16 +107,21 @@ pub rest_refused : (result : Result Progress RecvError) (ram : RamTerms) (r : Re
 rest_refused (Ok next) ram r front rest bytes is begun all h = tt
 rest_refused (Err e) ram r front rest bytes is begun all h = subst (λ (n : RamTerms). TellsWhy n bytes e) is (subst (λ (b : List ℕ). TellsWhy r.ram b e) all (h front begun.come))
 
+pub rest_placed : (result : Result Progress RecvError) (place : Option Ptr) (r : Received) (rest : List ℕ) → r.place ≡ place → IfOk result (λ next. IsFed (AtBody r) rest (awaited_by next)) → IfOk result (λ next. awaited_place (awaited_by next) ≡ place)
+rest_placed (Ok next) place r rest is h = h.place ∙ is
+rest_placed (Err e) place r rest is h = tt
+
 pub rest_based : (result : Result Progress RecvError) (ram : RamTerms) (r : Received) (rest : List ℕ) → r.ram ≡ ram → IfOk result (λ next. IsFed (AtBody r) rest (awaited_by next)) → IfOk result (λ next. awaited_ram (awaited_by next) ≡ ram)
 rest_based (Ok next) ram r rest is h = h.ram ∙ is
 rest_based (Err e) ram r rest is h = tt
 
 -- A new receiver is fed all bytes.
-pub all_fed : (ram : RamTerms) (r next : Received) (bytes sizes : List ℕ) → HasBeenFed r [] → r.ram ≡ ram → next.ram ≡ r.ram → r.sizes ≡ sizes → next.sizes ≡ r.sizes → AreSteady r → next.marks ≡ r.marks → ((b : List ℕ) → HasBeenFed r b → HasBeenFed next (b ++ bytes))
-    → ((b : List ℕ) → HasBeenFed r b → NoFault r.ram r.sizes (b ++ bytes)) → IsFedTo ram sizes bytes next
-all_fed ram r next bytes sizes first based alike are same steady marks fed quiet = record {
+pub all_fed : (ram : RamTerms) (place : Option Ptr) (r next : Received) (bytes sizes : List ℕ) → HasBeenFed r [] → r.ram ≡ ram → next.ram ≡ r.ram → r.place ≡ place → next.place ≡ r.place → r.sizes ≡ sizes → next.sizes ≡ r.sizes → AreSteady r → next.marks ≡ r.marks → ((b : List ℕ) → HasBeenFed r b → HasBeenFed next (b ++ bytes))
+    → ((b : List ℕ) → HasBeenFed r b → NoFault r.ram r.sizes (b ++ bytes)) → IsFedTo ram place sizes bytes next
+all_fed ram place r next bytes sizes first based alike there stays are same steady marks fed quiet = record {
   fed = fed [] first;
   ram_is = alike ∙ based;
+  place_is = stays ∙ there;
   sizes_are = same ∙ are;
   steady = rw (same, marks) steady;
   quiet = rw (← based, ← are) (quiet [] first);
@@ -124,8 +131,8 @@ pub all_refused : (ram : RamTerms) (r : Received) (new : List Marks) (bytes size
 all_refused ram r new bytes sizes e first based are steady fit marks tells = subst (λ (n : RamTerms). TellsWhy n bytes e) based (told r.ram r.sizes [] bytes e (rw are fit) (tells [] first) (never_failed r new e steady marks))
 
 -- The header was found, or not.
-pub begun_coming : (ram : RamTerms) (r : Received) (bytes : List ℕ) (opening : Opening) (rest : List ℕ) → Begins bytes opening rest → IsFedTo ram (disk_sizes opening.shapes) bytes r → GoesOnWith bytes (AtBody r)
-begun_coming ram r bytes opening rest begins h =
+pub begun_coming : (ram : RamTerms) (place : Option Ptr) (r : Received) (bytes : List ℕ) (opening : Opening) (rest : List ℕ) → Begins bytes opening rest → IsFedTo ram place (disk_sizes opening.shapes) bytes r → GoesOnWith bytes (AtBody r)
+begun_coming ram place r bytes opening rest begins h =
     let header : HasHeader bytes r.sizes = record { opening = opening; rest = rest; begins = begins; sizes_are = h.sizes_are } in
     record { come = (h.fed, header); fit = inl header; quiet = rw (h.ram_is, h.sizes_are) (h.quiet) }
 
@@ -140,29 +147,29 @@ headless bytes none m s =
     let front : List ℕ = texts s.entries ++ device_texts 0 m.devices in
     none opening _ (record { good = pages_limits s.version m s.by.known s.by.sound; whole = s.by.whole ∙ append_assoc head front _ })
 
-pub head_ends : (base : ℕ) (held : List ℕ) → HasNoHeader held → TellsEnd (AtHead base held) Truncated
-head_ends base held none = λ b is m. headless b (subst HasNoHeader (sym is) none) m
+pub head_ends : (ram : RamTerms) (place : Option Ptr) (held : List ℕ) → HasNoHeader held → TellsEnd (AtHead ram place held) Truncated
+head_ends ram place held none = λ b is m. headless b (subst HasNoHeader (sym is) none) m
 
 -- The end of a stream whose header was read.
 pub honest_marks : (sizes : List ℕ) → AreHonestDisks (map (λ (n : ℕ). no_marks) sizes)
 honest_marks sizes = All-map (λ (k : Marks). IsTrue k.honest) (λ (n : ℕ). no_marks) sizes (λ k n below. refl)
 
-pub arrived : (r : Received) (m : Seen) → AreSteady r → (AreHonestDisks r.marks → (b : List ℕ) → HasBeenFed r b → IsStream b (state_of m)) → all_marks m ≡ dealt_marks (shapes_in (state_of m).devices) r.marks → base_of (state_of m).devices ≡ r.ram.base → HasArrived (AtBody r) m
-arrived r m steady received marks based =
+pub arrived : (r : Received) (m : Seen) → AreSteady r → (AreHonestDisks r.marks → (b : List ℕ) → HasBeenFed r b → IsStream b (state_of m)) → all_marks m ≡ dealt_marks (shapes_in (state_of m).devices) r.marks → base_of (state_of m).devices ≡ r.ram.base → m.memory.place ≡ r.place → HasArrived (AtBody r) m
+arrived r m steady received marks based place =
     let shapes = shapes_in (state_of m).devices in
     let over : all_marks m ≡ dealt_marks shapes (map (λ (n : ℕ). no_marks) r.sizes) = marks ∙ ap (λ (l : List Marks). dealt_marks shapes l) steady in
     record {
       went_on = tt;
       stream = λ b h. received (rw steady (honest_marks r.sizes)) b h.0;
       base = based;
-      place = tt;
+      place = place;
       plain = as_many no_marks (λ (d : DeviceSeen). d.marks) m.devices shapes (over ∙ alike shapes r.sizes);
     }
 
 pub arrived_if : (r : Received) (result : Result Seen RecvError) → AreSteady r → IfOk result (λ m. AreHonestDisks r.marks → (b : List ℕ) → HasBeenFed r b → IsStream b (state_of m))
-    → IfOk result (λ m. all_marks m ≡ dealt_marks (shapes_in (state_of m).devices) r.marks) → IfOk result (λ m. base_of (state_of m).devices ≡ r.ram.base) → IfOk result (λ m. HasArrived (AtBody r) m)
-arrived_if r (Ok m) steady received marks based = arrived r m steady received marks based
-arrived_if r (Err e) steady received marks based = tt
+    → IfOk result (λ m. all_marks m ≡ dealt_marks (shapes_in (state_of m).devices) r.marks) → IfOk result (λ m. base_of (state_of m).devices ≡ r.ram.base) → IfOk result (λ m. m.memory.place ≡ r.place) → IfOk result (λ m. HasArrived (AtBody r) m)
+arrived_if r (Ok m) steady received marks based place = arrived r m steady received marks based place
+arrived_if r (Err e) steady received marks based place = tt
 
 pub not_arrived_if : (r : Received) (result : Result Seen RecvError) → IfErr result (λ e. e ≡ end_error r.failed) → IfErr result (λ e. (b : List ℕ) → HasBeenFed r b → IsFinish b e) → IfErr result (λ e. TellsEnd (AtBody r) e × IsClosed (AtBody r) Refused)
 not_arrived_if r (Ok m) told why = tt
@@ -172,8 +179,8 @@ not_arrived_if r (Err e) told why = ((told, λ b h. why b h.0), refl)
 pub body_counts : (r : Received) (n : ℕ) → ((b : List ℕ) → HasBeenFed r b → HasRounds r.ram r.sizes b n) → CountsRounds (AtBody r) n
 body_counts r n rounds = λ b h. rounds b h.0
 
-pub head_counts : (base : ℕ) (held : List ℕ) → HasNoHeader held → CountsRounds (AtHead base held) 0
-head_counts base held none = λ b is. record { none = λ _. refl; some = λ opening before tail front last. absurd (subst HasNoHeader (sym is) none (said_by opening) _ front.begins) }
+pub head_counts : (ram : RamTerms) (place : Option Ptr) (held : List ℕ) → HasNoHeader held → CountsRounds (AtHead ram place held) 0
+head_counts ram place held none = λ b is. record { none = λ _. refl; some = λ opening before tail front last. absurd (subst HasNoHeader (sym is) none (said_by opening) _ front.begins) }
 
 -- Whether it is whole.
 whole_if : (whole : Bool) (ram : RamTerms) (sizes b : List ℕ) → (whole ≡ true → IsWholeFor ram sizes b) → (whole ≡ false → ¬ (IsWholeFor ram sizes b)) → IsWholeIf whole ram sizes b
@@ -187,23 +194,32 @@ pub over_whole : (r : Received) (whole : Bool) → (whole ≡ true → (b : List
     → TellsWhole (Over r) whole
 over_whole r whole is lacks failed = (failed, λ b h. whole_if whole r.ram r.sizes b (λ yes. is yes b h) (λ no. lacks no b h))
 
-pub head_whole : (base : ℕ) (held : List ℕ) → HasNoHeader held → TellsWhole (AtHead base held) false
-head_whole base held none = λ b is whole. subst HasNoHeader (sym is) none (said_by whole.opening) _ whole.front.begins
+pub head_whole : (ram : RamTerms) (place : Option Ptr) (held : List ℕ) → HasNoHeader held → TellsWhole (AtHead ram place held) false
+head_whole ram place held none = λ b is whole. subst HasNoHeader (sym is) none (said_by whole.opening) _ whole.front.begins
 
 pub not_whole : (p : Progress) (a : ArrivalSeen) → IsComing p → awaited_by p ≡ a → IsAtHead (awaited_by p) → TellsWhole a false
-not_whole (Head base held) a coming view at = subst (λ (x : ArrivalSeen). TellsWhole x false) view (head_whole base held.items coming)
+not_whole (Head base ram held) a coming view at = subst (λ (x : ArrivalSeen). TellsWhole x false) view (head_whole (terms_for base ram) (place_for ram) held.items coming)
 not_whole (Body r) a coming view at = absurd at
 not_whole Failed a coming view at = absurd at
 
+-- The address at which RAM will begin.
+pub based_at : (base : ℕ) (ram : Option Memory) → base ≡ (terms_for base ram).base
+based_at base None = refl
+based_at base (Some ram) = refl
+
+no_fault_in : (ram : RamTerms) (sizes bytes : List ℕ) (k : RecvError) (at : ℕ) → WaitsHead bytes → ¬ (Fault ram sizes bytes k at)
+no_fault_in ram sizes bytes k at waits (inl h) = waits.no_fault ram sizes k at h
+no_fault_in ram sizes bytes k at waits (inr h) = waits.no_header (said_by h.opening) _ h.front.begins
+
 -- A header that is not whole.
-pub head_goes_on : (base : ℕ) (held : List ℕ) (r : Received) → HasNoHeader held → IsFedTo (ram_at base) [] held r → GoesOnWith held (AtHead base held)
-head_goes_on base held r none h = record { come = refl; fit = inr none; quiet = h.quiet }
+pub head_goes_on : (ram : RamTerms) (place : Option Ptr) (held : List ℕ) → WaitsHead held → GoesOnWith held (AtHead ram place held)
+head_goes_on ram place held waits = record { come = refl; fit = inr waits.no_header; quiet = λ k at fault. no_fault_in ram [] held k at waits fault }
 
-pub head_fed : (base : ℕ) (held piece : List ℕ) (next : ArrivalSeen) → awaited_ram next ≡ ram_at base → GoesOnWith (held ++ piece) next → IsFed (AtHead base held) piece next
-head_fed base held piece next based h = record { went_on = tt; goes_on = λ b is. subst (λ (x : List ℕ). GoesOnWith (x ++ piece) next) (sym is) h; ram = based; place = tt }
+pub head_fed : (ram : RamTerms) (place : Option Ptr) (held piece : List ℕ) (next : ArrivalSeen) → awaited_ram next ≡ ram → awaited_place next ≡ place → GoesOnWith (held ++ piece) next → IsFed (AtHead ram place held) piece next
+head_fed ram place held piece next based there h = record { went_on = tt; goes_on = λ b is. subst (λ (x : List ℕ). GoesOnWith (x ++ piece) next) (sym is) h; ram = based; place = there }
 
-pub head_refused : (base : ℕ) (held piece : List ℕ) (e : RecvError) → TellsWhy (ram_at base) (held ++ piece) e → TellsOf (AtHead base held) piece e
-head_refused base held piece e h = λ b is. subst (λ (x : List ℕ). TellsWhy (ram_at base) (x ++ piece) e) (sym is) h
+pub head_refused : (ram : RamTerms) (place : Option Ptr) (held piece : List ℕ) (e : RecvError) → TellsWhy ram (held ++ piece) e → TellsOf (AtHead ram place held) piece e
+head_refused ram place held piece e h = λ b is. subst (λ (x : List ℕ). TellsWhy ram (x ++ piece) e) (sym is) h
 
 pub empty_head : (opening : Opening) (rest : List ℕ) → ¬ (Begins [] opening rest)
 empty_head opening rest begins = omega (arith, ap (λ (l : List ℕ). length l) begins.whole, length-append (header opening) rest, length_header opening)
@@ -232,9 +248,6 @@ told_longer ram bytes rest sizes Trailing header t = faulty_longer ram bytes res
 told_longer ram bytes rest sizes Truncated header t = faulty_longer ram bytes rest sizes Truncated header t
 told_longer ram bytes rest sizes DiskFailed header t = faulty_longer ram bytes rest sizes DiskFailed header t
 told_longer ram bytes rest sizes AlreadyFailed header t = faulty_longer ram bytes rest sizes AlreadyFailed header t
-
-pub told_of_all : (ram : RamTerms) (bytes : List ℕ) (e : RecvError) → ((rest : List ℕ) → TellsWhy ram (bytes ++ rest) e) → TellsWhy ram bytes e
-told_of_all ram bytes e t = rw append-nil at (t [])
 
 -- A fault in bytes that begin with no header is one of all longer bytes.
 other_sizes : (ram : RamTerms) (sizes others bytes : List ℕ) (e : RecvError) (at : ℕ) → HasNoHeader bytes → IsHeaderFault ram sizes bytes e at → IsHeaderFault (ram_at 0) others bytes e at
@@ -266,23 +279,27 @@ still_headless ram sizes bytes rest e at none f opening more begins =
 faulty_headless : (ram : RamTerms) (bytes rest : List ℕ) (e : RecvError) → HasNoHeader bytes → IsFaulty ram bytes e → IsFaulty ram (bytes ++ rest) e
 faulty_headless ram bytes rest e none f = record { sizes = f.sizes; fit = inr (still_headless ram f.sizes bytes rest e f.at none f.fault); at = f.at; fault = stays ram f.sizes bytes rest e f.at f.fault }
 
-pub told_headless : (ram : RamTerms) (bytes rest : List ℕ) (e : RecvError) → HasNoHeader bytes → TellsWhy ram bytes e → TellsWhy ram (bytes ++ rest) e
-told_headless ram bytes rest BadMagic none t = faulty_headless ram bytes rest BadMagic none t
-told_headless ram bytes rest BadVersion none t = faulty_headless ram bytes rest BadVersion none t
-told_headless ram bytes rest BadShape none t = faulty_headless ram bytes rest BadShape none t
-told_headless ram bytes rest ShapeMismatch none t = faulty_headless ram bytes rest ShapeMismatch none t
-told_headless ram bytes rest BadTag none t = faulty_headless ram bytes rest BadTag none t
-told_headless ram bytes rest BadPage none t = faulty_headless ram bytes rest BadPage none t
-told_headless ram bytes rest BadSector none t = faulty_headless ram bytes rest BadSector none t
-told_headless ram bytes rest BadRound none t = faulty_headless ram bytes rest BadRound none t
-told_headless ram bytes rest BadDevice none t = faulty_headless ram bytes rest BadDevice none t
-told_headless ram bytes rest BadDigest none t = faulty_headless ram bytes rest BadDigest none t
-told_headless ram bytes rest Missing none t = faulty_headless ram bytes rest Missing none t
-told_headless ram bytes rest Trailing none t = faulty_headless ram bytes rest Trailing none t
-told_headless ram bytes rest Truncated none t = faulty_headless ram bytes rest Truncated none t
-told_headless ram bytes rest DiskFailed none t = faulty_headless ram bytes rest DiskFailed none t
-told_headless ram bytes rest NoMemory none t = tt
-told_headless ram bytes rest AlreadyFailed none t = faulty_headless ram bytes rest AlreadyFailed none t
+-- What is told of the head of bytes that begin with no header, whatever follows.
+faulty_head : (ram : RamTerms) (bytes rest : List ℕ) (e : RecvError) → HasNoHeader bytes → ((ram : RamTerms) (sizes : List ℕ) → (at : ℕ) × IsHeaderFault ram sizes bytes e at) → IsFaulty ram (bytes ++ rest) e
+faulty_head ram bytes rest e none why = let f = why ram [] in faulty_headless ram bytes rest e none (record { sizes = []; fit = inr none; at = f.0; fault = inl f.1 })
+
+pub told_head : (ram : RamTerms) (bytes rest : List ℕ) (e : RecvError) → HasNoHeader bytes → TellsHead e ((ram : RamTerms) (sizes : List ℕ) → (at : ℕ) × IsHeaderFault ram sizes bytes e at) → TellsWhy ram (bytes ++ rest) e
+told_head ram bytes rest NoMemory none t = tt
+told_head ram bytes rest BadMagic none t = faulty_head ram bytes rest BadMagic none t
+told_head ram bytes rest BadVersion none t = faulty_head ram bytes rest BadVersion none t
+told_head ram bytes rest BadShape none t = faulty_head ram bytes rest BadShape none t
+told_head ram bytes rest ShapeMismatch none t = faulty_head ram bytes rest ShapeMismatch none t
+told_head ram bytes rest BadTag none t = faulty_head ram bytes rest BadTag none t
+told_head ram bytes rest BadPage none t = faulty_head ram bytes rest BadPage none t
+told_head ram bytes rest BadSector none t = faulty_head ram bytes rest BadSector none t
+told_head ram bytes rest BadRound none t = faulty_head ram bytes rest BadRound none t
+told_head ram bytes rest BadDevice none t = faulty_head ram bytes rest BadDevice none t
+told_head ram bytes rest BadDigest none t = faulty_head ram bytes rest BadDigest none t
+told_head ram bytes rest Missing none t = faulty_head ram bytes rest Missing none t
+told_head ram bytes rest Trailing none t = faulty_head ram bytes rest Trailing none t
+told_head ram bytes rest Truncated none t = faulty_head ram bytes rest Truncated none t
+told_head ram bytes rest DiskFailed none t = faulty_head ram bytes rest DiskFailed none t
+told_head ram bytes rest AlreadyFailed none t = faulty_head ram bytes rest AlreadyFailed none t
 
 -- A result has one error.
 pub one_error : {A E : Type 0} (r : Result A E) (x y : E) → r ≡ Err x → r ≡ Err y → x ≡ y

@@ -1,12 +1,21 @@
--- Whether a step needs a sync, by cases on the handle.
+-- What is told of a handle, by cases on it.
 use Rattle.std.proofs.Common.{◌≡◌, ℕ, false, refl, subst, true≢false}
 use Rattle.std.specs.Prelude.{Option, Some, None, is_some}
-use Rattle.vmig_c.specs.Durable.{sync_kept, sync_told}
+use Rattle.vmig_c.specs.Described.{Describes, IsDescribed, nothing_told}
 use Rattle.vmig_c.specs.Kept.{KeptSeen}
+use Rattle.vmig_c.specs.NextWork.{FindsWork, FoundWork}
+use Rattle.vmig_c.specs.declared.description.Description.{Description}
 
-pub sync_none : (k : Option KeptSeen) (dev pick : ℕ) → is_some k ≡ false → 8 ≡ sync_told k dev pick
-sync_none None dev pick is = refl
-sync_none (Some m) dev pick is = absurd (true≢false is)
+pub none : (k : Option KeptSeen) (d : Description) → is_some k ≡ false → d ≡ nothing_told → Describes k d
+none None d is told = told
+none (Some m) d is told = absurd (true≢false is)
 
-pub sync_some : (k : Option KeptSeen) (m : KeptSeen) (dev pick status : ℕ) → Some m ≡ k → status ≡ sync_kept m dev pick → status ≡ sync_told k dev pick
-sync_some k m dev pick status is told = subst (λ (o : Option KeptSeen). status ≡ sync_told o dev pick) is told
+pub some : (k : Option KeptSeen) (m : KeptSeen) (d : Description) → Some m ≡ k → IsDescribed m d → Describes k d
+some k m d is told = subst (λ (o : Option KeptSeen). Describes o d) is told
+
+pub found_none : (k : Option KeptSeen) (dev pick : ℕ) → is_some k ≡ false → FoundWork k 8 dev dev pick pick
+found_none None dev pick is = (refl, refl, refl)
+found_none (Some m) dev pick is = absurd (true≢false is)
+
+pub found_some : (k : Option KeptSeen) (m : KeptSeen) (status dev old_dev pick old_pick : ℕ) → Some m ≡ k → FindsWork m status dev old_dev pick old_pick → FoundWork k status dev old_dev pick old_pick
+found_some k m status dev old_dev pick old_pick is finds = subst (λ (o : Option KeptSeen). FoundWork o status dev old_dev pick old_pick) is finds

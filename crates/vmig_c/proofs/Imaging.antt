@@ -1,6 +1,6 @@
 -- Disks that hold images, and sectors that go out.
 use Rattle.std.proofs.Common.{◌≡◌, ◌≢◌, ◌≤◌, ◌<◌, ◌==◌, ◌*◌, ◌+◌, ◌-◌, ◌/◌, ◌%◌, ◌++◌, ℕ, zero, suc, Bool, true, false, nat_lt, List, [], ◌∷◌, refl, sym, ap, ◌∙◌, subst, arith, map, length, drop, get_or, take, inl, inr, true≢false, eq-eqb}
-use Rattle.std.specs.Prelude.{Option, Some, None, Result, Ok, Err, is_some, not, slice_get, slice_set, if◌then◌else◌}
+use Rattle.std.specs.Prelude.{Option, Some, None, Result, Ok, Err, not, slice_get, slice_set, if◌then◌else◌}
 use Rattle.std.specs.List.{concat}
 use Rattle.std.proofs.lemmas.Bool.Decides.{nat_tests}
 use Rattle.std.proofs.lemmas.List.{append-nil, drop-take, drop_more, take-append-drop, take-take, take_more_set}
@@ -10,43 +10,17 @@ use Rattle.blk.specs.Sectors.{Sector}
 use Rattle.machine.proofs.Numbering.{has_item}
 use Rattle.machine.specs.Applied.{ReadsSector}
 use Rattle.machine.specs.EffectLaws.{HasItem, sector_on, sectors_on}
-use Rattle.machine.specs.First.{dealt_marks, made_machine, zero_pages}
-use Rattle.machine.specs.Seen.{DeviceSeen, Marks, Seen, all_marks, marks_at, no_marks, state_of}
-use Rattle.machine.specs.Shapes.{disk_size_of, disk_sizes, or_zero, sector_count, made_as}
+use Rattle.machine.specs.Seen.{Marks, Seen, all_marks, marks_at, state_of}
+use Rattle.machine.specs.Shapes.{disk_size_of, or_zero, sector_count, made_as}
 use Rattle.machine.specs.Sound.{IsSound}
 use Rattle.machine.specs.State.{DeviceState, MachineState}
-use Rattle.machine.specs.declared.shape.Shape.{Shape}
-use Rattle.vmig_c.specs.Images.{AreImages, IsMadeWith, KeepsMadeWith, MakesWith, ReadsOut, SectorTold, disk_refusal, image_size, sector_refusal, sector_refusal_of, sectors_in}
-use Rattle.vmig_c.specs.Making.{are_beyond_limits, shape_of, shapes_of}
+use Rattle.vmig_c.specs.Images.{ReadsOut, SectorTold, disk_refusal, sector_refusal, sector_refusal_of, sectors_in}
+use Rattle.vmig_c.specs.Making.{shape_of, shapes_of}
 use Rattle.vmig_c.specs.declared.device_shape.DeviceShape.{DeviceShape}
-use Rattle.vmig_c.specs.Kept.{KeptSeen, Still}
+use Rattle.vmig_c.specs.Kept.{Still}
 use Rattle.vmig_c.specs.Moving.{IsKept}
 use Rattle.vmig_c.specs.Plain.{ArePlain}
-use Rattle.vmig_c.proofs.Plain.{as_many, plain_at}
-use Rattle.vmig_c.proofs.Zeros.{alike}
-
-pub with_used : (base : ℕ) (k after : Option KeptSeen) (pages : ℕ) (shapes : List DeviceShape) (images : List ℕ) → is_some k ≡ true → after ≡ k → MakesWith base k pages shapes images 9 after
-with_used base None after pages shapes images is same = absurd (true≢false (sym is))
-with_used base (Some m) after pages shapes images is same = (refl, same)
-
-pub with_beyond : (base : ℕ) (k after : Option KeptSeen) (pages : ℕ) (shapes : List DeviceShape) (images : List ℕ) → is_some k ≡ false → are_beyond_limits pages shapes ≡ true → after ≡ k → MakesWith base k pages shapes images 12 after
-with_beyond base None after pages shapes images is beyond same = rw beyond (refl, same)
-with_beyond base (Some m) after pages shapes images is beyond same = absurd (true≢false is)
-
-pub with_others : (base : ℕ) (k after : Option KeptSeen) (pages : ℕ) (shapes : List DeviceShape) (images : List ℕ) → is_some k ≡ false → are_beyond_limits pages shapes ≡ false
-    → (length images == image_size (shapes_of shapes)) ≡ false → after ≡ k → MakesWith base k pages shapes images 15 after
-with_others base None after pages shapes images is within other same = rw (within, other) (refl, same)
-with_others base (Some m) after pages shapes images is within other same = absurd (true≢false is)
-
-pub with_full : (base : ℕ) (k after : Option KeptSeen) (pages : ℕ) (shapes : List DeviceShape) (images : List ℕ) → is_some k ≡ false → are_beyond_limits pages shapes ≡ false
-    → (length images == image_size (shapes_of shapes)) ≡ true → after ≡ k → MakesWith base k pages shapes images 10 after
-with_full base None after pages shapes images is within fits same = rw (within, fits) (inr (record { status_is = refl; same = same }))
-with_full base (Some m) after pages shapes images is within fits same = absurd (true≢false is)
-
-pub with_done : (base : ℕ) (k after : Option KeptSeen) (m : KeptSeen) (pages : ℕ) (shapes : List DeviceShape) (images : List ℕ) → is_some k ≡ false → are_beyond_limits pages shapes ≡ false
-    → (length images == image_size (shapes_of shapes)) ≡ true → after ≡ Some m → KeepsMadeWith base pages (shapes_of shapes) images m → MakesWith base k pages shapes images 0 after
-with_done base None after m pages shapes images is within fits becomes made = rw (within, fits) (inl (record { kept = m; is_there = becomes; is_made = made; status_is = refl }))
-with_done base (Some old) after m pages shapes images is within fits becomes made = absurd (true≢false is)
+use Rattle.vmig_c.proofs.Plain.{plain_at}
 
 -- Counting sectors off.
 tests_same : (r s : Bool) → (r ≡ true → s ≡ true) → (s ≡ true → r ≡ true) → r ≡ s
@@ -104,60 +78,41 @@ sector_more disk next image n sectors size below so_far is =
     ∙ part_more image (512 * n) 512
     ∙ ap (λ (i : ℕ). take i image) (sym end)
 
--- The first machine over disks that hold the images.
-pub made_with : (base : ℕ) (pages : ℕ) (shapes : List Shape) (images : List ℕ) (disks : List (List (List ℕ))) (m : Seen) → AreImages images (disk_sizes shapes) disks
-    → state_of m ≡ made_machine base (zero_pages pages) shapes (map (λ (d : List (List ℕ)). map Some d) disks)
-    → all_marks m ≡ dealt_marks shapes (map (λ (d : List (List ℕ)). no_marks) disks) → IsSound (state_of m) → IsMadeWith base pages shapes images m
-made_with base pages shapes images disks m are first marks sound = record {
-  disks = disks;
-  are = are;
-  first = first;
-  plain = as_many no_marks (λ (d : DeviceSeen). d.marks) m.devices shapes (marks ∙ alike shapes disks);
-  sound = sound;
-}
-
--- A sector that is there, and room for it.
-pub record IsReadable (m : MachineState) (dev n room : ℕ) : Type 0 where
-  pub there : HasItem m (sector dev n)
-  pub fits : 512 ≤ room
-
-two_tests : (a b : Bool) → ◌≡◌ {A = Option ℕ} (if not a then Some 7 else if b then Some 11 else None) None → (a ≡ true) × (b ≡ false)
-two_tests false b is = absurd cc
-two_tests true true is = absurd cc
-two_tests true false is = (refl, refl)
-
 tested_below : (a b : ℕ) → nat_lt a b ≡ true → a < b
 tested_below a b is = grind (arith, nat_tests)
 
 pub tested_from : (a b : ℕ) → nat_lt a b ≡ false → b ≤ a
 tested_from a b is = grind (arith, nat_tests)
 
-on_disk : (size : Option ℕ) (n room : ℕ) → disk_refusal size n room ≡ None → (n < or_zero size) × (512 ≤ room)
-on_disk None n room none = absurd cc
-on_disk (Some sectors) n room none =
-    let are = two_tests (nat_lt n sectors) (nat_lt room 512) none in
-    (tested_below n sectors are.0, tested_from room 512 are.1)
+one_test : (a : Bool) → ◌≡◌ {A = Option ℕ} (if not a then Some 7 else None) None → a ≡ true
+one_test false is = absurd cc
+one_test true is = refl
+
+on_disk : (size : Option ℕ) (n : ℕ) → disk_refusal size n ≡ None → n < or_zero size
+on_disk None n none = absurd cc
+on_disk (Some sectors) n none = tested_below n sectors (one_test (nat_lt n sectors) none)
 
 count_at : (ds : List DeviceState) (dev : ℕ) (d : DeviceState) → slice_get ds dev ≡ Some d → get_or (map (λ (x : DeviceState). sector_count (made_as x.kind)) ds) dev 0 ≡ sector_count (made_as d.kind)
 count_at [] dev d is = absurd cc
 count_at (x ∷ ds) zero d is = let same : x ≡ d = cc in ap (λ (y : DeviceState). sector_count (made_as y.kind)) same
 count_at (x ∷ ds) (suc dev) d is = count_at ds dev d is
 
-readable_by : (o : Option DeviceState) (m : MachineState) (dev n room : ℕ) → IsSound m → slice_get m.devices dev ≡ o → sector_refusal_of o n room ≡ None → IsReadable m dev n room
-readable_by None m dev n room sound is none = absurd cc
-readable_by (Some d) m dev n room sound is none =
-    let are = on_disk (disk_size_of (made_as d.kind)) n room none in
+there_by : (o : Option DeviceState) (m : MachineState) (dev n : ℕ) → IsSound m → slice_get m.devices dev ≡ o → sector_refusal_of o n ≡ None → HasItem m (sector dev n)
+there_by None m dev n sound is none = absurd cc
+there_by (Some d) m dev n sound is none =
+    let below = on_disk (disk_size_of (made_as d.kind)) n none in
     let size : get_or (map length m.disks) dev 0 ≡ sector_count (made_as d.kind) = ap (λ (l : List ℕ). get_or l dev 0) sound.disks ∙ count_at m.devices dev d is in
-    record { there = has_item m (sector dev n) sound.whole_pages (omega (arith, size, are.0)); fits = are.1 }
+    has_item m (sector dev n) sound.whole_pages (omega (arith, size, below))
 
-pub readable : (m : Seen) (dev n room : ℕ) → IsSound (state_of m) → sector_refusal (Still m) dev n room ≡ None → IsReadable (state_of m) dev n room
-readable m dev n room sound none = readable_by (slice_get (state_of m).devices dev) (state_of m) dev n room sound refl none
+-- A sector that is there.
+pub readable : (m : Seen) (dev n : ℕ) → IsSound (state_of m) → sector_refusal (Still m) dev n ≡ None → HasItem (state_of m) (sector dev n)
+readable m dev n sound none = there_by (slice_get (state_of m).devices dev) (state_of m) dev n sound refl none
 
 -- What is told of a sector that was read.
 kept_so : {E : Type 0} (m next : Seen) (dev n : ℕ) (bytes : List ℕ) (good : Bool) → ReadsSector {E = E} m dev n bytes (Ok good) next → IsKept m next
 kept_so m next dev n bytes good reads = record { memory = reads.memory; state = reads.state; same = λ plain. record { memory = reads.memory; state = reads.state; marks = reads.marks; flushed = reads.flushed } }
 
-told_good : {E : Type 0} (m next : Seen) (dev n : ℕ) (bytes buf new_buf : List ℕ) → ReadsSector {E = E} m dev n bytes (Ok true) next → new_buf ≡ bytes ++ drop 512 buf → ReadsOut m dev n 0 buf new_buf next
+told_good : {E : Type 0} (m next : Seen) (dev n : ℕ) (bytes buf new_buf : List ℕ) → ReadsSector {E = E} m dev n bytes (Ok true) next → new_buf ≡ bytes → ReadsOut m dev n 0 buf new_buf next
 told_good m next dev n bytes buf new_buf reads is = record {
   kept = kept_so m next dev n bytes true reads;
   told = λ plain.
@@ -173,7 +128,7 @@ told_bad m next dev n bytes buf reads = record {
 }
 
 pub was_good : {E : Type 0} (m next : Seen) (dev n : ℕ) (bytes buf new_buf : List ℕ) (result : Result Bool E) (good : Bool) → result ≡ Ok good → good ≡ true → ReadsSector m dev n bytes result next
-    → new_buf ≡ bytes ++ drop 512 buf → ReadsOut m dev n 0 buf new_buf next
+    → new_buf ≡ bytes → ReadsOut m dev n 0 buf new_buf next
 was_good m next dev n bytes buf new_buf result good is so reads out = told_good m next dev n bytes buf new_buf (subst (λ (r : Result Bool _). ReadsSector m dev n bytes r next) (is ∙ ap Ok so) reads) out
 
 pub was_bad : {E : Type 0} (m next : Seen) (dev n : ℕ) (bytes buf : List ℕ) (result : Result Bool E) (good : Bool) → result ≡ Ok good → good ≡ false → ReadsSector m dev n bytes result next

@@ -20,7 +20,7 @@ use Rattle.vmig_c.specs.ArrivalSeen.{ArrivalSeen, AtHead, AtBody, Refused, Over}
 use Rattle.vmig_c.specs.Awaited.{AreSteady, HasArrived, IsClosed, IsFed, IsOver, TellsOf, awaited_sizes}
 use Rattle.vmig_c.specs.Landing.{AreDisksOf, IsAwaitedAt, image_state}
 use Rattle.vmig_c.specs.Mapping.{AreTaken, contents}
-use Rattle.vmig_c.specs.Unmapping.{HasUnmappedArrival, arriving_refusal, slots_refusal}
+use Rattle.vmig_c.specs.Unmapping.{HasUnmappedArrival, slots_refusal}
 use Rattle.vmig_c.proofs.Awaited.{arrived, honest_marks, more_steady, never_failed, one_error}
 use Rattle.vmig_c.proofs.Handing.{asked, none_at}
 
@@ -102,26 +102,19 @@ pub told_if : {A : Type 0} (r next : Received) (piece : List ℕ) (result : Resu
 told_if r next piece (Ok x) steady sizes failed marks already tells = tt
 told_if r next piece (Err e) steady sizes failed marks already tells = told_over r next piece e steady sizes failed marks (λ f. one_error (Err e) e AlreadyFailed refl (already f)) tells
 
--- The slots.
-pub slots_for : (a : ArrivalSeen) (images : List Image) (refusal : Option ℕ) → IsOver a → refusal ≡ slots_refusal (length (awaited_sizes a)) images → refusal ≡ arriving_refusal a images
-slots_for (Over r) images refusal over is = is
-slots_for (AtHead base held) images refusal over is = absurd over
-slots_for (AtBody r) images refusal over is = absurd over
-slots_for Refused images refusal over is = absurd over
-
 -- The slots that the disks go into are free, and there is one for each.
-pub slots_free : (a : ArrivalSeen) (disks images : List Image) (count : ℕ) → AreDisksOf a (contents disks) → length disks ≡ length (awaited_sizes a) → arriving_refusal a images ≡ None → count ≡ length disks → AreTaken disks (take count images)
+pub slots_free : (a : ArrivalSeen) (disks images : List Image) (count : ℕ) → AreDisksOf a (contents disks) → length disks ≡ length (awaited_sizes a) → slots_refusal (length (awaited_sizes a)) images ≡ None → count ≡ length disks → AreTaken disks (take count images)
 slots_free (Over r) disks images count of many none is =
     let asks = asked (length r.sizes) images none in
     record {
       count = length-take-le count images (omega (arith, is, many, asks.1)) ∙ is;
       empty = All-take (λ (i : Image). i.content ≡ []) count images (none_at images asks.0);
     }
-slots_free (AtHead base held) disks images count of many none is = absurd of
+slots_free (AtHead ram place held) disks images count of many none is = absurd of
 slots_free (AtBody r) disks images count of many none is = absurd of
 slots_free Refused disks images count of many none is = absurd of
 
-pub gave_up : (a : ArrivalSeen) (disks images : List Image) (count : ℕ) → AreDisksOf a (contents disks) → length disks ≡ length (awaited_sizes a) → arriving_refusal a images ≡ None → count ≡ length disks
+pub gave_up : (a : ArrivalSeen) (disks images : List Image) (count : ℕ) → AreDisksOf a (contents disks) → length disks ≡ length (awaited_sizes a) → slots_refusal (length (awaited_sizes a)) images ≡ None → count ≡ length disks
     → HasUnmappedArrival a images (disks ++ drop count images)
 gave_up (Over r) disks images count of many none is =
     let asks = asked (length r.sizes) images none in
@@ -132,7 +125,7 @@ gave_up (Over r) disks images count of many none is =
       empty = All-map (λ (c : List (List ℕ)). c ≡ []) (λ (i : Image). i.content) (drop count images) (All-drop (λ (i : Image). i.content ≡ []) count images (none_at images asks.0));
       count = length-append disks (drop count images) ∙ (let left : length (drop count images) ≡ length images - count = length-drop count images in omega (arith, left, few, is));
     }
-gave_up (AtHead base held) disks images count of many none is = absurd of
+gave_up (AtHead ram place held) disks images count of many none is = absurd of
 gave_up (AtBody r) disks images count of many none is = absurd of
 gave_up Refused disks images count of many none is = absurd of
 
@@ -140,7 +133,7 @@ gave_up Refused disks images count of many none is = absurd of
 pub arrived_over : (r : Received) (m : Seen) → AreSteady r → r.failed ≡ false → (AreHonestDisks r.marks → (b : List ℕ) → HasBeenFed r b → IsStream b (state_of m)) → all_marks m ≡ dealt_marks (shapes_in (state_of m).devices) r.marks
     → base_of (state_of m).devices ≡ r.ram.base → m.memory.place ≡ r.place → HasArrived (Over r) m
 arrived_over r m steady fine received marks based place =
-    let a : HasArrived (AtBody r) m = arrived r m steady received marks based in
+    let a : HasArrived (AtBody r) m = arrived r m steady received marks based place in
     record { went_on = fine; stream = λ b h. received (rw steady (honest_marks r.sizes)) b h; base = based; plain = a.plain; place = place }
 
 pub given_up_steady : (r next : Received) → AreSteady r → IsGivenUp r next → AreSteady next
@@ -157,4 +150,3 @@ counted (i ∷ disks) = ap suc (counted disks)
 pub as_many_images : (r : Received) (disks : List Image) → sizes_of image_state disks ≡ r.sizes → length disks ≡ length r.sizes
 as_many_images r disks are = counted disks ∙ ap length are
 
--- The calls.

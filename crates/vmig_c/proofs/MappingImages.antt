@@ -5,19 +5,13 @@ use Rattle.std.specs.Prelude.{All, Option, Some, None, is_some, slice_set}
 use Rattle.std.proofs.lemmas.List.{drop-set-lt, drop_all, drop_more, length-drop, take_all, take_more, take_more_set, length-set}
 use Rattle.std.proofs.lemmas.List.Elements.{All-append}
 use Rattle.machine.proofs.Disks.{none_left}
-use Rattle.machine.specs.First.{are_same, dealt_marks, made_machine, zero_pages}
-use Rattle.machine.specs.Seen.{DeviceSeen, Seen, all_marks, no_marks, state_of}
+use Rattle.machine.specs.First.{are_same}
 use Rattle.machine.specs.Shapes.{disk_sizes}
-use Rattle.machine.specs.Sound.{IsSound}
-use Rattle.machine.specs.declared.shape.Shape.{Shape}
 use Rattle.mapped_disk.specs.declared.image.Image.{Image}
-use Rattle.vmig_c.specs.Making.{are_beyond_limits, shapes_of}
-use Rattle.vmig_c.specs.Mapping.{AreTaken, IsMapped, KeepsMapped, Maps, contents, counts}
+use Rattle.vmig_c.specs.Making.{shapes_of}
+use Rattle.vmig_c.specs.Mapping.{AreTaken, contents, counts}
 use Rattle.vmig_c.specs.declared.device_shape.DeviceShape.{DeviceShape}
-use Rattle.vmig_c.specs.Kept.{KeptSeen}
 use Rattle.vmig_c.proofs.Imaging.{same_numbers}
-use Rattle.vmig_c.proofs.Plain.{as_many}
-use Rattle.vmig_c.proofs.Zeros.{alike}
 
 -- Past the last device all images must have been counted.
 pub all_counted : (shapes : List DeviceShape) (images : List Image) (i at : ℕ) → length shapes ≤ i → at ≤ length images
@@ -111,38 +105,3 @@ empty_slot all old images at d taken below size slots =
 pub disks_good : (images : List Image) → map (λ (d : Image). map Some d.content) images ≡ map (map Some) (contents images)
 disks_good [] = refl
 disks_good (i ∷ images) = ap (λ (l : List (List (Option (List ℕ)))). map Some i.content ∷ l) (disks_good images)
-
-pub made_over : (base : ℕ) (pages : ℕ) (shapes : List Shape) (images disks : List Image) (m : Seen) → disks ≡ images
-    → state_of m ≡ made_machine base (zero_pages pages) shapes (map (λ (d : Image). map Some d.content) disks)
-    → all_marks m ≡ dealt_marks shapes (map (λ (d : Image). no_marks) disks) → IsSound (state_of m) → IsMapped base pages shapes (contents images) m
-made_over base pages shapes images disks m are first marks sound = record {
-  first = first ∙ rw (are, disks_good images) refl;
-  plain = as_many no_marks (λ (d : DeviceSeen). d.marks) m.devices shapes (marks ∙ alike shapes disks);
-  sound = sound;
-}
-
-pub maps_used : (base : ℕ) (k after : Option KeptSeen) (pages : ℕ) (shapes : List DeviceShape) (images : List Image) → is_some k ≡ true → after ≡ k → Maps base k pages shapes images images 9 after
-maps_used base None after pages shapes images is same = absurd (true≢false (sym is))
-maps_used base (Some m) after pages shapes images is same = record { status_is = refl; same = same; images_same = refl }
-
-pub maps_beyond : (base : ℕ) (k after : Option KeptSeen) (pages : ℕ) (shapes : List DeviceShape) (images : List Image) → is_some k ≡ false → are_beyond_limits pages shapes ≡ true → after ≡ k
-    → Maps base k pages shapes images images 12 after
-maps_beyond base None after pages shapes images is beyond same = rw beyond (record { status_is = refl; same = same; images_same = refl })
-maps_beyond base (Some m) after pages shapes images is beyond same = absurd (true≢false is)
-
-pub maps_others : (base : ℕ) (k after : Option KeptSeen) (pages : ℕ) (shapes : List DeviceShape) (images next : List Image) → is_some k ≡ false → are_beyond_limits pages shapes ≡ false
-    → are_same (disk_sizes (shapes_of shapes)) (counts images) ≡ false → next ≡ images → after ≡ k → Maps base k pages shapes images next 15 after
-maps_others base None after pages shapes images next is within other kept same = rw (within, other) (record { status_is = refl; same = same; images_same = kept })
-maps_others base (Some m) after pages shapes images next is within other kept same = absurd (true≢false is)
-
-pub maps_full : (base : ℕ) (k after : Option KeptSeen) (pages : ℕ) (shapes : List DeviceShape) (images next : List Image) → is_some k ≡ false → are_beyond_limits pages shapes ≡ false
-    → are_same (disk_sizes (shapes_of shapes)) (counts images) ≡ true → next ≡ images → after ≡ k → Maps base k pages shapes images next 10 after
-maps_full base None after pages shapes images next is within fits kept same = rw (within, fits) (inr (record { status_is = refl; same = same; images_same = kept }))
-maps_full base (Some m) after pages shapes images next is within fits kept same = absurd (true≢false is)
-
-pub maps_done : (base : ℕ) (k after : Option KeptSeen) (m : KeptSeen) (pages : ℕ) (shapes : List DeviceShape) (images next : List Image) → is_some k ≡ false → are_beyond_limits pages shapes ≡ false
-    → are_same (disk_sizes (shapes_of shapes)) (counts images) ≡ true → after ≡ Some m → KeepsMapped base pages (shapes_of shapes) (contents images) m → AreTaken images next
-    → Maps base k pages shapes images next 0 after
-maps_done base None after m pages shapes images next is within fits becomes made taken =
-    rw (within, fits) (inl (record { kept = m; is_there = becomes; is_made = made; taken = taken; status_is = refl }))
-maps_done base (Some old) after m pages shapes images next is within fits becomes made taken = absurd (true≢false is)

@@ -7,8 +7,7 @@ use Rattle.std.proofs.lemmas.Bool.Decides.{nat_tests}
 use Rattle.std.proofs.lemmas.List.{append-nil, length-append, map-id}
 use Rattle.std.proofs.lemmas.List.FromFn.{filter_of_map_range_with_len_more, map-range_with_len_more}
 use Rattle.std.proofs.Math.Nat.{zero-div}
-use Rattle.vmig_c.specs.Mirror.{are_pages}
-use Rattle.vmig_c.specs.Named.{is_marked, marked, numbers_below}
+use Rattle.vmig_c.specs.Named.{are_pages, is_marked, marked, numbers_below}
 
 -- One number more.
 abbrev alike : ℕ → ℕ

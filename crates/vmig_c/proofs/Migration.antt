@@ -1,18 +1,20 @@
 -- The migration of what lies behind a handle.
-use Rattle.std.proofs.Common.{◌≡◌, ℕ, List, refl, sym, ap, ◌∙◌, subst}
-use Rattle.std.specs.Prelude.{MatchOption, Option, Some, None}
+use Rattle.std.proofs.Common.{◌≡◌, ◌≤◌, ◌<◌, ◌+◌, ◌-◌, ℕ, suc, Bool, true, false, List, refl, sym, ap, ◌∙◌, subst, arith}
+use Rattle.std.specs.Prelude.{MatchOption, Option, Some, None, Result, Ok, Err}
 use Rattle.machine.specs.Seen.{Seen}
-use Rattle.sender.specs.Calls.{Does, Serves}
+use Rattle.sender.specs.Calls.{Does, Serves, copied_reply}
 use Rattle.sender.specs.LiveState.{HasPlaces, LiveSeen, refusal_for}
 use Rattle.sender.specs.Reads.{CallsNone}
 use Rattle.sender.proofs.Uncalled.{uncalled_is_same}
+use Rattle.sender.specs.declared.event.CopyAnswer.{CopyAnswer}
+use Rattle.sender.specs.declared.event.CopyAnswer.TheVariants as answers
 use Rattle.sender.specs.declared.event.LiveEvent.TheVariants as events
 use Rattle.sender.specs.declared.event.LiveReply.{LiveReply}
 use Rattle.sender.specs.declared.event.LiveReply.TheVariants as live
 use Rattle.sender.specs.declared.mig_error.MigError.{MigError}
 use Rattle.sender.specs.declared.mig_error.MigError.TheVariants as errors
-use Rattle.vmig_c.specs.Migrated.{HasCopied, HasStopped, HasTaken, IsAnswered, TakesKept, copied_dev, copied_number, stopped_pages, stopped_sectors}
-use Rattle.vmig_c.specs.Status.{live_status}
+use Rattle.vmig_c.specs.Migrated.{GoesOn, HasEnded, HasStopped, HasTaken, IsAnswered, SendsIf, SendsSome, SendsUpTo, TakesKept, end_status, is_none_due, send_refusal, stopped_pages, stopped_sectors}
+use Rattle.vmig_c.specs.Status.{live_status, mig_status}
 use Rattle.vmig_c.specs.Kept.{State, Still, Moving}
 
 same_machine : (o : Option MigError) (l next : LiveSeen) (error : MigError) → MatchOption o (Does l events.Begin (live.Mig error) next) (λ x. (live.Mig error ≡ live.Mig x) × (next ≡ l)) → CallsNone l.machine next.machine → next.machine ≡ l.machine
@@ -30,9 +32,8 @@ not_begun m last fresh l error is serves none gave = gave ∙ same_machine (refu
 pub begun_again : (l next : LiveSeen) (reply : LiveReply) (status : ℕ) → HasPlaces l → Serves l events.Begin reply next → status ≡ live_status reply → IsAnswered l status next
 begun_again l next reply status places serves told = record { reply = reply; places = places; serves = serves; status_is = told }
 
-pub copied : (l next : LiveSeen) (reply : LiveReply) (status dev old_dev number old_number : ℕ) → HasPlaces l → Serves l events.Copy reply next → status ≡ live_status reply → dev ≡ copied_dev reply old_dev → number ≡ copied_number reply old_number
-    → HasCopied l status dev old_dev number old_number next
-copied l next reply status dev old_dev number old_number places serves told devs numbers = record { reply = reply; places = places; serves = serves; status_is = told; dev_is = devs; number_is = numbers }
+pub ended : (l next : LiveSeen) (reply : LiveReply) (status : ℕ) → HasPlaces l → Serves l events.EndRound reply next → status ≡ live_status reply → HasEnded l status next
+ended l next reply status places serves told = record { reply = reply; places = places; serves = serves; status_is = told }
 
 pub stopped : (l next : LiveSeen) (reply : LiveReply) (status pages old_pages sectors old_sectors : ℕ) → HasPlaces l → Serves l events.Stop reply next → status ≡ live_status reply → pages ≡ stopped_pages reply old_pages → sectors ≡ stopped_sectors reply old_sectors
     → HasStopped l status pages old_pages sectors old_sectors next
@@ -43,3 +44,56 @@ still_takes k m got buf is = subst (λ (x : State). TakesKept x 17 got got buf b
 
 pub moving_takes : (k : State) (l next : LiveSeen) (status got old_got : ℕ) (buf new_buf : List ℕ) → k ≡ Moving l → HasTaken l status got buf new_buf next → TakesKept k status got old_got buf new_buf (Moving next)
 moving_takes k l next status got old_got buf new_buf is was = subst (λ (x : State). TakesKept x status got old_got buf new_buf (Moving next)) (sym is) was
+
+-- Items sent one after another: what is sent of the rest is sent of all.
+abbrev pub IsOnWay : ℕ → LiveSeen → ℕ → LiveSeen → Type 0
+IsOnWay most l left mid = (status : ℕ) (next : LiveSeen) → SendsUpTo left mid status next → SendsUpTo most l status next
+
+one_more : (left i most : ℕ) → left ≡ most - i → i < most → left ≡ suc (most - (i + 1))
+one_more left i most is below = omega (arith, is, below)
+
+at_none : (none : Bool) (n : ℕ) (l : LiveSeen) → is_none_due l ≡ none → none ≡ true → SendsIf (is_none_due l) (λ (mid : LiveSeen). SendsUpTo n mid 76 l) l 76 l
+at_none true n l is yes = rw is (refl, refl)
+at_none false n l is yes = absurd cc
+
+-- Nothing is due any more.
+pub none_left : (most i : ℕ) (l mid : LiveSeen) → i < most → is_none_due mid ≡ true → IsOnWay most l (most - i) mid → SendsUpTo most l 76 mid
+none_left most i l mid below none way =
+    way 76 mid (subst (λ (n : ℕ). SendsUpTo n mid 76 mid) (sym (one_more (most - i) i most refl below)) (at_none (is_none_due mid) (most - (i + 1)) mid refl none))
+
+sends_one : (none : Bool) (rest : LiveSeen → Type 0) (l mid next : LiveSeen) (reply : LiveReply) (status : ℕ) → none ≡ false → HasPlaces l → Serves l events.Copy reply mid → GoesOn reply rest mid status next → SendsIf none rest l status next
+sends_one true rest l mid next reply status some places serves goes = absurd cc
+sends_one false rest l mid next reply status some places serves goes = record { mid = mid; reply = reply; places = places; serves = serves; goes_on = goes }
+
+goes_with : (answer : CopyAnswer) (rest : LiveSeen → Type 0) (mid : LiveSeen) (status : ℕ) (next : LiveSeen) → rest mid → GoesOn (copied_reply (Ok answer)) rest mid status next
+goes_with (answers.Copied item) rest mid status next h = h
+goes_with answers.RoundDone rest mid status next h = h
+
+-- One more item was sent.
+pub one_sent : (most i : ℕ) (l now mid : LiveSeen) (answer : Result CopyAnswer MigError) (copy : CopyAnswer) → answer ≡ Ok copy → i < most → is_none_due now ≡ false → HasPlaces now → Serves now events.Copy (copied_reply answer) mid
+    → IsOnWay most l (most - i) now → IsOnWay most l (most - (i + 1)) mid
+one_sent most i l now mid answer copy is below some places serves way status next rest =
+    let served : Serves now events.Copy (copied_reply (Ok copy)) mid = subst (λ (r : Result CopyAnswer MigError). Serves now events.Copy (copied_reply r) mid) is serves in
+    way status next (subst (λ (n : ℕ). SendsUpTo n now status next) (sym (one_more (most - i) i most refl below))
+    (sends_one (is_none_due now) (λ (x : LiveSeen). SendsUpTo (most - (i + 1)) x status next) now mid next (copied_reply (Ok copy)) status some places served (goes_with copy (λ (x : LiveSeen). SendsUpTo (most - (i + 1)) x status next) mid status next rest)))
+
+-- One was refused, and ended it.
+pub one_refused : (most i : ℕ) (l now mid : LiveSeen) (answer : Result CopyAnswer MigError) (error : MigError) (status : ℕ) → answer ≡ Err error → i < most → is_none_due now ≡ false → HasPlaces now → Serves now events.Copy (copied_reply answer) mid
+    → status ≡ mig_status error → IsOnWay most l (most - i) now → SendsUpTo most l status mid
+one_refused most i l now mid answer error status is below some places serves told way =
+    let served : Serves now events.Copy (live.Mig error) mid = subst (λ (r : Result CopyAnswer MigError). Serves now events.Copy (copied_reply r) mid) is serves in
+    way status mid (subst (λ (n : ℕ). SendsUpTo n now status mid) (sym (one_more (most - i) i most refl below))
+    (sends_one (is_none_due now) (λ (x : LiveSeen). SendsUpTo (most - (i + 1)) x status mid) now mid mid (live.Mig error) status some places served (told, refl)))
+
+-- As many were sent as may be.
+pub all_sent : (most i status : ℕ) (l mid : LiveSeen) → most ≤ i → status ≡ end_status (is_none_due mid) → IsOnWay most l (most - i) mid → SendsUpTo most l status mid
+all_sent most i status l mid end told way =
+    let none : most - i ≡ 0 = omega (arith, end) in
+    way status mid (subst (λ (n : ℕ). SendsUpTo n mid status mid) (sym none) (told, refl))
+
+-- By whether it is refused.
+pub some_refused : (l : LiveSeen) (most status : ℕ) (answer : Option ℕ) → answer ≡ Some status → answer ≡ send_refusal l.phase → SendsSome l most status l
+some_refused l most status answer is asked = rw (sym asked ∙ is) (refl, refl)
+
+pub some_sent : (l next : LiveSeen) (most status : ℕ) (answer : Option ℕ) → answer ≡ None → answer ≡ send_refusal l.phase → SendsUpTo most l status next → SendsSome l most status next
+some_sent l next most status answer is asked sends = rw (sym asked ∙ is) sends

@@ -28,10 +28,12 @@ use Rattle.sender.specs.declared.event.LiveEvent.TheVariants.{Guest}
 use Rattle.sender.specs.declared.event.LiveReply.{LiveReply}
 use Rattle.sender.specs.declared.event.LiveReply.TheVariants as live
 use Rattle.sender.specs.declared.mig_error.MigError.{MigError}
-use Rattle.vmig_c.specs.Mirror.{AppliedMirrors, ArePushed, IsPushed, Mirrors, MirrorsPage, PulledMirrors, PushedMirrors, UnseenMirrors, are_pages, is_among, is_away, away_status, is_noted, is_short, is_stopped, machine_in, memory_in, push_refusal, unseen}
+use Rattle.vmig_c.specs.Mirror.{AppliedMirrors, ArePushed, IsPushed, Mirrors, MirrorsPage, PulledMirrors, IsPushable, PushedMirrors, UnseenMirrors, is_among, is_away, away_status, is_noted, is_short, is_stopped, machine_in, memory_in, push_refusal, unseen}
+use Rattle.vmig_c.specs.Named.{are_pages, is_known_pages, pages_refusal}
 use Rattle.vmig_c.specs.Status.{live_status, status_of}
 use Rattle.vmig_c.specs.Told.{TellsSo}
 use Rattle.vmig_c.specs.Kept.{State, Still, Moving, Arriving, Lent}
+use Rattle.vmig_c.specs.declared.pages.Pages.{Pages}
 
 -- What is noted, as tests and as facts.
 tested_same : (a b c : ℕ) → (a == b && nat_lt b c) ≡ true → a ≡ b
@@ -269,28 +271,34 @@ pub record IsReady (k : State) (pages : List ℕ) (bytes entries : ℕ) : Type 0
   pub are : are_pages (length (memory_in k).versions) pages ≡ true
   pub going : is_stopped k ≡ false
 
-ready_by : (s : ℕ) (o a b c : Bool) → ◌≡◌ {A = Option ℕ} (if o then Some s else if a then Some 11 else if not b then Some 2 else if c then Some 21 else None) None → (a ≡ false) × (b ≡ true) × (c ≡ false)
-ready_by s true a b c is = absurd cc
-ready_by s false true b c is = absurd cc
-ready_by s false false false c is = absurd cc
-ready_by s false false true true is = absurd cc
-ready_by s false false true false is = (refl, refl, refl)
-
 pub long_left : (a b c d : ℕ) → (nat_lt a b || nat_lt c d) ≡ false → b ≤ a
 long_left a b c d is = grind (arith, nat_tests)
 
 pub long_right : (a b c d : ℕ) → (nat_lt a b || nat_lt c d) ≡ false → d ≤ c
 long_right a b c d is = grind (arith, nat_tests)
 
-pub ready : (k : State) (pages : List ℕ) (bytes entries : ℕ) → push_refusal k pages bytes entries ≡ None → IsReady k pages bytes entries
-ready k pages bytes entries none =
-    let are = ready_by (away_status k) (is_away k) (is_short (memory_in k) bytes entries) (are_pages (length (memory_in k).versions) pages) (is_stopped k) none in
-    record {
-      room = long_left bytes (length (memory_in k).bytes) entries (length (memory_in k).versions) are.0;
-      places = long_right bytes (length (memory_in k).bytes) entries (length (memory_in k).versions) are.0;
-      are = are.1;
-      going = are.2;
-    }
+pub ready : (k : State) (pages : List ℕ) (bytes entries : ℕ) → IsPushable k pages bytes entries → IsReady k pages bytes entries
+ready k pages bytes entries may = record {
+  room = long_left bytes (length (memory_in k).bytes) entries (length (memory_in k).versions) may.room;
+  places = long_right bytes (length (memory_in k).bytes) entries (length (memory_in k).versions) may.room;
+  are = may.are;
+  going = may.going;
+}
+
+-- Pages that are not refused may be pushed, with numbers that are there.
+push_tests : (s t u v : ℕ) (away stopped known short : Bool) (rest : Option ℕ) → ◌≡◌ {A = Option ℕ} (if away then Some s else if stopped then Some t else if not known then Some u else if short then Some v else rest) None
+    → (away ≡ false) × (stopped ≡ false) × (short ≡ false) × (rest ≡ None)
+push_tests s t u v true stopped known short rest is = absurd cc
+push_tests s t u v false true known short rest is = absurd cc
+push_tests s t u v false false false short rest is = absurd cc
+push_tests s t u v false false true true rest is = absurd cc
+push_tests s t u v false false true false rest is = (refl, refl, refl, is)
+
+pub pushable : (k : State) (p : Pages) (numbers : List ℕ) (bytes entries : ℕ) → push_refusal k p bytes entries ≡ None → (pages_refusal p (length (memory_in k).versions) ≡ None → are_pages (length (memory_in k).versions) numbers ≡ true)
+    → IsPushable k numbers bytes entries
+pushable k p numbers bytes entries none are =
+    let tests = push_tests _ _ _ _ (is_away k) (is_stopped k) (is_known_pages p) (is_short (memory_in k) bytes entries) (pages_refusal p (length (memory_in k).versions)) none in
+    record { here = tests.0; going = tests.1.0; room = tests.1.1.0; are = are tests.1.1.1 }
 
 pub pushed_mirrors : PushedMirrors
 pushed_mirrors k next pages ram seen new_seen sound none others pushed =

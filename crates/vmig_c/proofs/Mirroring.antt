@@ -25,7 +25,8 @@ use Rattle.sender.specs.declared.event.LiveReply.TheVariants as live
 use Rattle.sender.specs.declared.mig_error.MigError.{MigError}
 use Rattle.sender.specs.declared.phase.Phase.{Phase}
 use Rattle.sender.specs.declared.phase.Phase.TheVariants as phases
-use Rattle.vmig_c.specs.Mirror.{ArePushed, IsPushed, are_pages, is_closed}
+use Rattle.vmig_c.specs.Mirror.{ArePushed, IsPushed, is_closed}
+use Rattle.vmig_c.specs.Named.{are_pages}
 use Rattle.vmig_c.specs.Told.{IsServed}
 use Rattle.vmig_c.specs.Kept.{State, Still, Moving}
 use Rattle.vmig_c.proofs.Mirrored.{both_left, both_right, is_page, whole_page}

@@ -92,7 +92,7 @@ owes_flush k next dev pick status n buf o is by fails =
       buf_same = refl;
     })
 
-pub owes_end : (k : KeptSeen) (dev pick n : ℕ) (buf : List ℕ) (o : SyncOwed) → o ≡ EndOfWrite → o ≡ owed_lost k dev pick → StepsOwing (owed_lost k dev pick) k.state dev pick 16 n n buf buf k.state
+pub owes_end : (k : KeptSeen) (dev pick n : ℕ) (buf : List ℕ) (o : SyncOwed) → o ≡ EndOfWrite → o ≡ owed_lost k dev pick → StepsOwing (owed_lost k dev pick) k.state dev pick 65 n n buf buf k.state
 owes_end k dev pick n buf o is by =
     let owes : owed_lost k dev pick ≡ EndOfWrite = sym by ∙ is in
     rw owes (record { status_is = refl; number_same = refl; buf_same = refl; same = refl })
@@ -139,10 +139,11 @@ quiet_step false m next dev pick status number before buf new_buf plain s some f
 same_sent : (l next : LiveSeen) → next ≡ l → IsSameSent l next
 same_sent l next same = rw same (record { machine = refl; rest = refl })
 
-quiet_live_step : (small : Bool) (l next : LiveSeen) (dev pick status number before : ℕ) (buf new_buf : List ℕ) → ArePlain l.machine → LiveSteppedIf small l dev pick status number before buf new_buf next → 1 ≤ status → status < 64
+quiet_live_step : (closed small : Bool) (l next : LiveSeen) (dev pick status number before : ℕ) (buf new_buf : List ℕ) → ArePlain l.machine → LiveSteppedIf closed small l dev pick status number before buf new_buf next → 1 ≤ status → status < 64
     → IsSameSent l next × (number ≡ before) × (new_buf ≡ buf)
-quiet_live_step true l next dev pick status number before buf new_buf plain s some few = (same_sent l next s.same, s.number_same, s.buf_same)
-quiet_live_step false l next dev pick status number before buf new_buf plain s some few =
+quiet_live_step true small l next dev pick status number before buf new_buf plain s some few = (same_sent l next s.same, s.number_same, s.buf_same)
+quiet_live_step false true l next dev pick status number before buf new_buf plain s some few = (same_sent l next s.same, s.number_same, s.buf_same)
+quiet_live_step false false l next dev pick status number before buf new_buf plain s some few =
     let more : 1 ≤ live_status s.reply = omega (arith, some, s.status_is) in
     let less : live_status s.reply < 64 = omega (arith, few, s.status_is) in
     let quiet = quiet_by (refusal_for l.phase (Guest (Step dev pick))) l next (Step dev pick) s.reply before plain more less s.serves in
@@ -151,7 +152,7 @@ quiet_live_step false l next dev pick status number before buf new_buf plain s s
 quiet_kept : (k next : State) (dev pick status number before : ℕ) (buf new_buf : List ℕ) → ArePlainIn k → StepsKept k dev pick status number before buf new_buf next → 1 ≤ status → status < 64
     → IsSameKept k next × (number ≡ before) × (new_buf ≡ buf)
 quiet_kept (Still m) (Still next) dev pick status number before buf new_buf plain s some few = quiet_step (nat_lt (length buf) (most_sent_by m dev pick)) m next dev pick status number before buf new_buf plain s some few
-quiet_kept (Moving l) (Moving next) dev pick status number before buf new_buf plain s some few = quiet_live_step (nat_lt (length buf) (most_sent_by l.machine dev pick)) l next dev pick status number before buf new_buf plain s some few
+quiet_kept (Moving l) (Moving next) dev pick status number before buf new_buf plain s some few = quiet_live_step (is_closed l.phase) (nat_lt (length buf) (most_sent_by l.machine dev pick)) l next dev pick status number before buf new_buf plain s some few
 quiet_kept (Arriving r) (Arriving next) dev pick status number before buf new_buf plain s some few = (s.1, s.0.1, s.0.2)
 quiet_kept (Lent x) (Lent next) dev pick status number before buf new_buf plain s some few = (s.1, s.0.1, s.0.2)
 quiet_kept (Still m) (Moving next) dev pick status number before buf new_buf plain s some few = absurd s

@@ -1,14 +1,10 @@
 -- Machines over disks of zeros.
-use Rattle.std.proofs.Common.{◌≡◌, ℕ, zero, suc, List, [], ◌∷◌, refl, ap, ◌∙◌, map, replicate}
+use Rattle.std.proofs.Common.{◌≡◌, ℕ, zero, suc, List, [], ◌∷◌, refl, ap, map, replicate}
 use Rattle.std.specs.Prelude.{Option, Some, None}
-use Rattle.machine.specs.First.{dealt, dealt_marks, given, left_over, made_machine, zero_pages}
-use Rattle.machine.specs.Seen.{Seen, Marks, all_marks, no_marks, state_of}
-use Rattle.machine.specs.Shapes.{disk_size_of, disk_sizes}
-use Rattle.machine.specs.Sound.{IsSound}
+use Rattle.machine.specs.First.{dealt, dealt_marks, given, left_over}
+use Rattle.machine.specs.Seen.{Marks, no_marks}
 use Rattle.machine.specs.declared.shape.Shape.{Shape}
-use Rattle.vmig_c.specs.Making.{IsMade, zero_sectors}
-use Rattle.machine.specs.Seen.{DeviceSeen}
-use Rattle.vmig_c.proofs.Plain.{as_many}
+use Rattle.vmig_c.specs.Making.{zero_sectors}
 
 all_good : {A B : Type 0} (f : A → B) (n : ℕ) (x : A) → map f (replicate n x) ≡ replicate n (f x)
 all_good f zero x = refl
@@ -36,13 +32,3 @@ alike_by (Some n) shapes (d ∷ disks) rest = ap (λ (l : List Marks). no_marks 
 pub alike : {D : Type 0} (shapes : List Shape) (disks : List D) → dealt_marks shapes (map (λ (d : D). no_marks) disks) ≡ plain_marks shapes
 alike [] disks = refl
 alike (shape ∷ shapes) disks = alike_by (disk_size_of shape) shapes disks (alike shapes)
-
-pub made : (base : ℕ) (pages : ℕ) (shapes : List Shape) (disks : List (List (List ℕ))) (m : Seen) → disks ≡ map zeros (disk_sizes shapes)
-    → state_of m ≡ made_machine base (zero_pages pages) shapes (map (λ (d : List (List ℕ)). map Some d) disks)
-    → all_marks m ≡ dealt_marks shapes (map (λ (d : List (List ℕ)). no_marks) disks) → IsSound (state_of m) → IsMade base pages shapes m
-made base pages shapes disks m are first marks sound =
-    record {
-      first = first ∙ rw (are, good_zeros (disk_sizes shapes)) refl;
-      plain = as_many no_marks (λ (d : DeviceSeen). d.marks) m.devices shapes (marks ∙ alike shapes disks);
-      sound = sound;
-    }

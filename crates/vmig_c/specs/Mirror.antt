@@ -96,7 +96,7 @@ pub record HasPushed (k : State) (pages ram : List ℕ) (status : ℕ) (seen new
 -- Where their numbers have to be collected memory may be refused: then nothing changed.
 abbrev pub PushesKept : State → Pages → List ℕ → ℕ → List ℕ → List ℕ → State → Type 0
 PushesKept k pages ram status seen new_seen next =
-    let refused = λ reason. Refuses status new_seen seen reason × (next ≡ k) in
+    let refused : ℕ → Type 0 = λ reason. Refuses status new_seen seen reason × (next ≡ k) in
     Unless (push_refusal k pages (length ram) (length seen)) refused
     (HasPushed k (named_pages pages (length (memory_in k).versions)) ram status seen new_seen next ⊎ ((needs_list pages ≡ true) × refused no_memory))
 

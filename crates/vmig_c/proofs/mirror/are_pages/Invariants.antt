@@ -1,5 +1,5 @@
 use Rattle.std.proofs.Common.{◌≡◌, drop}
-use Rattle.vmig_c.specs.Mirror.{are_pages}
+use Rattle.vmig_c.specs.Named.{are_pages}
 use Rattle.vmig_c.proofs.mirror.are_pages.Given as goal
 
 abbrev pub invariant-loop-n : goal.invariant-loop-n

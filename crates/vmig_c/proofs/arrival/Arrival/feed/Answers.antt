@@ -8,7 +8,7 @@ pub returns-in-Ok-clause-fed : goal.returns-in-Ok-clause-fed
 returns-in-Ok-clause-fed c =
     let view : awaited_by c.self.inside.progress ≡ c.args.self.now = c.self.view_is in
     let seen : AtBody c.in-Body.receiver ≡ c.args.self.now = sym (ap awaited_by c.in-Body.is) ∙ view in
-    subst (λ (a : ArrivalSeen). IsFed a c.args.piece.now (AtBody c.feed.new.self)) seen (more_fed c.in-Body.receiver c.feed.new.self c.args.piece.now c.in-Ok.ensures.ram c.in-Ok.ensures.sizes c.in-Ok.ensures.fed c.in-Ok.ensures.quiet)
+    subst (λ (a : ArrivalSeen). IsFed a c.args.piece.now (AtBody c.feed.new.self)) seen (more_fed c.in-Body.receiver c.feed.new.self c.args.piece.now c.in-Ok.ensures.ram c.in-Ok.ensures.place c.in-Ok.ensures.sizes c.in-Ok.ensures.fed c.in-Ok.ensures.quiet)
 
 pub returns-in-Err-clause-refused : goal.returns-in-Err-clause-refused
 returns-in-Err-clause-refused c =

@@ -10,10 +10,10 @@ use Rattle.vmig_c.proofs.arrival.Arrival.finish.Goals as goal
 pub returns-in-Head-clause-refused : goal.returns-in-Head-clause-refused
 returns-in-Head-clause-refused c =
     let coming : IsComing c.self.inside.progress = c.self.invariant in
-    let none : HasNoHeader c.in-Head.field-1.items = rw c.in-Head.is at coming in
+    let none : HasNoHeader c.in-Head.field-2.items = rw c.in-Head.is at coming in
     let view : awaited_by c.self.inside.progress ≡ c.args.self = c.self.view_is in
     let seen = sym (ap awaited_by c.in-Head.is) ∙ view in
-    subst (λ (a : ArrivalSeen). TellsEnd a Truncated × IsClosed a Refused) seen (head_ends c.in-Head.field-0 c.in-Head.field-1.items none, refl)
+    subst (λ (a : ArrivalSeen). TellsEnd a Truncated × IsClosed a Refused) seen (head_ends _ _ c.in-Head.field-2.items none, refl)
 
 pub returns-in-Body-clause-arrived : goal.returns-in-Body-clause-arrived
 returns-in-Body-clause-arrived c =
@@ -21,7 +21,7 @@ returns-in-Body-clause-arrived c =
     let steady : AreSteady c.in-Body.receiver = rw c.in-Body.is at coming in
     let view : awaited_by c.self.inside.progress ≡ c.args.self = c.self.view_is in
     let seen : AtBody c.in-Body.receiver ≡ c.args.self = sym (ap awaited_by c.in-Body.is) ∙ view in
-    subst (λ (a : ArrivalSeen). IfOk c.finish.result (λ m. HasArrived a m)) seen (arrived_if c.in-Body.receiver c.finish.result steady c.finish.ensures.received c.finish.ensures.marks c.finish.ensures.based)
+    subst (λ (a : ArrivalSeen). IfOk c.finish.result (λ m. HasArrived a m)) seen (arrived_if c.in-Body.receiver c.finish.result steady c.finish.ensures.received c.finish.ensures.marks c.finish.ensures.based c.finish.ensures.place)
 
 pub returns-in-Body-clause-refused : goal.returns-in-Body-clause-refused
 returns-in-Body-clause-refused c =

@@ -1,0 +1,93 @@
+-- The pages that a caller names.
+use Rattle.std.proofs.Common.{◌≡◌, ◌≤◌, ◌<◌, ◌*◌, ◌+◌, ◌-◌, ◌^◌, ◌==◌, ◌&&◌, ◌||◌, ◌++◌, ℕ, Bool, true, false, nat_lt, length, map, List, [], ◌∷◌, refl, sym, ap, ◌∙◌, subst, arith}
+use Prim.Native.Nat.{zero, suc}
+use Rattle.std.specs.Prelude.{All, Option, Some, None, not, if◌then◌else◌}
+use Rattle.std.proofs.lemmas.Bool.Decides.{nat_tests}
+use Rattle.vmig_c.specs.Named.{AreBelowTop, are_pages, has_words, marked, named_pages, needs_list, numbers_below, pages_refusal, shifted, span_of}
+use Rattle.vmig_c.specs.declared.pages.Pages.{Pages}
+use Rattle.vmig_c.proofs.Imaging.{tested_from}
+use Rattle.vmig_c.proofs.Marking.{all_below, marked_below}
+use Rattle.vmig_c.proofs.Mirrored.{both_left, both_right, is_page}
+
+-- What is not refused: the bitmap, if there is one, covers pages that are there, and has a bit for each, and the list names such.
+pub record AreThere (p : Pages) (count : ℕ) : Type 0 where
+  pub bits : has_words p ≡ true → span_of p count ≤ 64 * length p.words.now
+  pub within : has_words p ≡ true → p.first + span_of p count ≤ count
+  pub listed : are_pages count p.list.now ≡ true
+
+by_words : {A : Type 0} (words small past : Bool) {a b c : A} → ◌≡◌ {A = Option A} (if words && small then Some a else if words && past then Some b else Some c) None → ⊥
+by_words true true past is = cc
+by_words true false true is = cc
+by_words true false false is = cc
+by_words false small past is = cc
+
+three_tests : {A : Type 0} (words small past are : Bool) (a b c : A) → ◌≡◌ {A = Option A} (if words && small then Some a else if words && past then Some b else if not are then Some c else None) None
+    → (words ≡ true → small ≡ false) × (words ≡ true → past ≡ false) × (are ≡ true)
+three_tests words small past false a b c is = absurd (by_words words small past is)
+three_tests false small past true a b c is = (λ w. absurd cc, λ w. absurd cc, refl)
+three_tests true true past true a b c is = absurd cc
+three_tests true false true true a b c is = absurd cc
+three_tests true false false true a b c is = (λ w. refl, λ w. refl, refl)
+
+pub there : (p : Pages) (count : ℕ) → pages_refusal p count ≡ None → AreThere p count
+there p count none =
+    let tests = three_tests (has_words p) (nat_lt (64 * length p.words.now) (span_of p count)) (nat_lt count (p.first + span_of p count)) (are_pages count p.list.now) _ _ _ none in
+    record {
+      bits = λ w. tested_from (64 * length p.words.now) (span_of p count) (tests.0 w);
+      within = λ w. tested_from count (p.first + span_of p count) (tests.1.0 w);
+      listed = tests.1.1;
+    }
+
+-- Numbers that are shifted.
+less : (a b : ℕ) → a < b → nat_lt a b ≡ true
+less a b is = grind (arith, nat_tests)
+
+both : (a b : Bool) → a ≡ true → b ≡ true → (a && b) ≡ true
+both a b is other = rw (is, other) refl
+
+shifted_below : (first span count : ℕ) (numbers : List ℕ) → first + span ≤ count → are_pages span numbers ≡ true → are_pages count (shifted first numbers) ≡ true
+shifted_below first span count [] within are = refl
+shifted_below first span count (n ∷ numbers) within are =
+    let below : n < span = is_page n span (both_left (nat_lt n span) (are_pages span numbers) are) in
+    both (nat_lt (first + n) count) (are_pages count (shifted first numbers)) (less (first + n) count (omega (arith, below, within)))
+    (shifted_below first span count numbers within (both_right (nat_lt n span) (are_pages span numbers) are))
+
+joined_below : (count : ℕ) (some others : List ℕ) → are_pages count some ≡ true → are_pages count others ≡ true → are_pages count (some ++ others) ≡ true
+joined_below count [] others are also = also
+joined_below count (n ∷ some) others are also =
+    both (nat_lt n count) (are_pages count (some ++ others)) (both_left (nat_lt n count) (are_pages count some) are) (joined_below count some others (both_right (nat_lt n count) (are_pages count some) are) also)
+
+of_bitmap : (words : Bool) (p : Pages) (count : ℕ) → has_words p ≡ words → AreThere p count → are_pages count (shifted p.first (marked p.words.now (if words then span_of p count else 0))) ≡ true
+of_bitmap true p count is are = shifted_below p.first (span_of p count) count (marked p.words.now (span_of p count)) (are.within is) (marked_below p.words.now (span_of p count))
+of_bitmap false p count is are = refl
+
+of_named : (none : Bool) (p : Pages) (count : ℕ) → AreThere p count
+    → are_pages count (if none then shifted p.first (marked p.words.now (if has_words p then span_of p count else 0)) ++ p.list.now else numbers_below count) ≡ true
+of_named true p count are = joined_below count (shifted p.first (marked p.words.now (if has_words p then span_of p count else 0))) p.list.now (of_bitmap (has_words p) p count refl are) are.listed
+of_named false p count are = all_below count
+
+-- All pages that are named are there.
+pub named_are : (p : Pages) (count : ℕ) → pages_refusal p count ≡ None → are_pages count (named_pages p count) ≡ true
+named_are p count none = of_named (p.all == 0) p count (there p count none)
+
+-- Where no list is needed, they are those of the caller's list.
+listed_by : (none words : Bool) (p : Pages) (count : ℕ) → (not none) ≡ false → words ≡ false
+    → (if none then shifted p.first (marked p.words.now (if words then span_of p count else 0)) ++ p.list.now else numbers_below count) ≡ p.list.now
+listed_by false words p count all none = absurd cc
+listed_by true true p count all none = absurd cc
+listed_by true false p count all none = refl
+
+no_or : (a b : Bool) → (a || b) ≡ false → (a ≡ false) × (b ≡ false)
+no_or true b is = absurd cc
+no_or false b is = (refl, is)
+
+pub listed : (p : Pages) (count : ℕ) → needs_list p ≡ false → named_pages p count ≡ p.list.now
+listed p count none =
+    let parts = no_or (not (p.all == 0)) (has_words p) none in
+    listed_by (p.all == 0) (has_words p) p count parts.0 parts.1
+
+-- A number of a page plus the first is a 32-bit number.
+pub below_top : (first span : ℕ) (numbers : List ℕ) → first + span ≤ 16384 → are_pages span numbers ≡ true → AreBelowTop first numbers
+below_top first span [] within are k d less = absurd (omega (arith, less))
+below_top first span (n ∷ numbers) within are zero d less = let below : n < span = is_page n span (both_left (nat_lt n span) (are_pages span numbers) are) in omega (arith, below, within)
+below_top first span (n ∷ numbers) within are (suc k) d less = below_top first span numbers within (both_right (nat_lt n span) (are_pages span numbers) are) k d (omega (arith, less))

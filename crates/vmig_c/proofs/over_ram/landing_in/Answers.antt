@@ -1,5 +1,0 @@
-use Rattle.vmig_c.proofs.OverRam.{back_again}
-use Rattle.vmig_c.proofs.over_ram.landing_in.Goals as goal
-
-pub returns-in-Err-clause-same : goal.returns-in-Err-clause-same
-returns-in-Err-clause-same c = back_again c.args.ram.now c.put_back.new.ram c.taken_ram.result c.in-Err.region c.taken_ram.ensures.region c.in-Err.ensures.back c.put_back.ensures
