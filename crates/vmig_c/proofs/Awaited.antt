@@ -202,6 +202,11 @@ not_whole (Head base ram held) a coming view at = subst (λ (x : ArrivalSeen). T
 not_whole (Body r) a coming view at = absurd at
 not_whole Failed a coming view at = absurd at
 
+pub not_counted : (p : Progress) (a : ArrivalSeen) → IsComing p → awaited_by p ≡ a → IsAtHead (awaited_by p) → CountsRounds a 0
+not_counted (Head base ram held) a coming view at = subst (λ (x : ArrivalSeen). CountsRounds x 0) view (head_counts (terms_for base ram) (place_for ram) held.items coming)
+not_counted (Body r) a coming view at = absurd at
+not_counted Failed a coming view at = absurd at
+
 -- The address at which RAM will begin.
 pub based_at : (base : ℕ) (ram : Option Memory) → base ≡ (terms_for base ram).base
 based_at base None = refl

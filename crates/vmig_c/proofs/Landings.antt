@@ -149,4 +149,3 @@ counted (i ∷ disks) = ap suc (counted disks)
 
 pub as_many_images : (r : Received) (disks : List Image) → sizes_of image_state disks ≡ r.sizes → length disks ≡ length r.sizes
 as_many_images r disks are = counted disks ∙ ap length are
-

@@ -6,6 +6,7 @@ mod AsBox
 mod Awaited
 mod ByHandle
 mod ByKept
+mod ToldShapes
 mod Descriptions
 mod Failing
 mod Handing

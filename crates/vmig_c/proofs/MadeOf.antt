@@ -1,17 +1,21 @@
 -- The machine that a setup asks for.
 use Rattle.std.proofs.Common.{◌≡◌, ℕ, Bool, true, false, List, [], refl, sym, ap, ◌∙◌, subst, map}
-use Rattle.std.specs.Prelude.{Option, Some, None, IfOk, Result, length, not, ◌==◌}
+use Rattle.std.specs.Prelude.{Option, Some, None, length, ◌==◌}
+use Rattle.region.specs.Address.{address}
+use Rattle.region.specs.Empty.{empty_slot}
 use Rattle.region.specs.Slot.{region_of, slot_of}
 use Rattle.region.specs.declared.region.Region.{Region}
 use Rattle.region.specs.declared.slot.Slot.{Slot}
-use Rattle.machine.specs.First.{dealt_marks, made_machine}
+use Rattle.blk.specs.Sectors.{Sector}
+use Rattle.machine.specs.First.{dealt_marks, made_machine, zero_pages}
 use Rattle.machine.specs.Seen.{DeviceSeen, Seen, all_marks, no_marks, state_of}
 use Rattle.machine.specs.Sound.{IsSound}
 use Rattle.machine.specs.Shapes.{disk_sizes}
 use Rattle.machine.specs.declared.shape.Shape.{Shape}
 use Rattle.mapped_disk.specs.declared.image.Image.{Image}
-use Rattle.vmig_c.specs.Kept.{IsNew, KeptSeen, Still, kept_of}
-use Rattle.vmig_c.specs.Made.{AreFirst, AreOwn, AreOwnDisks, IsMachineOf, first_place, first_ram, has_images}
+use Rattle.vmig_c.specs.Kept.{IsNew, KeptSeen, Still}
+use Rattle.vmig_c.specs.Images.{AreImages}
+use Rattle.vmig_c.specs.Made.{AreFirst, AreOwn, AreOwnDisks, IsMachineOf, first_place, first_ram, has_bytes, has_images, ram_left}
 use Rattle.vmig_c.specs.Making.{shapes_of, zero_sectors}
 use Rattle.vmig_c.specs.Mapping.{contents}
 use Rattle.vmig_c.specs.declared.setup.Setup.{Setup}
@@ -38,6 +42,30 @@ machine_of s k m shapes sectors disks images has new idle asked are first place 
 -- The disks in memory of the library.
 pub own_zeros : (contents : List ℕ) (shapes : List Shape) (disks : List (List (List ℕ))) → (length contents == 0) ≡ true → disks ≡ map zeros (disk_sizes shapes) → AreOwnDisks contents shapes disks
 own_zeros contents shapes disks none are = rw (none, are) (good_zeros (disk_sizes shapes))
+
+pub own_contents : (contents : List ℕ) (shapes : List Shape) (disks : List (List (List ℕ))) → (length contents == 0) ≡ false → AreImages contents (disk_sizes shapes) disks → AreOwnDisks contents shapes disks
+own_contents contents shapes disks some are = rw some are
+
+-- By whether RAM is memory of the caller.
+pub no_ram : (base pages : ℕ) (ram : Slot) (shapes : List Shape) (sectors : List (List Sector)) (m : Seen) → (length ram.content == 0) ≡ true → state_of m ≡ made_machine base (zero_pages pages) shapes sectors
+    → state_of m ≡ made_machine base (first_ram pages ram) shapes sectors
+no_ram base pages ram shapes sectors m none first = rw none first
+
+pub over_ram : (base pages : ℕ) (ram : Slot) (region : Region) (shapes : List Shape) (sectors : List (List Sector)) (m : Seen) → (length ram.content == 0) ≡ false → region ≡ region_of ram → state_of m ≡ made_machine base region.content shapes sectors
+    → state_of m ≡ made_machine base (first_ram pages ram) shapes sectors
+over_ram base pages ram region shapes sectors m some is first = rw some (first ∙ ap (λ (r : Region). made_machine base r.content shapes sectors) is)
+
+pub no_place : (ram : Slot) (m : Seen) → (length ram.content == 0) ≡ true → m.memory.place ≡ None → m.memory.place ≡ first_place ram
+no_place ram m none place = rw none place
+
+pub over_place : (ram : Slot) (region : Region) (m : Seen) → (length ram.content == 0) ≡ false → region ≡ region_of ram → m.memory.place ≡ Some (address region) → m.memory.place ≡ first_place ram
+over_place ram region m some is place = rw some (place ∙ ap (λ (r : Region). Some (address r)) is)
+
+pub none_left : (ram after : Slot) → (length ram.content == 0) ≡ true → after ≡ ram → after ≡ ram_left (has_bytes ram) ram
+none_left ram after none same = rw none same
+
+pub all_left : (ram after : Slot) → (length ram.content == 0) ≡ false → after ≡ empty_slot → after ≡ ram_left (has_bytes ram) ram
+all_left ram after some free = rw some free
 
 -- What was put back lies there as it lay.
 pub back_again : (ram after : Slot) (region back : Region) → region ≡ region_of ram → back ≡ region → after ≡ slot_of back → after ≡ ram

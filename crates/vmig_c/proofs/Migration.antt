@@ -1,5 +1,7 @@
 -- The migration of what lies behind a handle.
-use Rattle.std.proofs.Common.{◌≡◌, ◌≤◌, ◌<◌, ◌+◌, ◌-◌, ℕ, suc, Bool, true, false, List, refl, sym, ap, ◌∙◌, subst, arith}
+use Rattle.std.proofs.Common.{◌≡◌, ◌≢◌, ◌≤◌, ◌<◌, ◌-◌, ◌==◌, ℕ, suc, Bool, true, false, List, refl, sym, ap, ◌∙◌, subst, arith, true≢false}
+use Rattle.std.proofs.lemmas.Bool.Decides.{nat_tests}
+use Rattle.dirtylog.specs.Members.{member_count}
 use Rattle.std.specs.Prelude.{MatchOption, Option, Some, None, Result, Ok, Err}
 use Rattle.machine.specs.Seen.{Seen}
 use Rattle.sender.specs.Calls.{Does, Serves, copied_reply}
@@ -49,20 +51,26 @@ moving_takes k l next status got old_got buf new_buf is was = subst (λ (x : Sta
 abbrev pub IsOnWay : ℕ → LiveSeen → ℕ → LiveSeen → Type 0
 IsOnWay most l left mid = (status : ℕ) (next : LiveSeen) → SendsUpTo left mid status next → SendsUpTo most l status next
 
-one_more : (left i most : ℕ) → left ≡ most - i → i < most → left ≡ suc (most - (i + 1))
-one_more left i most is below = omega (arith, is, below)
+pub one_more : (left : ℕ) → 0 < left → left ≡ suc (left - 1)
+one_more left some = omega (arith, some)
+
+none_due : (l : LiveSeen) (due : ℕ) → due ≡ member_count l.due → due ≡ 0 → is_none_due l ≡ true
+none_due l due counted zero = rw (sym counted ∙ zero) refl
+
+some_due : (l : LiveSeen) (due : ℕ) → due ≡ member_count l.due → due ≢ 0 → is_none_due l ≡ false
+some_due l due counted some = rw (← counted) (let no : (due == 0) ≡ false = grind (arith, nat_tests) in no)
 
 at_none : (none : Bool) (n : ℕ) (l : LiveSeen) → is_none_due l ≡ none → none ≡ true → SendsIf (is_none_due l) (λ (mid : LiveSeen). SendsUpTo n mid 76 l) l 76 l
-at_none true n l is yes = rw is (refl, refl)
-at_none false n l is yes = absurd cc
+at_none true n l is so = rw is (refl, refl)
+at_none false n l is so = absurd (true≢false (sym so))
 
 -- Nothing is due any more.
-pub none_left : (most i : ℕ) (l mid : LiveSeen) → i < most → is_none_due mid ≡ true → IsOnWay most l (most - i) mid → SendsUpTo most l 76 mid
-none_left most i l mid below none way =
-    way 76 mid (subst (λ (n : ℕ). SendsUpTo n mid 76 mid) (sym (one_more (most - i) i most refl below)) (at_none (is_none_due mid) (most - (i + 1)) mid refl none))
+pub none_left : (most left due : ℕ) (l mid : LiveSeen) → 0 < left → due ≡ member_count mid.due → due ≡ 0 → IsOnWay most l left mid → SendsUpTo most l 76 mid
+none_left most left due l mid some counted zero way =
+    way 76 mid (subst (λ (n : ℕ). SendsUpTo n mid 76 mid) (sym (one_more left some)) (at_none (is_none_due mid) (left - 1) mid refl (none_due mid due counted zero)))
 
 sends_one : (none : Bool) (rest : LiveSeen → Type 0) (l mid next : LiveSeen) (reply : LiveReply) (status : ℕ) → none ≡ false → HasPlaces l → Serves l events.Copy reply mid → GoesOn reply rest mid status next → SendsIf none rest l status next
-sends_one true rest l mid next reply status some places serves goes = absurd cc
+sends_one true rest l mid next reply status some places serves goes = absurd (true≢false some)
 sends_one false rest l mid next reply status some places serves goes = record { mid = mid; reply = reply; places = places; serves = serves; goes_on = goes }
 
 goes_with : (answer : CopyAnswer) (rest : LiveSeen → Type 0) (mid : LiveSeen) (status : ℕ) (next : LiveSeen) → rest mid → GoesOn (copied_reply (Ok answer)) rest mid status next
@@ -70,26 +78,30 @@ goes_with (answers.Copied item) rest mid status next h = h
 goes_with answers.RoundDone rest mid status next h = h
 
 -- One more item was sent.
-pub one_sent : (most i : ℕ) (l now mid : LiveSeen) (answer : Result CopyAnswer MigError) (copy : CopyAnswer) → answer ≡ Ok copy → i < most → is_none_due now ≡ false → HasPlaces now → Serves now events.Copy (copied_reply answer) mid
-    → IsOnWay most l (most - i) now → IsOnWay most l (most - (i + 1)) mid
-one_sent most i l now mid answer copy is below some places serves way status next rest =
+pub one_sent : (most left due : ℕ) (l now mid : LiveSeen) (answer : Result CopyAnswer MigError) (copy : CopyAnswer) → answer ≡ Ok copy → 0 < left → due ≡ member_count now.due → due ≢ 0 → HasPlaces now → Serves now events.Copy (copied_reply answer) mid
+    → IsOnWay most l left now → IsOnWay most l (left - 1) mid
+one_sent most left due l now mid answer copy is more counted some places serves way status next rest =
     let served : Serves now events.Copy (copied_reply (Ok copy)) mid = subst (λ (r : Result CopyAnswer MigError). Serves now events.Copy (copied_reply r) mid) is serves in
-    way status next (subst (λ (n : ℕ). SendsUpTo n now status next) (sym (one_more (most - i) i most refl below))
-    (sends_one (is_none_due now) (λ (x : LiveSeen). SendsUpTo (most - (i + 1)) x status next) now mid next (copied_reply (Ok copy)) status some places served (goes_with copy (λ (x : LiveSeen). SendsUpTo (most - (i + 1)) x status next) mid status next rest)))
+    way status next (subst (λ (n : ℕ). SendsUpTo n now status next) (sym (one_more left more))
+    (sends_one (is_none_due now) (λ (x : LiveSeen). SendsUpTo (left - 1) x status next) now mid next (copied_reply (Ok copy)) status (some_due now due counted some) places served (goes_with copy (λ (x : LiveSeen). SendsUpTo (left - 1) x status next) mid status next rest)))
 
 -- One was refused, and ended it.
-pub one_refused : (most i : ℕ) (l now mid : LiveSeen) (answer : Result CopyAnswer MigError) (error : MigError) (status : ℕ) → answer ≡ Err error → i < most → is_none_due now ≡ false → HasPlaces now → Serves now events.Copy (copied_reply answer) mid
-    → status ≡ mig_status error → IsOnWay most l (most - i) now → SendsUpTo most l status mid
-one_refused most i l now mid answer error status is below some places serves told way =
+pub one_refused : (most left due : ℕ) (l now mid : LiveSeen) (answer : Result CopyAnswer MigError) (error : MigError) (status : ℕ) → answer ≡ Err error → 0 < left → due ≡ member_count now.due → due ≢ 0 → HasPlaces now → Serves now events.Copy (copied_reply answer) mid
+    → status ≡ mig_status error → IsOnWay most l left now → SendsUpTo most l status mid
+one_refused most left due l now mid answer error status is more counted some places serves told way =
     let served : Serves now events.Copy (live.Mig error) mid = subst (λ (r : Result CopyAnswer MigError). Serves now events.Copy (copied_reply r) mid) is serves in
-    way status mid (subst (λ (n : ℕ). SendsUpTo n now status mid) (sym (one_more (most - i) i most refl below))
-    (sends_one (is_none_due now) (λ (x : LiveSeen). SendsUpTo (most - (i + 1)) x status mid) now mid mid (live.Mig error) status some places served (told, refl)))
+    way status mid (subst (λ (n : ℕ). SendsUpTo n now status mid) (sym (one_more left more))
+    (sends_one (is_none_due now) (λ (x : LiveSeen). SendsUpTo (left - 1) x status mid) now mid mid (live.Mig error) status (some_due now due counted some) places served (told, refl)))
 
 -- As many were sent as may be.
-pub all_sent : (most i status : ℕ) (l mid : LiveSeen) → most ≤ i → status ≡ end_status (is_none_due mid) → IsOnWay most l (most - i) mid → SendsUpTo most l status mid
-all_sent most i status l mid end told way =
-    let none : most - i ≡ 0 = omega (arith, end) in
-    way status mid (subst (λ (n : ℕ). SendsUpTo n mid status mid) (sym none) (told, refl))
+at_end : (left status : ℕ) (mid : LiveSeen) → left ≡ 0 → status ≡ end_status (is_none_due mid) → SendsUpTo left mid status mid
+at_end left status mid end told = subst (λ (n : ℕ). SendsUpTo n mid status mid) (sym end) (told, refl)
+
+pub all_sent : (most left due : ℕ) (l mid : LiveSeen) → left ≤ 0 → due ≡ member_count mid.due → due ≢ 0 → IsOnWay most l left mid → SendsUpTo most l 0 mid
+all_sent most left due l mid end counted some way = way 0 mid (at_end left 0 mid (omega (arith, end)) (rw (some_due mid due counted some) refl))
+
+pub none_at_end : (most left due : ℕ) (l mid : LiveSeen) → left ≤ 0 → due ≡ member_count mid.due → due ≡ 0 → IsOnWay most l left mid → SendsUpTo most l 76 mid
+none_at_end most left due l mid end counted zero way = way 76 mid (at_end left 76 mid (omega (arith, end)) (rw (none_due mid due counted zero) refl))
 
 -- By whether it is refused.
 pub some_refused : (l : LiveSeen) (most status : ℕ) (answer : Option ℕ) → answer ≡ Some status → answer ≡ send_refusal l.phase → SendsSome l most status l

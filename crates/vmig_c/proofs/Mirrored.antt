@@ -298,7 +298,7 @@ pub pushable : (k : State) (p : Pages) (numbers : List ℕ) (bytes entries : ℕ
     → IsPushable k numbers bytes entries
 pushable k p numbers bytes entries none are =
     let tests = push_tests _ _ _ _ (is_away k) (is_stopped k) (is_known_pages p) (is_short (memory_in k) bytes entries) (pages_refusal p (length (memory_in k).versions)) none in
-    record { here = tests.0; going = tests.1.0; room = tests.1.1.0; are = are tests.1.1.1 }
+    record { here = tests.0; going = tests.1; room = tests.2; are = are tests.3 }
 
 pub pushed_mirrors : PushedMirrors
 pushed_mirrors k next pages ram seen new_seen sound none others pushed =

@@ -34,8 +34,8 @@ there p count none =
     let tests = three_tests (has_words p) (nat_lt (64 * length p.words.now) (span_of p count)) (nat_lt count (p.first + span_of p count)) (are_pages count p.list.now) _ _ _ none in
     record {
       bits = λ w. tested_from (64 * length p.words.now) (span_of p count) (tests.0 w);
-      within = λ w. tested_from count (p.first + span_of p count) (tests.1.0 w);
-      listed = tests.1.1;
+      within = λ w. tested_from count (p.first + span_of p count) (tests.1 w);
+      listed = tests.2;
     }
 
 -- Numbers that are shifted.

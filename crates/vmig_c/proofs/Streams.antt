@@ -1,38 +1,19 @@
 -- Machines that are saved and received.
-use Rattle.std.proofs.Common.{◌≡◌, ℕ, Bool, true, false, nat_lt, List, [], ◌∷◌, ◌++◌, refl, sym, ap, ◌∙◌, subst, map, replicate, length, drop, inl, inr, true≢false}
-use Rattle.std.specs.Prelude.{Result, Ok, Err, IfErr, OnOk}
-use Rattle.machine.specs.Seen.{Seen, AreHonest, DeviceSeen, Marks, all_marks, marks_at, no_marks, state_of}
+use Rattle.std.proofs.Common.{◌≡◌, ◌≤◌, ◌<◌, ℕ, Bool, true, false, nat_lt, List, [], ◌∷◌, ◌++◌, refl, sym, ap, ◌∙◌, subst, arith, map, replicate, length, drop, inl, inr, true≢false}
+use Rattle.std.specs.Prelude.{IsTrue, Option, Some, None, Result, Ok, Err, IfErr, OnOk, option_map}
+use Rattle.std.proofs.lemmas.Bool.Decides.{nat_tests}
+use Rattle.std.proofs.lemmas.List.{length-replicate}
+use Rattle.machine.specs.Seen.{Seen, AreHonest, Marks, all_marks, marks_at, no_marks, or_no_marks, state_of}
 use Rattle.sender.specs.Saving.{Sends, marks_after, IsNamed}
 use Rattle.sender.specs.declared.mig_error.MigError.{MigError}
 use Rattle.sender.specs.declared.mig_error.MigError.TheVariants.{AlreadyBegun, AlreadyStopped, NotBegun, RoundsEnded, StreamFailed}
 use Rattle.sender.specs.declared.mig_error.MigError.TheVariants as mig
-use Rattle.receiver.specs.declared.recv_error.RecvError.TheVariants.{DiskFailed}
 use Rattle.wire.specs.Sinks.{SinkState, over_writer}
 use Rattle.wire.specs.Stream.{whole}
-use Rattle.std.specs.Prelude.{IsTrue, Option, Some, None, option_map, slice_get}
-use Rattle.std.proofs.lemmas.Option.{slice_get-map}
-use Rattle.machine.specs.Seen.{or_no_marks}
-use Rattle.receiver.specs.Faults.{Fault, IsMismatch}
-use Rattle.receiver.proofs.Heads.{no_header_fault}
-use Rattle.receiver.specs.declared.recv_error.RecvError.TheVariants.{BadMagic, BadVersion, BadShape, ShapeMismatch, BadTag, BadPage, BadSector, BadRound, BadDevice, BadDigest, Missing, Trailing, Truncated, NoMemory, AlreadyFailed}
-use Rattle.std.proofs.lemmas.List.{length-replicate}
-use Rattle.std.proofs.lemmas.List.Elements.{All-map}
-use Rattle.blk.specs.Disk.{DiskState}
-use Rattle.machine.specs.First.{dealt_marks, marks_in}
-use Rattle.machine.specs.State.{base_of}
-use Rattle.machine.specs.Shapes.{disk_sizes}
-use Rattle.wire.specs.Header.{Begins, said}
-use Rattle.wire.specs.declared.header.Header.{Header}
-use Rattle.wire.specs.Stream.{shapes_in}
-use Rattle.receiver.specs.Disks.{AreHonestDisks, disk_marks_of, sizes_of}
-use Rattle.receiver.specs.Opened.{ram_at}
-use Rattle.receiver.specs.Receiving.{IsReceived, RefusesSlice}
-use Rattle.receiver.specs.declared.recv_error.RecvError.{RecvError}
-use Rattle.vmig_c.proofs.Zeros.{alike}
-use Rattle.vmig_c.specs.Headed.{AreFitting, HasNoHeader}
-use Rattle.vmig_c.specs.Moving.{IsKept, Saves, IsPossible, IsReceivedAs, RefusedBy, refusal_status}
+use Rattle.receiver.specs.Disks.{sizes_of}
+use Rattle.vmig_c.specs.Moving.{HasSaved, IsKept, Saves}
 use Rattle.vmig_c.specs.Plain.{ArePlain, mem_state}
-use Rattle.vmig_c.proofs.Plain.{plain_at, as_many, are_honest}
+use Rattle.vmig_c.proofs.Plain.{plain_at, are_honest}
 
 -- No disk in memory fails as it is read.
 same_marks : (m : Seen) (result : Result (Unit {0}) MigError) → ArePlain m → IfErr result (λ e. IsNamed m e) → marks_after (all_marks m) result ≡ all_marks m
@@ -97,3 +78,16 @@ pub saved : (m next : Seen) (measured status len old_len : ℕ) (buf new_buf : L
 saved m next measured status len old_len buf new_buf is fits has =
     let long : nat_lt (length buf) (length (whole (state_of m))) ≡ false = not_less (length buf) (length (whole (state_of m))) (omega (arith, is, fits)) in
     rw long has
+
+-- What a sink over a vector holds after the whole stream.
+held_ok : (m : Seen) (bytes : List ℕ) (out new_out : SinkState) (items : List ℕ) (failures : ℕ) (flushed : Bool) → (AreHonest m → IsTrue out.honest → IsTrue new_out.honest × (new_out.held ≡ out.held ++ bytes)) → ArePlain m
+    → out ≡ over_writer (Some []) 0 false → new_out ≡ over_writer (Some items) failures flushed → items ≡ bytes
+held_ok m bytes out new_out items failures flushed holds plain was is =
+    let honest : IsTrue out.honest = rw was refl in
+    let more = holds (are_honest m plain) honest in
+    ap (λ (s : SinkState). s.held) (sym is) ∙ more.1 ∙ ap (λ (s : SinkState). s.held ++ bytes) was
+
+pub held_of : (m next : Seen) (out new_out : SinkState) (bytes items first : List ℕ) (result : Result (Unit {0}) MigError) (x : Unit {0}) → ArePlain m → Sends m out bytes result next new_out → result ≡ Ok x
+    → first ≡ [] → out ≡ over_writer (Some first) 0 false → new_out ≡ over_writer (Some items) new_out.failures new_out.is_flushed → items ≡ bytes
+held_of m next out new_out bytes items first result x plain sends is empty was now =
+    held_ok m bytes out new_out items new_out.failures new_out.is_flushed (subst (λ (r : Result (Unit {0}) MigError). OnOk r (AreHonest m → IsTrue out.honest → IsTrue new_out.honest × (new_out.held ≡ out.held ++ bytes))) is sends.holds) plain (was ∙ ap (λ (l : List ℕ). over_writer (Some l) 0 false) empty) now

@@ -3,6 +3,7 @@ use Rattle.std.proofs.Common.{◌≡◌, ℕ, zero, suc, List, [], ◌∷◌, re
 use Rattle.std.specs.Prelude.{Option, Some, None}
 use Rattle.machine.specs.First.{dealt, dealt_marks, given, left_over}
 use Rattle.machine.specs.Seen.{Marks, no_marks}
+use Rattle.machine.specs.Shapes.{disk_size_of}
 use Rattle.machine.specs.declared.shape.Shape.{Shape}
 use Rattle.vmig_c.specs.Making.{zero_sectors}
 

@@ -119,17 +119,18 @@ abbrev pub number_of : Bool → ℕ
 number_of true = 1
 number_of false = 0
 
-abbrev pub told_head : AdmissionSeen → Description
-told_head (Granted pages shapes) = if nat_lt DEVICES_MAX (length shapes) then nothing_told else with_shapes nothing_told pages shapes
-told_head (Pending limits expected held) = nothing_told
-told_head (Denied first) = nothing_told
+abbrev pub told_head : ℕ → List Shape → Description
+told_head pages shapes = if nat_lt DEVICES_MAX (length shapes) then nothing_told else with_shapes nothing_told pages shapes
 
 abbrev pub told_coming : Description → ℕ → ℕ → Bool → Description
 told_coming d base rounds whole = record d { state = is_arriving; base = base; rounds = rounds; whole = number_of whole }
 
+abbrev pub told_failed : ℕ → ℕ → Description
+told_failed status fed = record nothing_told { state = is_failed; fault = status; fault_at = fed }
+
 abbrev pub told_arriving : AdmissionSeen → ℕ → ℕ → ℕ → Bool → Description
-told_arriving (Denied first) fed base rounds whole = record nothing_told { state = is_failed; fault = first; fault_at = fed }
-told_arriving (Granted pages shapes) fed base rounds whole = told_coming (told_head (Granted pages shapes)) base rounds whole
+told_arriving (Denied first) fed base rounds whole = told_failed first fed
+told_arriving (Granted pages shapes) fed base rounds whole = told_coming (told_head pages shapes) base rounds whole
 told_arriving (Pending limits expected held) fed base rounds whole = told_coming nothing_told base rounds whole
 
 pub record IsToldArriving (k : KeptSeen) (r : ArrivalSeen) (d : Description) : Type 0 where

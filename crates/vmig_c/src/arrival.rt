@@ -122,7 +122,7 @@ impl Arrival {
     }
 
     /// The number of rounds that ended in the bytes fed so far.
-    #[tactic(auto, using(crate::proofs::Awaited::body_counts, crate::proofs::Awaited::head_counts))]
+    #[tactic(auto, using(crate::proofs::Awaited::body_counts))]
     pub(crate) fn rounds(&self) -> u32
         ensures { CountsRounds self.now result }
     {
@@ -133,7 +133,7 @@ impl Arrival {
     }
 
     /// Whether the bytes fed so far are a whole stream.
-    #[tactic(auto, using(crate::proofs::Awaited::body_whole, crate::proofs::Awaited::head_whole))]
+    #[tactic(auto, using(crate::proofs::Awaited::body_whole))]
     pub(crate) fn is_whole(&self) -> bool
         ensures { TellsWhole self.now result }
     {
@@ -144,7 +144,6 @@ impl Arrival {
     }
 
     /// The guest-physical address at which RAM will begin; 0 after a refusal.
-    #[tactic(auto, using(crate::proofs::Awaited::base_seen))]
     pub(crate) fn base(&self) -> u64
         ensures { result ≡ awaited_base self.now }
     {

@@ -76,18 +76,22 @@ fn made(alloc: Global, setup: &mut Setup) -> Result<Box<Kept>, NoMemory>
 }
 
 /// Disks in memory of the library: they hold the contents, one after another, or zeros where there are none.
+#[tactic(auto, using(crate::proofs::MadeOf::own_zeros, crate::proofs::MadeOf::own_contents))]
 fn own_disks(alloc: Global, shapes: &[Shape], contents: &[u8]) -> Result<Vec<MemDisk>, NoMemory>
     requires { fit_contents contents.now shapes.now }
     ensures { IfOk result (λ disks. AreOwnDisks contents.now shapes.now disks.items) }
 {
     if contents.is_empty() {
-        return zero_disks(alloc, shapes);
+        let disks = zero_disks(alloc, shapes)?;
+        return Ok(disks);
     }
-    image_disks(alloc, shapes, contents)
+    let disks = image_disks(alloc, shapes, contents)?;
+    Ok(disks)
 }
 
 /// A machine of these devices and disks, whose RAM is the memory in the slot, which is taken; or zeros, where there is none. Where memory is
 /// refused, the slot is as it was, and the disks come back.
+#[tactic(auto, using(crate::proofs::MadeOf::no_ram, crate::proofs::MadeOf::over_ram, crate::proofs::MadeOf::no_place, crate::proofs::MadeOf::over_place, crate::proofs::MadeOf::none_left, crate::proofs::MadeOf::all_left, crate::proofs::MadeOf::back_again))]
 fn machine_on<D: Disk + Drop>(
     alloc: Global,
     base: u64,
@@ -96,7 +100,7 @@ fn machine_on<D: Disk + Drop>(
     shapes: &[Shape],
     disks: Vec<D>,
 ) -> Result<Machine<D>, Vec<D>>
-    ensures made { IfOk result (λ m. state_of m ≡ made_machine base (first_ram pages ram.old.content) shapes.now (map (λ d. map Some (D.state d).sectors) disks.items)) }
+    ensures made { IfOk result (λ m. state_of m ≡ made_machine base (first_ram pages ram.old) shapes.now (map (λ d. map Some (D.state d).sectors) disks.items)) }
     ensures place { IfOk result (λ m. m.memory.place ≡ first_place ram.old) }
     ensures marks { IfOk result (λ m. all_marks m ≡ dealt_marks shapes.now (map (λ d. marks_in (D.state d)) disks.items)) }
     ensures sound { IfOk result (λ m. IsSound (state_of m)) }
@@ -105,7 +109,10 @@ fn machine_on<D: Disk + Drop>(
     ensures same { IfErr result (λ back. ram.new ≡ ram.old) }
 {
     if ram.is_none() {
-        return zeroed_machine(alloc, base, pages, shapes, disks);
+        return match zeroed_machine(alloc, base, pages, shapes, disks) {
+            Ok(machine) => Ok(machine),
+            Err(disks) => Err(disks),
+        };
     }
     match machine_over_region(alloc, base, taken_ram(ram), shapes, disks) {
         Ok(machine) => Ok(machine),

@@ -3,13 +3,10 @@
 //! One call answers all questions, in each state, so a host keeps no state of its own beside the handle. What C gets of a device is what it
 //! was made of, in the struct that it makes machines by.
 
-ghost use Rattle.std.specs.Prelude.{◌≡◌, ◌≤◌, length, map};
-ghost use Rattle.machine.specs.Seen.{state_of};
-ghost use Rattle.machine.specs.Shapes.{made_as};
+ghost use Rattle.std.specs.Prelude.{◌≡◌, ◌≤◌, length};
 ghost use Rattle.machine.specs.declared.machine.TheConstants.{DEVICES_MAX};
-ghost use Rattle.vmig_c.specs.Described.{IsDescribed, IsToldArriving, fault_in, lost_bits, round_in, sent_as, state_in_phase, told_machine, told_parked, told_still};
-ghost use Rattle.vmig_c.specs.Kept.{admission_of, loan_of, parked_in};
-ghost use Rattle.vmig_c.specs.Unmapping.{images_in};
+ghost use Rattle.vmig_c.specs.Described.{IsDescribed, lost_bits, number_of, sent_as, told_arriving, told_coming, told_failed, told_head, told_lent, told_still};
+ghost use Rattle.vmig_c.specs.Kept.{admission_of, loan_of};
 
 use crate::admission::Admission;
 use crate::description::{Description, message_of};
@@ -18,7 +15,7 @@ use crate::loan::Loan;
 use crate::status::SEND_FAILED;
 use crate::unmapping::image_count;
 use guestmem::PAGE_SIZE;
-use machine::{Disk, Machine};
+use machine::{DEVICES_MAX, Disk, Machine, Shape};
 use sender::Phase;
 
 const IS_ARRIVING: u32 = 1;
@@ -120,35 +117,66 @@ fn told_arriving(
 ) -> Description
     ensures { result ≡ told_arriving (admission_of admission.now) fed base rounds whole }
 {
+    match admission {
+        Admission::Denied(status) => told_failed(*status, fed),
+        Admission::Pending(..) => told_coming(Description::none(), base, rounds, whole),
+        Admission::Granted(pages, shapes) => told_coming(
+            told_head(*pages, shapes),
+            base,
+            rounds,
+            whole,
+        ),
+    }
+}
+
+fn told_failed(status: u32, fed: u64) -> Description
+    ensures { result ≡ told_failed status fed }
+{
     let mut told = Description::none();
-    if let Admission::Denied(status) = admission {
-        told.state = IS_FAILED;
-        told.fault = *status;
-        told.fault_at = fed;
-        return told;
+    told.state = IS_FAILED;
+    told.fault = status;
+    told.fault_at = fed;
+    told
+}
+
+/// What a header says.
+fn told_head(pages: u32, shapes: &[Shape]) -> Description
+    ensures { result ≡ told_head pages shapes.now }
+{
+    if shapes.len() > DEVICES_MAX {
+        return Description::none();
     }
-    if let Admission::Granted(pages, shapes) = admission {
-        told = told.with_shapes(*pages, shapes);
-    }
+    Description::none().with_shapes(pages, shapes)
+}
+
+fn told_coming(told: Description, base: u64, rounds: u32, whole: bool) -> Description
+    ensures { result ≡ told_coming told base rounds whole }
+{
+    let mut told = told;
     told.state = IS_ARRIVING;
     told.base = base;
     told.rounds = rounds;
-    told.whole = whole as u32;
+    told.whole = number_of(whole);
     told
 }
 
 /// Bit d for device d, whose disk was lost.
+#[tactic(auto, using(crate::proofs::ToldShapes::one_bit, crate::proofs::ToldShapes::no_bit))]
 fn lost_bits(lost: &[bool]) -> u32
     requires { length lost.now ≤ DEVICES_MAX }
     ensures { result ≡ lost_bits lost.now }
 {
+    let mut at = lost.len();
     let mut bits = 0u32;
-    let mut bit = 1u32;
-    for is_lost in lost {
-        if *is_lost {
-            bits += bit;
-        }
-        bit *= 2;
+    while at > 0 {
+        at -= 1;
+        bits = 2 * bits + number_of(lost[at]);
     }
     bits
+}
+
+fn number_of(whole: bool) -> u32
+    ensures { result ≡ number_of whole }
+{
+    if whole { 1 } else { 0 }
 }

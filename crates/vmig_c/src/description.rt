@@ -1,8 +1,8 @@
 //! What C is told of a handle, or of a stream.
 
-ghost use Rattle.std.specs.Prelude.{◌≡◌, ◌≤◌, length};
+ghost use Rattle.std.specs.Prelude.{◌≡◌, ◌≤◌, ◌++◌, drop, length, map};
 ghost use Rattle.machine.specs.declared.machine.TheConstants.{DEVICES_MAX};
-ghost use Rattle.vmig_c.specs.Described.{message_for, message_of, no_shapes, nothing_told, with_shapes};
+ghost use Rattle.vmig_c.specs.Described.{described, message_for, message_of, nothing_told, with_shapes};
 
 use crate::device_shape::DeviceShape;
 use crate::stepping::{FRAME_MAX, SENT_MAX};
@@ -88,21 +88,30 @@ impl Description {
 
     /// One that tells of these pages and devices beside.
     pub(crate) fn with_shapes(self, pages: u32, shapes: &[Shape]) -> Description
-        requires few { length shapes.now ≤ DEVICES_MAX }
-        requires none { self.shapes ≡ no_shapes }
+        requires { length shapes.now ≤ DEVICES_MAX }
         ensures { result ≡ with_shapes self pages shapes.now }
     {
         let mut told = self;
-        for at in 0..shapes.len() {
-            told.shapes[at] = DeviceShape::of(shapes[at]);
-        }
+        tell_shapes(&mut told.shapes, shapes);
         told.pages = pages;
         told.count = shapes.len() as u32;
         told
     }
 }
 
+/// Tells of devices at the front of the list.
+#[tactic(auto, using(crate::proofs::ToldShapes::told_more))]
+fn tell_shapes(told: &mut [DeviceShape], shapes: &[Shape])
+    requires { length shapes.now ≤ length told.old }
+    ensures { told.new ≡ map described shapes.now ++ drop (length shapes.now) told.old }
+{
+    for at in 0..shapes.len() {
+        told[at] = DeviceShape::of(shapes[at]);
+    }
+}
+
 /// The size of a buffer that is enough for every step of such devices.
+#[tactic(auto, using(crate::proofs::ToldShapes::more_most, crate::proofs::ToldShapes::all_most))]
 pub(crate) fn message_of(shapes: &[Shape]) -> u32
     ensures { result ≡ message_of shapes.now }
 {

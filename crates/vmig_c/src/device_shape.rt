@@ -2,7 +2,7 @@
 
 ghost use Rattle.std.specs.Prelude.{◌≡◌};
 ghost use Rattle.vmig_c.specs.Described.{described};
-ghost use Rattle.vmig_c.specs.Making.{has_only, is_known, is_plain, no_shape, shape_of};
+ghost use Rattle.vmig_c.specs.Making.{has_no_disk, has_only, is_known, is_plain, no_shape, shape_of};
 ghost use Rattle.vmig_c.specs.Named.{are_zeros};
 
 use machine::{SECTORS_MAX, Shape};

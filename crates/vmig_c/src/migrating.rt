@@ -1,7 +1,7 @@
 //! The calls of a migration, applied to the contents of a handle.
 
 ghost use Rattle.std.specs.Prelude.{◌≡◌, ◌++◌, IfErr, IfOk, drop, length, min, take};
-ghost use Rattle.vmig_c.specs.Migrated.{AbortsKept, BeginsKept, EndsKept, HasBegun, HasEnded, HasStopped, HasTaken, IsAnswered, IsLeft, LeavesKept, SendsKept, SendsSome, StopsKept, TakesKept, send_refusal};
+ghost use Rattle.vmig_c.specs.Migrated.{AbortsKept, BeginsKept, EndsKept, HasBegun, HasEnded, HasStopped, HasTaken, IsAnswered, IsLeft, LeavesKept, SendsKept, SendsSome, SendsUpTo, StopsKept, TakesKept, send_refusal};
 ghost use Rattle.vmig_c.specs.Kept.{are_mapped, state_in};
 
 use crate::arrival::Arrival;
@@ -128,20 +128,30 @@ pub(crate) fn send_some(kept: &mut Kept, most: u32) -> u32
 }
 
 /// Sends the least due item, at most so many times, while there is one.
+#[tactic(auto, using(crate::proofs::Migration::some_refused, crate::proofs::Migration::some_sent))]
 fn some_status<D: Disk>(live: &mut Moving<D>, most: u32) -> u32
     ensures { SendsSome live.old most result live.new }
 {
     if let Some(status) = send_refusal(live.phase()) {
         return status;
     }
-    for _ in 0..most {
+    send_up_to(live, most)
+}
+
+#[tactic(auto, using(crate::proofs::Migration::none_left, crate::proofs::Migration::one_sent, crate::proofs::Migration::one_refused, crate::proofs::Migration::all_sent, crate::proofs::Migration::none_at_end))]
+fn send_up_to<D: Disk>(live: &mut Moving<D>, most: u32) -> u32
+    ensures { SendsUpTo most live.old result live.new }
+{
+    let mut left = most;
+    while left > 0 {
         if live.remaining().due == 0 {
-            break;
+            return ROUND_DONE;
         }
         live.recall();
         if let Err(error) = live.copy() {
             return mig_status(error);
         }
+        left -= 1;
     }
     if live.remaining().due == 0 {
         return ROUND_DONE;
@@ -173,7 +183,7 @@ pub(crate) fn send_round(kept: &mut Kept) -> u32
     )
 }
 
-#[tactic(auto, using(crate::proofs::ByKept::served))]
+#[tactic(auto, using(crate::proofs::Migration::ended))]
 fn round_status<D: Disk>(live: &mut Moving<D>) -> u32
     ensures { HasEnded live.old result live.new }
 {

@@ -4,7 +4,7 @@
 //! failures. A host saves before `vmig_send_begin` or after `vmig_send_abort`. The stream is measured first, so none is made that does not
 //! fit, and a buffer of no bytes asks for its length.
 
-ghost use Rattle.std.specs.Prelude.{◌≡◌, ◌++◌, IfOk, length, drop, nat_lt, false};
+ghost use Rattle.std.specs.Prelude.{◌≡◌, ◌≤◌, ◌++◌, IfOk, length, drop};
 ghost use Rattle.machine.specs.Seen.{state_of};
 ghost use Rattle.wire.specs.Stream.{whole};
 ghost use Rattle.vmig_c.specs.Moving.{HasSaved, IsKept, Saves, SavesKept};

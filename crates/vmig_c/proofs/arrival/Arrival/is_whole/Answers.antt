@@ -7,6 +7,6 @@ use Rattle.vmig_c.proofs.arrival.Arrival.is_whole.Goals as goal
 
 pub returns-in-Head : goal.returns-in-Head
 returns-in-Head c = elim c.in-Head.is [
-  | inl h ↦ not_whole c.self.inside.progress c.args.self.now c.self.invariant c.self.view_is (subst (λ (p : Progress). IsAtHead (awaited_by p)) (sym h.2) tt)
+  | inl h ↦ not_whole c.self.inside.progress c.args.self.now c.self.invariant c.self.view_is (subst (λ (p : Progress). IsAtHead (awaited_by p)) (sym h.3) tt)
   | inr e ↦ subst (λ (a : ArrivalSeen). TellsWhole a false) c.self.view_is (subst (λ (p : Progress). TellsWhole (awaited_by p) false) (sym e) refl)
 ]

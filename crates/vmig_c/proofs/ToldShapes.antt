@@ -1,0 +1,59 @@
+-- What is told of devices, and of disks that were lost.
+use Rattle.std.proofs.Common.{◌≡◌, ◌≤◌, ◌<◌, ◌+◌, ◌*◌, ◌-◌, ◌^◌, ◌++◌, ℕ, Bool, true, false, List, [], ◌∷◌, refl, sym, ap, ◌∙◌, arith, drop, get_or, length, map, take}
+use Prim.Native.Nat.{suc}
+use Rattle.std.specs.Prelude.{max, slice_set}
+use Rattle.std.proofs.lemmas.List.{append_assoc, drop_all, drop_more, length-drop, length-map, length-take-le, map-append, set_at, take_more}
+use Rattle.machine.specs.declared.shape.Shape.{Shape}
+use Rattle.vmig_c.specs.Described.{described, lost_bits, message_for, message_of, number_of}
+use Rattle.vmig_c.specs.declared.device_shape.DeviceShape.{DeviceShape}
+
+-- The most of all messages.
+pub more_most : (shapes : List Shape) (i most size next all : ℕ) (d : Shape) → i < length shapes → size ≡ message_for (get_or shapes i d) → next ≡ max most size → max most (message_of (drop i shapes)) ≡ all → max next (message_of (drop (i + 1) shapes)) ≡ all
+more_most shapes i most size next all d below is made so_far =
+    let at : message_of (drop i shapes) ≡ max (message_for (get_or shapes i d)) (message_of (drop (i + 1) shapes)) = ap message_of (drop_more shapes i d below) in
+    omega (arith, at, is, made, so_far)
+
+pub all_most : (shapes : List Shape) (i most all : ℕ) → length shapes ≤ i → max most (message_of (drop i shapes)) ≡ all → most ≡ all
+all_most shapes i most all past so_far =
+    let none : message_of (drop i shapes) ≡ 0 = ap message_of (drop_all i shapes past) in
+    omega (arith, none, so_far)
+
+-- One more shape is told.
+pub told_more : (shapes : List Shape) (old now : List DeviceShape) (i : ℕ) (s : Shape) → i < length shapes → length shapes ≤ length old → now ≡ map described (take i shapes) ++ drop i old
+    → slice_set now i (described (get_or shapes i s)) ≡ map described (take (i + 1) shapes) ++ drop (i + 1) old
+told_more shapes old now i s below room so_far =
+    let new = described (get_or shapes i s) in
+    let front = map described (take i shapes) in
+    let rest = drop (i + 1) old in
+    let long : length front ≡ i = length-map (take i shapes) described ∙ length-take-le i shapes (omega (arith, below)) in
+    let here : drop i old ≡ get_or old i new ∷ rest = drop_more old i new (omega (arith, below, room)) in
+    let more : map described (take (i + 1) shapes) ≡ front ++ new ∷ [] = ap (map described) (take_more shapes i s below) ∙ map-append described (take i shapes) (get_or shapes i s ∷ []) in
+    ap (λ (l : List DeviceShape). slice_set l i new) (so_far ∙ ap (λ (l : List DeviceShape). front ++ l) here)
+    ∙ set_at front (get_or old i new) rest new i long
+    ∙ sym (ap (λ (l : List DeviceShape). l ++ rest) more ∙ append_assoc front (new ∷ []) rest)
+
+-- Disks that were lost, one bit before another.
+one_at_most : (b : Bool) → number_of b ≤ 1
+one_at_most true = omega arith
+one_at_most false = omega arith
+
+twice : (n : ℕ) → 2 ^ suc n ≡ 2 * 2 ^ n
+twice n = omega arith
+
+pub few_bits : (lost : List Bool) → lost_bits lost < 2 ^ length lost
+few_bits [] = omega arith
+few_bits (b ∷ lost) =
+    let rest : lost_bits lost < 2 ^ length lost = few_bits lost in
+    let one : number_of b ≤ 1 = one_at_most b in
+    let size : 2 ^ suc (length lost) ≡ 2 * 2 ^ length lost = twice (length lost) in
+    omega (arith, rest, one, size)
+
+pub one_bit : (lost : List Bool) (at bits bit : ℕ) (d : Bool) → 0 < at → at ≤ length lost → bit ≡ number_of (get_or lost (at - 1) d) → bits ≡ lost_bits (drop at lost) → 2 * bits + bit ≡ lost_bits (drop (at - 1) lost)
+one_bit lost at bits bit d some within is so_far =
+    let next : at - 1 + 1 ≡ at = omega (arith, some) in
+    let all : lost_bits (drop (at - 1) lost) ≡ number_of (get_or lost (at - 1) d) + 2 * lost_bits (drop (at - 1 + 1) lost) = ap lost_bits (drop_more lost (at - 1) d (omega (arith, some, within))) in
+    let same : lost_bits (drop (at - 1 + 1) lost) ≡ lost_bits (drop at lost) = ap (λ (k : ℕ). lost_bits (drop k lost)) next in
+    omega (arith, all, same, is, so_far)
+
+pub no_bit : (lost : List Bool) (at bits : ℕ) → at ≤ 0 → bits ≡ lost_bits (drop at lost) → bits ≡ lost_bits lost
+no_bit lost at bits end so_far = let none : at ≡ 0 = omega (arith, end) in so_far ∙ ap (λ (k : ℕ). lost_bits (drop k lost)) none
