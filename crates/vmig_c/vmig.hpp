@@ -1,5 +1,5 @@
-/* vmig.h for C++17: a machine that frees itself, and statuses as an enum that nobody may ignore. Each call is that of vmig.h without
- * its prefix, where it is said what it does, what its statuses mean and what its caller owes. */
+/* vmig.h for C++17: a machine that frees itself, and statuses as an enum that nobody may ignore. Each call is that of vmig.h, which
+ * says what it does, what its statuses mean and what its caller owes, without its prefix. */
 #ifndef VMIG_HPP
 #define VMIG_HPP
 
