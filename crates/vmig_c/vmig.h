@@ -178,11 +178,11 @@
  * that is yours; vmig_feed, for the first bytes until the header is whole, fewer than 1,024, for a buffer of 128 KiB, in which the
  * front of a record waits for the rest, and, as soon as the header is whole and within the limits, for what vmig_make takes;
  * vmig_stream_describe, for a list of sixteen shapes, for the time of the call; vmig_save, for the whole stream, for the time of
- * the call; vmig_step, for a chain of more than four descriptors, or a message longer than those before it; vmig_give_back with a
- * bitmap or with all pages, for 4 bytes for each page that it names, which are kept for the next such call; vmig_send_begin, for
- * two bits for each page and sector; and vmig_send_begin, vmig_send_some, vmig_send_round and vmig_send_stop for what they write,
- * which waits until it is taken: a stop of a machine of which nothing was copied before writes the whole machine. No other call
- * does. */
+ * the call; vmig_step, for a chain of more than four descriptors, or a message longer than those before it; vmig_give_back and
+ * vmig_push with a bitmap or with all pages, for 4 bytes for each page that they name, which are kept for the next such call;
+ * vmig_send_begin, for two bits for each page and sector; and vmig_send_begin, vmig_send_some, vmig_send_round and vmig_send_stop
+ * for what they write, which waits until it is taken: a stop of a machine of which nothing was copied before writes the whole
+ * machine. No other call does. */
 #ifndef VMIG_H
 #define VMIG_H
 
