@@ -1,10 +1,13 @@
 -- What is told of devices, and of disks that were lost.
 use Rattle.std.proofs.Common.{◌≡◌, ◌≤◌, ◌<◌, ◌+◌, ◌*◌, ◌-◌, ◌^◌, ◌++◌, ℕ, Bool, true, false, List, [], ◌∷◌, refl, sym, ap, ◌∙◌, arith, drop, get_or, length, map, take}
 use Prim.Native.Nat.{suc}
-use Rattle.std.specs.Prelude.{max, slice_set}
+use Rattle.std.specs.Prelude.{Option, Some, None, max, slice_set}
 use Rattle.std.proofs.lemmas.List.{append_assoc, drop_all, drop_more, length-drop, length-map, length-take-le, map-append, set_at, take_more}
 use Rattle.machine.specs.declared.shape.Shape.{Shape}
-use Rattle.vmig_c.specs.Described.{described, lost_bits, message_for, message_of, number_of}
+use Rattle.vmig_c.specs.Described.{described, loan_phase, lost_bits, message_for, message_of, number_of, sent_as, told_lent, told_parked}
+use Rattle.vmig_c.specs.Kept.{LoanSeen, StillLent, MovingLent, parked_in}
+use Rattle.sender.specs.declared.phase.Phase.{Phase}
+use Rattle.vmig_c.specs.declared.description.Description.{Description}
 use Rattle.vmig_c.specs.declared.device_shape.DeviceShape.{DeviceShape}
 
 -- The most of all messages.
@@ -57,3 +60,15 @@ one_bit lost at bits bit d some within is so_far =
 
 pub no_bit : (lost : List Bool) (at bits : ℕ) → at ≤ 0 → bits ≡ lost_bits (drop at lost) → bits ≡ lost_bits lost
 no_bit lost at bits end so_far = let none : at ≡ 0 = omega (arith, end) in so_far ∙ ap (λ (k : ℕ). lost_bits (drop k lost)) none
+
+of_some : (a b : Phase) → ◌≡◌ {A = Option Phase} (Some a) (Some b) → a ≡ b
+of_some a b is = cc
+
+-- A machine whose RAM is lent.
+pub lent_still : (x : LoanSeen) (o : Option Phase) (d : Description) → o ≡ None → o ≡ loan_phase x → d ≡ told_parked (parked_in x) → d ≡ told_lent x
+lent_still (StillLent p) o d none is told = told
+lent_still (MovingLent l) o d none is told = let other : ◌≡◌ {A = Option Phase} None (Some l.phase) = sym none ∙ is in absurd cc
+
+pub lent_moving : (x : LoanSeen) (o : Option Phase) (phase : Phase) (d result : Description) → o ≡ Some phase → o ≡ loan_phase x → d ≡ told_parked (parked_in x) → result ≡ sent_as d phase → result ≡ told_lent x
+lent_moving (StillLent p) o phase d result some is told sent = let other : ◌≡◌ {A = Option Phase} (Some phase) None = sym some ∙ is in absurd cc
+lent_moving (MovingLent l) o phase d result some is told sent = let same : phase ≡ l.phase = of_some phase l.phase (sym some ∙ is) in rw (sent, told, same) refl
