@@ -67,8 +67,8 @@ not_back k ram new_ram pages status answer is refused same = rw (sym is ∙ refu
 
 pub came_list : (k next : State) (ram mid new_ram : Slot) (pages : Pages) (answer : Option ℕ) → answer ≡ back_refusal_of k (length ram.content) pages → answer ≡ None → mid ≡ ram → needs_list pages ≡ false → HasComeBack k mid pages.list.now 0 new_ram next
     → ComesBack k ram pages 0 new_ram next
-came_list k next ram mid new_ram pages answer is none same no has =
-    let named : HasComeBack k ram (named_pages pages (lent_pages k)) 0 new_ram next = rw (← same, listed pages (lent_pages k) no) has in
+came_list k next ram mid new_ram pages answer is none same unlisted has =
+    let named : HasComeBack k ram (named_pages pages (lent_pages k)) 0 new_ram next = rw (← same, listed pages (lent_pages k) unlisted) has in
     rw (sym is ∙ none) (inl named)
 
 pub came_named : (k next : State) (ram mid new_ram : Slot) (pages : Pages) (numbers : List ℕ) (count : ℕ) (answer : Option ℕ) → answer ≡ back_refusal_of k (length ram.content) pages → answer ≡ None → mid ≡ ram → count ≡ lent_pages k → numbers ≡ named_pages pages count
@@ -78,4 +78,4 @@ came_named k next ram mid new_ram pages numbers count answer is none same counte
     rw (sym is ∙ none) (inl named)
 
 pub back_full : (k : State) (ram new_ram : Slot) (pages : Pages) (answer : Option ℕ) → answer ≡ back_refusal_of k (length ram.content) pages → answer ≡ None → needs_list pages ≡ true → new_ram ≡ ram → ComesBack k ram pages 10 new_ram k
-back_full k ram new_ram pages answer is none needs same = rw (sym is ∙ none) (inr (needs, (refl, same), refl))
+back_full k ram new_ram pages answer is none needs same = rw (sym is ∙ none) (inr (needs, ((refl, same), refl)))

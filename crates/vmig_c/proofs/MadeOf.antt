@@ -90,3 +90,21 @@ fits s shapes fine none are some =
     let other : are_other_disks s ≡ false = six_tests _ _ _ _ _ (not (is_known_setup s)) (is_bad_ram s.pages (length s.ram.content)) (are_bad_shapes s.shapes.now) (not (is_base s.base (ram_bytes s.pages (length s.ram.content)))) (are_other_disks s) fine in
     let asked : not (length s.contents.now == image_size (shapes_of s.shapes.now)) ≡ false = rw (none, some) at other in
     eq_of (length s.contents.now) (image_size (shapes_of s.shapes.now)) (not_false (length s.contents.now == image_size (shapes_of s.shapes.now)) asked) ∙ ap image_size (sym are)
+
+-- What was made, and the box in which it lies.
+pub made_own : (s : Setup) (k kept : KeptSeen) (m : Seen) (shapes again twice : List Shape) (disks : List (List (List ℕ))) → k ≡ kept → IsNew false kept → kept.state ≡ Still m → (length s.images.now == 0) ≡ true
+    → shapes ≡ shapes_of s.shapes.now → again ≡ shapes → twice ≡ shapes → AreOwnDisks s.contents.now again disks → state_of m ≡ made_machine s.base (first_ram s.pages s.ram) twice (map (λ (d : List (List ℕ)). map Some d) disks)
+    → m.memory.place ≡ first_place s.ram → all_marks m ≡ dealt_marks twice (map (λ (d : List (List ℕ)). no_marks) disks) → IsSound (state_of m) → IsMachineOf s k
+made_own s k kept m shapes again twice disks is new idle none asked same also own first place marks sound =
+    let all : twice ≡ shapes_of s.shapes.now = also ∙ asked in
+    let are : AreOwnDisks s.contents.now (shapes_of s.shapes.now) disks = subst (λ (l : List Shape). AreOwnDisks s.contents.now l disks) (same ∙ asked) own in
+    subst (λ (x : KeptSeen). IsMachineOf s x) (sym is) (machine_of s kept m twice disks disks false (ap not none) new idle all are first place marks sound)
+
+pub made_mapped : (s : Setup) (k kept : KeptSeen) (m : Seen) (shapes again : List Shape) (images : List Image) → k ≡ kept → IsNew true kept → kept.state ≡ Still m → (length s.images.now == 0) ≡ false
+    → shapes ≡ shapes_of s.shapes.now → again ≡ shapes → images ≡ s.images.now → state_of m ≡ made_machine s.base (first_ram s.pages s.ram) again (map (λ (d : Image). map Some d.content) images)
+    → m.memory.place ≡ first_place s.ram → all_marks m ≡ dealt_marks again (map (λ (d : Image). no_marks) images) → IsSound (state_of m) → IsMachineOf s k
+made_mapped s k kept m shapes again images is new idle some asked same are first place marks sound =
+    let all : again ≡ shapes_of s.shapes.now = same ∙ asked in
+    let disks : map (λ (d : Image). map Some d.content) images ≡ map (map Some) (contents s.images.now) = disks_good images ∙ ap (λ (l : List Image). map (map Some) (contents l)) are in
+    let made : state_of m ≡ made_machine s.base (first_ram s.pages s.ram) again (map (map Some) (contents s.images.now)) = first ∙ ap (λ (l : List (List Sector)). made_machine s.base (first_ram s.pages s.ram) again l) disks in
+    subst (λ (x : KeptSeen). IsMachineOf s x) (sym is) (machine_of s kept m again (contents s.images.now) images true (ap not some) new idle all refl made place marks sound)

@@ -16,15 +16,15 @@ pub record AreThere (p : Pages) (count : ℕ) : Type 0 where
   pub within : has_words p ≡ true → p.first + span_of p count ≤ count
   pub listed : are_pages count p.list.now ≡ true
 
-by_words : {A : Type 0} (words small past : Bool) {a b c : A} → ◌≡◌ {A = Option A} (if words && small then Some a else if words && past then Some b else Some c) None → ⊥
-by_words true true past is = cc
-by_words true false true is = cc
-by_words true false false is = cc
-by_words false small past is = cc
+by_words : {A : Type 0} (words small past : Bool) (a b c : A) → ◌≡◌ {A = Option A} (if words && small then Some a else if words && past then Some b else Some c) None → ⊥
+by_words true true past a b c is = cc
+by_words true false true a b c is = cc
+by_words true false false a b c is = cc
+by_words false small past a b c is = cc
 
 three_tests : {A : Type 0} (words small past are : Bool) (a b c : A) → ◌≡◌ {A = Option A} (if words && small then Some a else if words && past then Some b else if not are then Some c else None) None
     → (words ≡ true → small ≡ false) × (words ≡ true → past ≡ false) × (are ≡ true)
-three_tests words small past false a b c is = absurd (by_words words small past is)
+three_tests words small past false a b c is = absurd (by_words words small past _ _ _ is)
 three_tests false small past true a b c is = (λ w. absurd cc, λ w. absurd cc, refl)
 three_tests true true past true a b c is = absurd cc
 three_tests true false true true a b c is = absurd cc

@@ -25,8 +25,8 @@ not_pushed k p ram seen status answer is refused = rw (sym is ∙ refused) ((ref
 
 pub pushed_list : (k next : State) (p : Pages) (ram seen new_seen : List ℕ) (status : ℕ) (answer : Option ℕ) → answer ≡ push_refusal k p (length ram) (length seen) → answer ≡ None → needs_list p ≡ false → ArePushed k p.list.now ram seen new_seen next → status ≡ 0
     → PushesKept k p ram status seen new_seen next
-pushed_list k next p ram seen new_seen status answer is none no pushed told =
-    rw (sym is ∙ none) (inl (record { pushed = rw (listed p (length (memory_in k).versions) no) pushed; status_is = told }))
+pushed_list k next p ram seen new_seen status answer is none unlisted pushed told =
+    rw (sym is ∙ none) (inl (record { pushed = rw (listed p (length (memory_in k).versions) unlisted) pushed; status_is = told }))
 
 pub pushed_named : (k next : State) (p : Pages) (numbers ram seen new_seen : List ℕ) (count status : ℕ) (answer : Option ℕ) → answer ≡ push_refusal k p (length ram) (length seen) → answer ≡ None → count ≡ length (memory_in k).versions → numbers ≡ named_pages p count
     → ArePushed k numbers ram seen new_seen next → status ≡ 0 → PushesKept k p ram status seen new_seen next
@@ -34,4 +34,4 @@ pushed_named k next p numbers ram seen new_seen count status answer is none coun
     rw (sym is ∙ none) (inl (record { pushed = subst (λ (l : List ℕ). ArePushed k l ram seen new_seen next) (are ∙ ap (named_pages p) counted) pushed; status_is = told }))
 
 pub push_full : (k : State) (p : Pages) (ram seen : List ℕ) (answer : Option ℕ) → answer ≡ push_refusal k p (length ram) (length seen) → answer ≡ None → needs_list p ≡ true → PushesKept k p ram 10 seen seen k
-push_full k p ram seen answer is none needs = rw (sym is ∙ none) (inr (needs, (refl, refl), refl))
+push_full k p ram seen answer is none needs = rw (sym is ∙ none) (inr (needs, ((refl, refl), refl)))

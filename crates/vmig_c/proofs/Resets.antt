@@ -55,6 +55,9 @@ drop_done dev (Some d) shape is some = drop_kind dev d d.kind (ap has_input (of_
 made_at : (m : Seen) (dev : ℕ) (shape : Shape) → slice_get (shapes_of m) dev ≡ Some shape → option_map (λ (d : DeviceState). made_as d.kind) (slice_get (state_of m).devices dev) ≡ Some shape
 made_at m dev shape there = sym (slice_get-map (λ (d : DeviceState). made_as d.kind) (state_of m).devices dev) ∙ there
 
+pub at_of : (m : Seen) (dev : ℕ) (d : DeviceState) (told : Shape) → slice_get (state_of m).devices dev ≡ Some d → told ≡ made_as d.kind → slice_get (shapes_of m) dev ≡ Some told
+at_of m dev d told there is = slice_get-map (λ (x : DeviceState). made_as x.kind) (state_of m).devices dev ∙ ap (option_map (λ (x : DeviceState). made_as x.kind)) there ∙ ap Some (sym is)
+
 pub wrote : (m next : Seen) (dev : ℕ) (shape : Shape) (reply : Reply) → slice_get (shapes_of m) dev ≡ Some shape → IsApplied m (RegWrite dev 112 4 0) reply next → status_of reply ≡ 0
 wrote m next dev shape reply there applied = ap status_of applied.has.reply_is ∙ write_done dev (slice_get (state_of m).devices dev) shape 112 4 0 (made_at m dev shape there)
 

@@ -4,3 +4,6 @@ use Rattle.vmig_c.proofs.describing.lost_bits.Given as goal
 
 abbrev pub invariant-loop-at : goal.invariant-loop-at
 invariant-loop-at l = record { within : l.at ≤ length l.lost; sum : l.bits ≡ lost_bits (drop l.at l.lost) }
+
+abbrev pub decreases-loop-at : goal.decreases-loop-at
+decreases-loop-at l = l.at
