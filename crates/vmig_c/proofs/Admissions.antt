@@ -1,5 +1,5 @@
 -- Limits on what arrives.
-use Rattle.std.proofs.Common.{◌≡◌, ◌≢◌, ℕ, ◌+◌, ◌-◌, ◌<◌, ◌≤◌, ◌&&◌, nat_lt, Bool, true, false, List, [], ◌∷◌, ◌++◌, ◌⊎◌, drop, length, refl, sym, ap, ◌∙◌, arith, inl, inr, get_or}
+use Rattle.std.proofs.Common.{◌≡◌, ◌≢◌, ℕ, ◌+◌, ◌-◌, ◌<◌, ◌≤◌, ◌&&◌, ◌==◌, nat_lt, Bool, true, false, List, [], ◌∷◌, ◌++◌, ◌⊎◌, drop, length, refl, sym, ap, ◌∙◌, arith, inl, inr, get_or}
 use Prim.Native.Nat.{suc}
 use Rattle.std.specs.Prelude.{None, Some}
 use Rattle.std.proofs.lemmas.Bool.Decides.{nat_tests}
@@ -15,6 +15,7 @@ use Rattle.vmig_c.specs.Admission.{IsAdmitted, IsFaultyHead, IsUnfit, are_expect
 use Rattle.vmig_c.specs.Awaited.{stream_status}
 use Rattle.vmig_c.specs.Images.{sectors_in}
 use Rattle.vmig_c.specs.declared.admission.Limits.{Limits}
+use Rattle.vmig_c.proofs.Imaging.{eq_of}
 
 -- Sectors are counted off what may come.
 at_shape : (shapes : List Shape) (i : ℕ) (d : Shape) → i < length shapes → sectors_in (drop i shapes) ≡ sector_count (get_or shapes i d) + sectors_in (drop (i + 1) shapes)
@@ -86,16 +87,19 @@ pub all_same : (a b : List Shape) (i : ℕ) (all : Bool) → length a ≤ i → 
 all_same a b i all past size so_far = rw (drop_all i a past, drop_all i b (omega (arith, past, size))) at so_far
 
 -- Lists of another length are no same ones.
-pub not_as_long : (a b : List Shape) → length a ≢ length b → are_same_shapes a b ≡ false
-not_as_long [] [] other = absurd (other refl)
-not_as_long [] (t ∷ b) other = refl
-not_as_long (s ∷ a) [] other = refl
-not_as_long (s ∷ a) (t ∷ b) other = not_both (is_same_shape s t) (are_same_shapes a b) (not_as_long a b (λ same. other (ap suc same)))
+long : (a b : List Shape) → length a ≢ length b → are_same_shapes a b ≡ false
+long [] [] other = absurd (other refl)
+long [] (t ∷ b) other = refl
+long (s ∷ a) [] other = refl
+long (s ∷ a) (t ∷ b) other = not_both (is_same_shape s t) (are_same_shapes a b) (long a b (λ same. other (ap suc same)))
 
-pub some_expected : (a b : List Shape) → length a ≢ 0 → are_expected a b ≡ are_same_shapes a b
-some_expected [] b some = absurd (some refl)
-some_expected (s ∷ a) b some = refl
+pub not_as_long : (a b : List Shape) → length a ≢ length b → false ≡ are_same_shapes a b
+not_as_long a b other = sym (long a b other)
 
-pub none_expected : (a b : List Shape) → length a ≡ 0 → are_expected a b ≡ true
+pub some_expected : (a b : List Shape) (same : Bool) → (length a == 0) ≡ false → same ≡ are_same_shapes a b → same ≡ are_expected a b
+some_expected [] b same some is = absurd cc
+some_expected (s ∷ a) b same some is = is
+
+pub none_expected : (a b : List Shape) → (length a == 0) ≡ true → true ≡ are_expected a b
 none_expected [] b none = refl
-none_expected (s ∷ a) b none = absurd cc
+none_expected (s ∷ a) b none = absurd (let size : suc (length a) ≡ 0 = eq_of (suc (length a)) 0 none in omega (arith, size))

@@ -6,7 +6,6 @@ mod AsBox
 mod Awaited
 mod ByHandle
 mod ByKept
-mod ToldShapes
 mod Descriptions
 mod Failing
 mod Handing
@@ -28,8 +27,11 @@ mod Owing
 mod PageAddresses
 mod Plain
 mod Pulling
+mod PushedPages
 mod Quiet
+mod Resets
 mod Sending
 mod Sent
 mod Streams
+mod ToldShapes
 mod Zeros

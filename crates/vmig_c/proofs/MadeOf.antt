@@ -1,24 +1,25 @@
 -- The machine that a setup asks for.
 use Rattle.std.proofs.Common.{◌≡◌, ℕ, Bool, true, false, List, [], refl, sym, ap, ◌∙◌, subst, map}
-use Rattle.std.specs.Prelude.{Option, Some, None, length, ◌==◌}
+use Rattle.std.specs.Prelude.{Option, Some, None, length, not, ◌==◌, if◌then◌else◌}
 use Rattle.region.specs.Address.{address}
 use Rattle.region.specs.Empty.{empty_slot}
 use Rattle.region.specs.Slot.{region_of, slot_of}
 use Rattle.region.specs.declared.region.Region.{Region}
 use Rattle.region.specs.declared.slot.Slot.{Slot}
 use Rattle.blk.specs.Sectors.{Sector}
-use Rattle.machine.specs.First.{dealt_marks, made_machine, zero_pages}
+use Rattle.machine.specs.First.{dealt_marks, is_base, made_machine, zero_pages}
 use Rattle.machine.specs.Seen.{DeviceSeen, Seen, all_marks, no_marks, state_of}
 use Rattle.machine.specs.Sound.{IsSound}
 use Rattle.machine.specs.Shapes.{disk_sizes}
 use Rattle.machine.specs.declared.shape.Shape.{Shape}
 use Rattle.mapped_disk.specs.declared.image.Image.{Image}
 use Rattle.vmig_c.specs.Kept.{IsNew, KeptSeen, Still}
-use Rattle.vmig_c.specs.Images.{AreImages}
-use Rattle.vmig_c.specs.Made.{AreFirst, AreOwn, AreOwnDisks, IsMachineOf, first_place, first_ram, has_bytes, has_images, ram_left}
-use Rattle.vmig_c.specs.Making.{shapes_of, zero_sectors}
+use Rattle.vmig_c.specs.Images.{AreImages, image_size}
+use Rattle.vmig_c.specs.Made.{AreFirst, AreOwn, AreOwnDisks, IsMachineOf, first_place, are_other_disks, first_ram, fit_contents, has_bytes, has_images, is_bad_ram, is_known_setup, ram_bytes, ram_left, setup_refusal_of}
+use Rattle.vmig_c.specs.Making.{are_bad_shapes, shapes_of, zero_sectors}
 use Rattle.vmig_c.specs.Mapping.{contents}
 use Rattle.vmig_c.specs.declared.setup.Setup.{Setup}
+use Rattle.vmig_c.proofs.Imaging.{eq_of}
 use Rattle.vmig_c.proofs.MappingImages.{disks_good}
 use Rattle.vmig_c.proofs.Plain.{as_many}
 use Rattle.vmig_c.proofs.Zeros.{alike, good_zeros, zeros}
@@ -70,3 +71,40 @@ all_left ram after some free = rw some free
 -- What was put back lies there as it lay.
 pub back_again : (ram after : Slot) (region back : Region) → region ≡ region_of ram → back ≡ region → after ≡ slot_of back → after ≡ ram
 back_again ram after region back is same put = put ∙ ap slot_of (same ∙ is)
+
+-- Contents that are not refused are as long as the disks.
+six_tests : (t u v w x : ℕ) (a b c d e : Bool) → ◌≡◌ {A = Option ℕ} (if a then Some t else if b then Some u else if c then Some v else if d then Some w else if e then Some x else None) None → e ≡ false
+six_tests t u v w x true b c d e is = absurd cc
+six_tests t u v w x false true c d e is = absurd cc
+six_tests t u v w x false false true d e is = absurd cc
+six_tests t u v w x false false false true e is = absurd cc
+six_tests t u v w x false false false false true is = absurd cc
+six_tests t u v w x false false false false false is = refl
+
+not_false : (b : Bool) → not b ≡ false → b ≡ true
+not_false true is = refl
+not_false false is = absurd cc
+
+pub fits : (s : Setup) (shapes : List Shape) → setup_refusal_of s ≡ None → (length s.images.now == 0) ≡ true → shapes ≡ shapes_of s.shapes.now → fit_contents s.contents.now shapes
+fits s shapes fine none are some =
+    let other : are_other_disks s ≡ false = six_tests _ _ _ _ _ (not (is_known_setup s)) (is_bad_ram s.pages (length s.ram.content)) (are_bad_shapes s.shapes.now) (not (is_base s.base (ram_bytes s.pages (length s.ram.content)))) (are_other_disks s) fine in
+    let asked : not (length s.contents.now == image_size (shapes_of s.shapes.now)) ≡ false = rw (none, some) at other in
+    eq_of (length s.contents.now) (image_size (shapes_of s.shapes.now)) (not_false (length s.contents.now == image_size (shapes_of s.shapes.now)) asked) ∙ ap image_size (sym are)
+
+-- What was made, and the box in which it lies.
+pub made_own : (s : Setup) (k kept : KeptSeen) (m : Seen) (shapes again twice : List Shape) (disks : List (List (List ℕ))) → k ≡ kept → IsNew false kept → kept.state ≡ Still m → (length s.images.now == 0) ≡ true
+    → shapes ≡ shapes_of s.shapes.now → again ≡ shapes → twice ≡ shapes → AreOwnDisks s.contents.now again disks → state_of m ≡ made_machine s.base (first_ram s.pages s.ram) twice (map (λ (d : List (List ℕ)). map Some d) disks)
+    → m.memory.place ≡ first_place s.ram → all_marks m ≡ dealt_marks twice (map (λ (d : List (List ℕ)). no_marks) disks) → IsSound (state_of m) → IsMachineOf s k
+made_own s k kept m shapes again twice disks is new idle none asked same also own first place marks sound =
+    let all : twice ≡ shapes_of s.shapes.now = also ∙ asked in
+    let are : AreOwnDisks s.contents.now (shapes_of s.shapes.now) disks = subst (λ (l : List Shape). AreOwnDisks s.contents.now l disks) (same ∙ asked) own in
+    subst (λ (x : KeptSeen). IsMachineOf s x) (sym is) (machine_of s kept m twice disks disks false (ap not none) new idle all are first place marks sound)
+
+pub made_mapped : (s : Setup) (k kept : KeptSeen) (m : Seen) (shapes again : List Shape) (images : List Image) → k ≡ kept → IsNew true kept → kept.state ≡ Still m → (length s.images.now == 0) ≡ false
+    → shapes ≡ shapes_of s.shapes.now → again ≡ shapes → images ≡ s.images.now → state_of m ≡ made_machine s.base (first_ram s.pages s.ram) again (map (λ (d : Image). map Some d.content) images)
+    → m.memory.place ≡ first_place s.ram → all_marks m ≡ dealt_marks again (map (λ (d : Image). no_marks) images) → IsSound (state_of m) → IsMachineOf s k
+made_mapped s k kept m shapes again images is new idle some asked same are first place marks sound =
+    let all : again ≡ shapes_of s.shapes.now = same ∙ asked in
+    let disks : map (λ (d : Image). map Some d.content) images ≡ map (map Some) (contents s.images.now) = disks_good images ∙ ap (λ (l : List Image). map (map Some) (contents l)) are in
+    let made : state_of m ≡ made_machine s.base (first_ram s.pages s.ram) again (map (map Some) (contents s.images.now)) = first ∙ ap (λ (l : List (List Sector)). made_machine s.base (first_ram s.pages s.ram) again l) disks in
+    subst (λ (x : KeptSeen). IsMachineOf s x) (sym is) (machine_of s kept m again (contents s.images.now) images true (ap not some) new idle all refl made place marks sound)

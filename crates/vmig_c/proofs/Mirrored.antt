@@ -286,7 +286,7 @@ ready k pages bytes entries may = record {
 }
 
 -- Pages that are not refused may be pushed, with numbers that are there.
-push_tests : (s t u v : ℕ) (away stopped known short : Bool) (rest : Option ℕ) → ◌≡◌ {A = Option ℕ} (if away then Some s else if stopped then Some t else if not known then Some u else if short then Some v else rest) None
+pub push_tests : (s t u v : ℕ) (away stopped known short : Bool) (rest : Option ℕ) → ◌≡◌ {A = Option ℕ} (if away then Some s else if stopped then Some t else if not known then Some u else if short then Some v else rest) None
     → (away ≡ false) × (stopped ≡ false) × (short ≡ false) × (rest ≡ None)
 push_tests s t u v true stopped known short rest is = absurd cc
 push_tests s t u v false true known short rest is = absurd cc

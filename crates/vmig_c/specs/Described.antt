@@ -4,7 +4,7 @@ use Rattle.machine.specs.Layout.{pages_of}
 use Rattle.machine.specs.Parked.{ParkedSeen}
 use Rattle.machine.specs.Seen.{Seen, state_of}
 use Rattle.machine.specs.Shapes.{made_as}
-use Rattle.machine.specs.State.{DeviceState, base_of}
+use Rattle.machine.specs.State.{base_of}
 use Rattle.machine.specs.declared.machine.TheConstants.{DEVICES_MAX}
 use Rattle.machine.specs.declared.shape.Shape.{Shape}
 use Rattle.machine.specs.declared.shape.Shape.TheVariants.{Net, Block, Console, Entropy}
@@ -86,14 +86,12 @@ abbrev pub message_of : List Shape → ℕ
 message_of [] = 0
 message_of (shape ∷ shapes) = max (message_for shape) (message_of shapes)
 
--- A machine of so many pages, whose RAM begins there, with these devices.
-abbrev pub told_machine : ℕ → ℕ → List DeviceState → Description
-told_machine base pages devices =
-    let shapes = map (λ d. made_as d.kind) devices in
-    record (with_shapes nothing_told pages shapes) { state = is_idle; base = base; message = message_of shapes }
+-- A machine of so many pages, whose RAM begins there, with devices that were made as these.
+abbrev pub told_machine : ℕ → ℕ → List Shape → Description
+told_machine base pages shapes = record (with_shapes nothing_told pages shapes) { state = is_idle; base = base; message = message_of shapes }
 
 abbrev pub told_still : Seen → Description
-told_still m = told_machine (base_of (state_of m).devices) (pages_of (state_of m)) (state_of m).devices
+told_still m = told_machine (base_of (state_of m).devices) (pages_of (state_of m)) (map (λ d. made_as d.kind) (state_of m).devices)
 
 -- As above, where it is being sent, by how far that has come.
 abbrev pub sent_as : Description → Phase → Description
@@ -104,7 +102,7 @@ sent_as d phases.Failed = record d { state = is_send_failed; fault = mig_status 
 
 -- As above, where its RAM is lent.
 abbrev pub told_parked : ParkedSeen → Description
-told_parked p = record (told_machine (base_of (map (λ d. d.state) p.devices)) (length p.versions) (map (λ d. d.state) p.devices)) { lent = 1 }
+told_parked p = record (told_machine (base_of (map (λ d. d.state) p.devices)) (length p.versions) (map (λ d. made_as d.state.kind) p.devices)) { lent = 1 }
 
 abbrev pub told_lent : LoanSeen → Description
 told_lent (StillLent p) = told_parked p

@@ -60,7 +60,11 @@ pages_refusal p count =
 abbrev pub needs_list : Pages → Bool
 needs_list p = not (p.all == 0) || has_words p
 
+-- The pages of the bitmap, if there is one.
+abbrev pub of_bitmap : Pages → ℕ → List ℕ
+of_bitmap p count = shifted p.first (marked p.words.now (if has_words p then span_of p count else 0))
+
 -- The pages that are named, of `count` pages of RAM.
 abbrev pub named_pages : Pages → ℕ → List ℕ
 named_pages p count =
-    if p.all == 0 then shifted p.first (marked p.words.now (if has_words p then span_of p count else 0)) ++ p.list.now else numbers_below count
+    if p.all == 0 then of_bitmap p count ++ p.list.now else numbers_below count

@@ -6,7 +6,7 @@
 //! since that is what memory is taken for. Images, and RAM of the caller, are compared by the receiver, before a byte of them is written.
 
 ghost use Rattle.std.specs.Prelude.{◌≡◌, ◌++◌, IfErr, IfOk, None, Some};
-ghost use Rattle.vmig_c.specs.Admission.{AdmitsAt, are_expected, is_same_shape, is_within, stream_refusal};
+ghost use Rattle.vmig_c.specs.Admission.{AdmitsAt, are_expected, are_same_shapes, is_same_shape, is_within, stream_refusal};
 ghost use Rattle.vmig_c.specs.AdmissionSeen as seen;
 ghost use Rattle.vmig_c.specs.Kept.{admission_of};
 
@@ -160,17 +160,25 @@ fn is_within(limits: Limits, pages: u32, shapes: &[Shape]) -> bool
 }
 
 /// Whether the devices are those that are expected. Where none is, any are.
+#[tactic(auto, using(crate::proofs::Admissions::none_expected, crate::proofs::Admissions::some_expected))]
 fn are_expected(expected: &[Shape], shapes: &[Shape]) -> bool
     ensures { result ≡ are_expected expected.now shapes.now }
 {
     if expected.is_empty() {
         return true;
     }
-    if expected.len() != shapes.len() {
+    are_same_shapes(expected, shapes)
+}
+
+#[tactic(auto, using(crate::proofs::Admissions::not_as_long, crate::proofs::Admissions::other_here, crate::proofs::Admissions::same_more, crate::proofs::Admissions::all_same))]
+fn are_same_shapes(one: &[Shape], other: &[Shape]) -> bool
+    ensures { result ≡ are_same_shapes one.now other.now }
+{
+    if one.len() != other.len() {
         return false;
     }
-    for at in 0..expected.len() {
-        if !is_same_shape(expected[at], shapes[at]) {
+    for at in 0..one.len() {
+        if !is_same_shape(one[at], other[at]) {
             return false;
         }
     }

@@ -4,8 +4,8 @@
 //! stream that is not whole refuses it, as `Receiver::finish` takes the receiver. Out of memory on the way has a status of its own (47),
 //! since nothing can be fed after it; 10 is reported only where nothing changed.
 
-ghost use Rattle.std.specs.Prelude.{◌≡◌, None, false, true};
-ghost use Rattle.vmig_c.specs.Arriving.{Ends, FeedsKept, FeedsWithin, FinishesKept, finish_refusal, is_taken, taken_status, fed_after, after_finish};
+ghost use Rattle.std.specs.Prelude.{◌≡◌, false, true};
+ghost use Rattle.vmig_c.specs.Arriving.{Ends, FeedsKept, FeedsWithin, FinishesKept, FinishesState, fed_after, finish_refusal, is_arriving, taken_status};
 ghost use Rattle.vmig_c.specs.Kept.{admission_of, are_mapped, state_in};
 
 use crate::admission::Admission;
@@ -18,7 +18,6 @@ use std::alloc::Global;
 use std::mem;
 
 /// The next piece of a stream arrives.
-#[tactic(auto, using(crate::proofs::Arrivals::counted))]
 pub(crate) fn feed(alloc: Global, kept: &mut Kept, piece: &[u8]) -> u32
     ensures feeds { FeedsKept kept.old.admission kept.old.state piece.now result kept.new.admission kept.new.state }
     ensures counts { kept.new.fed ≡ fed_after result kept.old.fed piece.now }

@@ -46,6 +46,7 @@ pub(crate) fn make(alloc: Global, setup: &mut Setup, machine: &mut Handle) -> u3
 }
 
 /// The machine in a box. All was tested, so it fails only if it is out of memory: then slot and images are as they were.
+#[tactic(auto, using(crate::proofs::MadeOf::fits))]
 fn made(alloc: Global, setup: &mut Setup) -> Result<Box<Kept>, NoMemory>
     requires { setup_refusal_of setup.old ≡ None }
     ensures made { IfOk result (λ k. IsMachineOf setup.old k.value) }

@@ -5,7 +5,7 @@
 
 ghost use Rattle.std.specs.Prelude.{◌≡◌, ◌≤◌, length};
 ghost use Rattle.machine.specs.declared.machine.TheConstants.{DEVICES_MAX};
-ghost use Rattle.vmig_c.specs.Described.{IsDescribed, lost_bits, number_of, sent_as, told_arriving, told_coming, told_failed, told_head, told_lent, told_still};
+ghost use Rattle.vmig_c.specs.Described.{IsDescribed, lost_bits, number_of, sent_as, told_arriving, told_coming, told_failed, told_head, told_lent, told_machine, told_still};
 ghost use Rattle.vmig_c.specs.Kept.{admission_of, loan_of};
 
 use crate::admission::Admission;
@@ -66,9 +66,17 @@ fn told_still<D: Disk>(machine: &Machine<D>) -> Description
 {
     let shapes = machine.shapes();
     let pages = (machine.ram().len() / PAGE_SIZE as u64) as u32;
+    told_machine(machine.base(), pages, shapes)
+}
+
+/// What is told of a machine of so many pages, whose RAM begins there, with devices that were made as these.
+fn told_machine(base: u64, pages: u32, shapes: &[Shape]) -> Description
+    requires { length shapes.now ≤ DEVICES_MAX }
+    ensures { result ≡ told_machine base pages shapes.now }
+{
     let mut told = Description::none().with_shapes(pages, shapes);
     told.state = IS_IDLE;
-    told.base = machine.base();
+    told.base = base;
     told.message = message_of(shapes);
     told
 }
@@ -92,15 +100,12 @@ fn sent_as(told: Description, phase: Phase) -> Description
 }
 
 /// As above, where its RAM is lent.
+#[tactic(auto, using(crate::proofs::ToldShapes::lent_still, crate::proofs::ToldShapes::lent_moving))]
 fn told_lent(loan: &Loan) -> Description
     ensures { result ≡ told_lent (loan_of loan.now) }
 {
-    let shapes = loan.shapes();
-    let mut told = Description::none().with_shapes(loan.pages() as u32, shapes);
-    told.state = IS_IDLE;
+    let mut told = told_machine(loan.base(), loan.pages() as u32, loan.shapes());
     told.lent = 1;
-    told.base = loan.base();
-    told.message = message_of(shapes);
     match loan.phase() {
         Some(phase) => sent_as(told, phase),
         None => told,

@@ -116,6 +116,7 @@ fn lent_as(loan: Loan, region: Region, ram: &mut Slot) -> Contents
 
 /// Takes the RAM back that lies in the slot, and in which these pages were written. For a list it takes no memory, and time for these pages
 /// alone; for the numbers of others memory is taken, and kept for the next time.
+#[tactic(auto, using(crate::proofs::Lent::returnable_list, crate::proofs::Lent::returnable_named, crate::proofs::Lent::fit_of, crate::proofs::Lent::not_back, crate::proofs::Lent::came_list, crate::proofs::Lent::came_named, crate::proofs::Lent::back_full))]
 pub(crate) fn give_back(alloc: Global, kept: &mut Kept, ram: &mut Slot, pages: &Pages) -> u32
     ensures back { ComesBack kept.old.state ram.old pages.now result ram.new kept.new.state }
     ensures kind { kept.new ≡ record kept.old { state = kept.new.state } }

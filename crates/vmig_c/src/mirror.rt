@@ -26,6 +26,7 @@ use std::alloc::Global;
 use std::mem;
 
 /// Copies the pages that are named from the caller's RAM into the machine's, one after another.
+#[tactic(auto, using(crate::proofs::PushedPages::pushable_list, crate::proofs::PushedPages::pushable_named, crate::proofs::PushedPages::push_fit, crate::proofs::PushedPages::not_pushed, crate::proofs::PushedPages::pushed_list, crate::proofs::PushedPages::pushed_named, crate::proofs::PushedPages::push_full))]
 pub(crate) fn push(
     alloc: Global,
     kept: &mut Kept,

@@ -99,11 +99,12 @@ pub(crate) fn collect_all(count: usize, numbers: &mut Vec<u32>) -> Result<(), No
 }
 
 /// Adds to each number. They are those of pages of a bitmap that begins at a later page than the first.
+#[tactic(auto, using(crate::proofs::NamedPages::shifts_more, crate::proofs::NamedPages::fits, crate::proofs::NamedPages::all_shifted))]
 pub(crate) fn shift(numbers: &mut Vec<u32>, first: u32)
     requires { AreBelowTop first numbers.old.items }
     ensures { numbers.new.items ≡ shifted first numbers.old.items }
 {
-    for number in numbers.iter_mut() {
-        *number += first;
+    for at in 0..numbers.len() {
+        numbers[at] += first;
     }
 }

@@ -34,7 +34,7 @@ pub struct Pages<'a> {
 impl Pages<'_> {
     ghost use Rattle.std.specs.Prelude.{◌≡◌, ◌≤◌, ◌<◌, ◌^◌, None, IfOk};
     ghost use Rattle.guestmem.specs.declared.limits.TheConstants.{PAGES_MAX};
-    ghost use Rattle.vmig_c.specs.Named.{is_known_pages, named_pages, needs_list, pages_refusal, span_of};
+    ghost use Rattle.vmig_c.specs.Named.{is_known_pages, named_pages, needs_list, of_bitmap, pages_refusal, span_of};
 
     /// Whether this library knows all that the struct asks for.
     pub(crate) fn is_known(&self) -> bool
@@ -81,21 +81,35 @@ impl Pages<'_> {
     }
 
     /// Makes the list that of the pages that are named. It takes no memory where the list has room for them.
+    #[tactic(auto, using(crate::proofs::NamedPages::of_all, crate::proofs::NamedPages::of_some))]
     pub(crate) fn collect(&self, count: usize, numbers: &mut Vec<u32>) -> Result<(), NoMemory>
         requires few { count ≤ PAGES_MAX }
         requires fit { pages_refusal self.now count ≡ None }
         ensures { IfOk result (λ x. numbers.new.items ≡ named_pages self.now count) }
     {
         if self.all != 0 {
-            return collect_all(count, numbers);
+            collect_all(count, numbers)?;
+            return Ok(());
         }
-        let span = if self.words.is_empty() {
-            0
-        } else {
-            self.span_of(count)
-        };
+        self.collect_bitmap(count, numbers)?;
+        numbers.extend_from_slice(self.list)?;
+        Ok(())
+    }
+
+    /// Makes the list that of the pages of the bitmap.
+    #[tactic(auto, using(crate::proofs::NamedPages::no_bits, crate::proofs::NamedPages::few, crate::proofs::NamedPages::room, crate::proofs::NamedPages::shiftable, crate::proofs::NamedPages::bits))]
+    fn collect_bitmap(&self, count: usize, numbers: &mut Vec<u32>) -> Result<(), NoMemory>
+        requires few { count ≤ PAGES_MAX }
+        requires fit { pages_refusal self.now count ≡ None }
+        ensures { IfOk result (λ x. numbers.new.items ≡ of_bitmap self.now count) }
+    {
+        if self.words.is_empty() {
+            numbers.clear();
+            return Ok(());
+        }
+        let span = self.span_of(count);
         collect_marked(self.words, span, numbers)?;
         shift(numbers, self.first);
-        numbers.extend_from_slice(self.list)
+        Ok(())
     }
 }

@@ -30,6 +30,7 @@ pub(crate) fn reset(kept: &mut Kept) -> u32
     )
 }
 
+#[tactic(auto, using(crate::proofs::Resets::goes_on, crate::proofs::Resets::all_done, crate::proofs::Resets::in_range))]
 fn reset_still<D: Disk>(machine: &mut Machine<D>) -> u32
     ensures { ResetsStill machine.old result machine.new }
 {
@@ -39,6 +40,7 @@ fn reset_still<D: Disk>(machine: &mut Machine<D>) -> u32
     DONE
 }
 
+#[tactic(auto, using(crate::proofs::Resets::still_with, crate::proofs::Resets::still_without))]
 fn reset_device<D: Disk>(machine: &mut Machine<D>, dev: u8)
     requires { dev < length (state_of machine.old).devices }
     ensures done { (shape : Shape) → slice_get (shapes_of machine.old) dev ≡ Some shape → AreDone (states.Still machine.old) (reset_of dev shape) (states.Still machine.new) }
@@ -52,6 +54,7 @@ fn reset_device<D: Disk>(machine: &mut Machine<D>, dev: u8)
 }
 
 /// As `reset_still`, for a machine that is being migrated. One that was stopped takes no call.
+#[tactic(auto, using(crate::proofs::Resets::goes_on, crate::proofs::Resets::all_done, crate::proofs::Resets::in_range))]
 fn reset_moving<D: Disk>(live: &mut Moving<D>) -> u32
     ensures { ResetsLive (is_closed live.old.phase) live.old result live.new }
 {
@@ -64,6 +67,7 @@ fn reset_moving<D: Disk>(live: &mut Moving<D>) -> u32
     DONE
 }
 
+#[tactic(auto, using(crate::proofs::Resets::served, crate::proofs::Resets::moving_with, crate::proofs::Resets::moving_without, crate::proofs::Resets::live_shapes))]
 fn reset_live_device<D: Disk>(live: &mut Moving<D>, dev: u8)
     requires there { dev < length (state_of live.old.machine).devices }
     requires going { is_closed live.old.phase ≡ false }

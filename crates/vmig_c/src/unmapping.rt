@@ -32,6 +32,7 @@ pub(crate) fn release_refusal(kept: &Kept, images: &mut [Image]) -> Option<u32>
 }
 
 /// How many images are given back by a release.
+#[tactic(auto, using(crate::proofs::Handing::counted_parked))]
 pub(crate) fn image_count(contents: &Contents) -> usize
     ensures { result ≡ images_of (are_mapped contents.now) (state_in contents.now) }
 {

@@ -1,20 +1,25 @@
-use Rattle.std.proofs.Common.{◌≡◌, ℕ, List, subst}
-use Rattle.std.specs.Prelude.{IfErr, IfOk}
+use Rattle.std.proofs.Common.{◌≡◌, ◌∙◌, List, ℕ}
 use Rattle.machine.specs.Shapes.{disk_sizes}
-use Rattle.receiver.specs.Opened.{ram_at}
 use Rattle.receiver.specs.Disks.{sizes_of}
-use Rattle.vmig_c.specs.Awaited.{IsFedTo, TellsWhy}
-use Rattle.vmig_c.specs.Headed.{AreFitting}
+use Rattle.vmig_c.specs.Awaited.{place_for, terms_for}
 use Rattle.vmig_c.specs.Plain.{mem_state}
+use Rattle.vmig_c.proofs.Awaited.{all_fed, all_refused, fresh_steady}
 use Rattle.vmig_c.proofs.Streams.{zero_fit}
 use Rattle.vmig_c.proofs.arrival.begun.Goals as goal
 
-pub returns-clause-begun : goal.returns-clause-begun
-returns-clause-begun c =
+pub returns-in-Ok-feed-clause-begun : goal.returns-in-Ok-feed-clause-begun
+returns-in-Ok-feed-clause-begun c =
+    let r = c.new_receiver-receiver.result in
+    let new = c.new_receiver-receiver.ensures in
+    let fed = c.in-Ok-feed.ensures in
     let sizes : sizes_of mem_state c.in-Ok.disks.items ≡ disk_sizes c.args.shapes.now = zero_fit c.in-Ok.disks.items (disk_sizes c.args.shapes.now) c.in-Ok.ensures in
-    subst (λ (l : List ℕ). IfOk c.fed.result (λ r. IsFedTo (ram_at c.args.base) l c.args.bytes.now r)) sizes c.fed.ensures.fed
+    all_fed (terms_for c.args.base c.args.ram) (place_for c.args.ram) r c.feed.new.self c.args.bytes.now (disk_sizes c.args.shapes.now) new.fed new.ram fed.ram new.place fed.place (new.sizes ∙ sizes) fed.sizes
+    (fresh_steady r c.in-Ok.disks.items new.sizes new.marks) fed.marks fed.fed fed.quiet
 
-pub returns-clause-refused : goal.returns-clause-refused
-returns-clause-refused c =
+pub returns-in-Err-clause-refused : goal.returns-in-Err-clause-refused
+returns-in-Err-clause-refused c = λ fit.
+    let r = c.new_receiver-receiver.result in
+    let new = c.new_receiver-receiver.ensures in
     let sizes : sizes_of mem_state c.in-Ok.disks.items ≡ disk_sizes c.args.shapes.now = zero_fit c.in-Ok.disks.items (disk_sizes c.args.shapes.now) c.in-Ok.ensures in
-    subst (λ (l : List ℕ). AreFitting c.args.bytes.now l → IfErr c.fed.result (λ e. TellsWhy (ram_at c.args.base) c.args.bytes.now e)) sizes c.fed.ensures.refused
+    all_refused (terms_for c.args.base c.args.ram) r c.feed.new.self.marks c.args.bytes.now (disk_sizes c.args.shapes.now) c.in-Err.error new.fed new.ram (new.sizes ∙ sizes)
+    (fresh_steady r c.in-Ok.disks.items new.sizes new.marks) fit c.in-Err.ensures.marks c.in-Err.ensures.told

@@ -2,7 +2,7 @@ use Rattle.std.proofs.Common.{◌≡◌, ap, refl, sym, subst, ◌∙◌}
 use Rattle.std.specs.Prelude.{IfErr, IfOk}
 use Rattle.receiver.specs.declared.recv_error.RecvError.TheVariants.{Truncated}
 use Rattle.vmig_c.specs.ArrivalSeen.{ArrivalSeen, AtBody, Refused}
-use Rattle.vmig_c.specs.Awaited.{AreSteady, HasArrived, IsClosed, IsComing, TellsEnd, awaited_by}
+use Rattle.vmig_c.specs.Awaited.{AreSteady, HasArrived, IsClosed, IsComing, TellsEnd, awaited_by, place_for, terms_for}
 use Rattle.vmig_c.specs.Headed.{HasNoHeader}
 use Rattle.vmig_c.proofs.Awaited.{arrived_if, head_ends, not_arrived_if}
 use Rattle.vmig_c.proofs.arrival.Arrival.finish.Goals as goal
@@ -13,7 +13,7 @@ returns-in-Head-clause-refused c =
     let none : HasNoHeader c.in-Head.field-2.items = rw c.in-Head.is at coming in
     let view : awaited_by c.self.inside.progress ≡ c.args.self = c.self.view_is in
     let seen = sym (ap awaited_by c.in-Head.is) ∙ view in
-    subst (λ (a : ArrivalSeen). TellsEnd a Truncated × IsClosed a Refused) seen (head_ends _ _ c.in-Head.field-2.items none, refl)
+    subst (λ (a : ArrivalSeen). TellsEnd a Truncated × IsClosed a Refused) seen (head_ends (terms_for c.in-Head.field-0 c.in-Head.field-1) (place_for c.in-Head.field-1) c.in-Head.field-2.items none, refl)
 
 pub returns-in-Body-clause-arrived : goal.returns-in-Body-clause-arrived
 returns-in-Body-clause-arrived c =

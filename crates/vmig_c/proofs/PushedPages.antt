@@ -1,0 +1,37 @@
+-- Pages that are handed in, by how they are named.
+use Rattle.std.proofs.Common.{◌≡◌, ℕ, true, false, List, refl, sym, ap, ◌∙◌, subst, inl, inr, length}
+use Rattle.std.specs.Prelude.{Option, Some, None}
+use Rattle.vmig_c.specs.Kept.{State}
+use Rattle.vmig_c.specs.Mirror.{ArePushed, IsPushable, PushesKept, is_away, is_short, is_stopped, memory_in, push_refusal}
+use Rattle.vmig_c.specs.Named.{are_pages, is_known_pages, named_pages, needs_list, pages_refusal}
+use Rattle.vmig_c.specs.declared.pages.Pages.{Pages}
+use Rattle.vmig_c.proofs.Mirrored.{push_tests, pushable}
+use Rattle.vmig_c.proofs.NamedPages.{listed, named_are, there}
+
+pub pushable_list : (k : State) (p : Pages) (bytes entries : ℕ) (answer : Option ℕ) → answer ≡ push_refusal k p bytes entries → answer ≡ None → IsPushable k p.list.now bytes entries
+pushable_list k p bytes entries answer is none = pushable k p p.list.now bytes entries (sym is ∙ none) (λ fit. (there p (length (memory_in k).versions) fit).listed)
+
+pub pushable_named : (k : State) (p : Pages) (numbers : List ℕ) (count bytes entries : ℕ) (answer : Option ℕ) → answer ≡ push_refusal k p bytes entries → answer ≡ None → count ≡ length (memory_in k).versions → numbers ≡ named_pages p count → IsPushable k numbers bytes entries
+pushable_named k p numbers count bytes entries answer is none counted are =
+    pushable k p numbers bytes entries (sym is ∙ none) (λ fit. subst (λ (l : List ℕ). are_pages (length (memory_in k).versions) l ≡ true) (sym (are ∙ ap (named_pages p) counted)) (named_are p (length (memory_in k).versions) fit))
+
+pub push_fit : (k : State) (p : Pages) (count bytes entries : ℕ) (answer : Option ℕ) → answer ≡ push_refusal k p bytes entries → answer ≡ None → count ≡ length (memory_in k).versions → pages_refusal p count ≡ None
+push_fit k p count bytes entries answer is none counted =
+    let tests = push_tests _ _ _ _ (is_away k) (is_stopped k) (is_known_pages p) (is_short (memory_in k) bytes entries) (pages_refusal p (length (memory_in k).versions)) (sym is ∙ none) in
+    subst (λ (n : ℕ). pages_refusal p n ≡ None) (sym counted) tests.3
+
+pub not_pushed : (k : State) (p : Pages) (ram seen : List ℕ) (status : ℕ) (answer : Option ℕ) → answer ≡ push_refusal k p (length ram) (length seen) → answer ≡ Some status → PushesKept k p ram status seen seen k
+not_pushed k p ram seen status answer is refused = rw (sym is ∙ refused) ((refl, refl), refl)
+
+pub pushed_list : (k next : State) (p : Pages) (ram seen new_seen : List ℕ) (status : ℕ) (answer : Option ℕ) → answer ≡ push_refusal k p (length ram) (length seen) → answer ≡ None → needs_list p ≡ false → ArePushed k p.list.now ram seen new_seen next → status ≡ 0
+    → PushesKept k p ram status seen new_seen next
+pushed_list k next p ram seen new_seen status answer is none unlisted pushed told =
+    rw (sym is ∙ none) (inl (record { pushed = rw (listed p (length (memory_in k).versions) unlisted) pushed; status_is = told }))
+
+pub pushed_named : (k next : State) (p : Pages) (numbers ram seen new_seen : List ℕ) (count status : ℕ) (answer : Option ℕ) → answer ≡ push_refusal k p (length ram) (length seen) → answer ≡ None → count ≡ length (memory_in k).versions → numbers ≡ named_pages p count
+    → ArePushed k numbers ram seen new_seen next → status ≡ 0 → PushesKept k p ram status seen new_seen next
+pushed_named k next p numbers ram seen new_seen count status answer is none counted are pushed told =
+    rw (sym is ∙ none) (inl (record { pushed = subst (λ (l : List ℕ). ArePushed k l ram seen new_seen next) (are ∙ ap (named_pages p) counted) pushed; status_is = told }))
+
+pub push_full : (k : State) (p : Pages) (ram seen : List ℕ) (answer : Option ℕ) → answer ≡ push_refusal k p (length ram) (length seen) → answer ≡ None → needs_list p ≡ true → PushesKept k p ram 10 seen seen k
+push_full k p ram seen answer is none needs = rw (sym is ∙ none) (inr (needs, ((refl, refl), refl)))

@@ -1,0 +1,45 @@
+use Rattle.std.proofs.Common.{◌≡◌, ◌++◌, ◌≤◌, ◌<◌, ◌-◌, ◌∙◌, [], ap, List, ℕ, arith, drop, length, take, refl, rules, sym, subst}
+use Rattle.std.specs.Prelude.{IfErr, IfOk}
+use Rattle.std.proofs.lemmas.List.{drop_all, length-append, length-take}
+use Rattle.machine.specs.Shapes.{disk_sizes}
+use Rattle.wire.specs.Header.{said}
+use Rattle.vmig_c.specs.Awaited.{GoesOnWith, IsFedTo, TellsWhy, awaited_by, place_for, terms_for}
+use Rattle.vmig_c.specs.Headed.{HasHeader}
+use Rattle.vmig_c.proofs.Awaited.{begun_coming, cut_piece, fits_header, rest_based, rest_placed, rest_refused, rest_taken, told_longer}
+use Rattle.vmig_c.proofs.arrival.take_head.Goals as goal
+
+pub returns-in-Ok-begun-clause-goes_on : goal.returns-in-Ok-begun-clause-goes_on
+returns-in-Ok-begun-clause-goes_on c =
+    let bytes = c.extend_from_slice.new.self.items in
+    let held : bytes ≡ c.args.held.items ++ c.split_at.result.0.now = search rules in
+    let all = cut_piece c.args.held.items bytes c.args.piece.now _ _ c.min-few.result held (search rules) (search rules) in
+    let found = rw (c.in-Some.is, c.deref.ensures.value) at c.in-Ok.ensures in
+    let fed : IsFedTo (terms_for c.args.base c.args.ram) (place_for c.args.ram) (disk_sizes c.in-Some.header.shapes.items) bytes c.in-Ok-begun.receiver = rw (c.deref-in-Some.ensures.value, c.deref-in-Some-2.ensures.value) at c.in-Ok-begun.ensures.begun in
+    rest_taken c.take_body.result c.in-Ok-begun.receiver bytes c.split_at.result.1.now _ (begun_coming _ _ c.in-Ok-begun.receiver bytes (said c.in-Some.header) _ found.1 fed) all c.take_body.ensures.fed
+
+pub returns-in-Ok-begun-clause-ram : goal.returns-in-Ok-begun-clause-ram
+returns-in-Ok-begun-clause-ram c = rest_based c.take_body.result (terms_for c.args.base c.args.ram) c.in-Ok-begun.receiver c.split_at.result.1.now c.in-Ok-begun.ensures.begun.ram_is c.take_body.ensures.fed
+
+pub returns-in-Ok-begun-clause-place : goal.returns-in-Ok-begun-clause-place
+returns-in-Ok-begun-clause-place c = rest_placed c.take_body.result (place_for c.args.ram) c.in-Ok-begun.receiver c.split_at.result.1.now c.in-Ok-begun.ensures.begun.place_is c.take_body.ensures.fed
+
+pub returns-in-Ok-begun-clause-refused : goal.returns-in-Ok-begun-clause-refused
+returns-in-Ok-begun-clause-refused c =
+    let bytes = c.extend_from_slice.new.self.items in
+    let held : bytes ≡ c.args.held.items ++ c.split_at.result.0.now = search rules in
+    let all = cut_piece c.args.held.items bytes c.args.piece.now _ _ c.min-few.result held (search rules) (search rules) in
+    let found = rw (c.in-Some.is, c.deref.ensures.value) at c.in-Ok.ensures in
+    let fed : IsFedTo (terms_for c.args.base c.args.ram) (place_for c.args.ram) (disk_sizes c.in-Some.header.shapes.items) bytes c.in-Ok-begun.receiver = rw (c.deref-in-Some.ensures.value, c.deref-in-Some-2.ensures.value) at c.in-Ok-begun.ensures.begun in
+    rest_refused c.take_body.result (terms_for c.args.base c.args.ram) c.in-Ok-begun.receiver bytes c.split_at.result.1.now _ fed.ram_is (begun_coming _ _ c.in-Ok-begun.receiver bytes (said c.in-Some.header) _ found.1 fed) all c.take_body.ensures.refused
+
+pub returns-in-Some-clause-refused : goal.returns-in-Some-clause-refused
+returns-in-Some-clause-refused c =
+    let bytes = c.extend_from_slice.new.self.items in
+    let held : bytes ≡ c.args.held.items ++ c.split_at.result.0.now = search rules in
+    let all = cut_piece c.args.held.items bytes c.args.piece.now _ _ c.min-few.result held (search rules) (search rules) in
+    let found = rw (c.in-Some.is, c.deref.ensures.value) at c.in-Ok.ensures in
+    let shapes = c.in-Some.header.shapes.items in
+    let header : HasHeader bytes (disk_sizes shapes) = record { opening = said c.in-Some.header; rest = _; begins = found.1; sizes_are = refl } in
+    let refused = rw (c.deref-in-Some.ensures.value, c.deref-in-Some-2.ensures.value) at c.in-Err.ensures.refused in
+    subst (λ (b : List ℕ). TellsWhy (terms_for c.args.base c.args.ram) b c.in-Err.error) all
+    (told_longer (terms_for c.args.base c.args.ram) bytes c.split_at.result.1.now (disk_sizes shapes) c.in-Err.error header (refused (fits_header bytes (said c.in-Some.header) _ found.1)))
