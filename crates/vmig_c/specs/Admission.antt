@@ -70,7 +70,7 @@ pub record IsFaultyHead (bytes : List ℕ) (status : ℕ) : Type 0 where
   pub front : List ℕ
   pub rest : List ℕ
   pub are : bytes ≡ front ++ rest
-  pub refused : IsRefusedAt front status
+  pub refused : IsRefusedAt stream_status front status
 
 -- The header is not whole, and has no fault so far: these bytes are kept.
 pub record IsPendingWith (limits : Limits) (expected : List Shape) (bytes : List ℕ) (kept : Limits) (shapes : List Shape) (held : List ℕ) : Type 0 where

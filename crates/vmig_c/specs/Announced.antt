@@ -4,9 +4,10 @@ use Rattle.wire.specs.Header.{Begins, Opening}
 use Rattle.receiver.specs.Faults.{IsHeaderFault, TellsHead, WaitsHead}
 use Rattle.receiver.specs.declared.ram_terms.RamTerms.{RamTerms}
 use Rattle.receiver.specs.declared.recv_error.RecvError.{RecvError}
+use Rattle.receiver.specs.declared.recv_error.RecvError.TheVariants.{NoMemory}
 use Rattle.vmig_c.specs.Awaited.{stream_status}
 use Rattle.vmig_c.specs.Described.{message_of, nothing_told, with_shapes}
-use Rattle.vmig_c.specs.Status.{done, more}
+use Rattle.vmig_c.specs.Status.{done, more, no_memory}
 use Rattle.vmig_c.specs.declared.description.Description.{Description}
 
 -- The bytes begin with no whole header, and with no fault of one.
@@ -14,10 +15,16 @@ pub record IsAwaited (bytes : List ℕ) (status : ℕ) : Type 0 where
   pub status_is : status ≡ more
   pub waits : WaitsHead bytes
 
--- The header has this fault, unless memory was refused.
-pub record IsRefusedAt (bytes : List ℕ) (status : ℕ) : Type 0 where
+-- The status of what refuses a header that nothing arrives by. Where memory was refused nothing is over by it: that has the status of
+-- all calls.
+abbrev pub heading_status : RecvError → ℕ
+heading_status NoMemory = no_memory
+heading_status error = stream_status error
+
+-- The header has this fault, unless memory was refused. The fault has a status.
+pub record IsRefusedAt (status_for : RecvError → ℕ) (bytes : List ℕ) (status : ℕ) : Type 0 where
   pub error : RecvError
-  pub status_is : status ≡ stream_status error
+  pub status_is : status ≡ status_for error
   pub why : TellsHead error ((ram : RamTerms) (sizes : List ℕ) → (at : ℕ) × IsHeaderFault ram sizes bytes error at)
 
 -- The pages and the devices of the machine that arrives are told, and the size of a buffer that is enough for its steps.
@@ -29,7 +36,7 @@ pub record IsAnnounced (bytes : List ℕ) (status : ℕ) (told : Description) : 
   pub told_is : told ≡ record (with_shapes nothing_told opening.pages opening.shapes) { message = message_of opening.shapes }
 
 pub record IsNotAnnounced (bytes : List ℕ) (status : ℕ) (told old : Description) : Type 0 where
-  pub why : IsAwaited bytes status ⊎ IsRefusedAt bytes status
+  pub why : IsAwaited bytes status ⊎ IsRefusedAt heading_status bytes status
   pub same : told ≡ old
 
 abbrev pub Announces : List ℕ → ℕ → Description → Description → Type 0

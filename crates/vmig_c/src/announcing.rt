@@ -3,11 +3,11 @@
 //! This keeps nothing, so the bytes are handed in again by `vmig_feed`. That more bytes are needed (79) is no refusal, so it is above 63.
 
 ghost use Rattle.std.specs.Prelude.{◌≡◌};
-ghost use Rattle.vmig_c.specs.Announced.{Announces};
+ghost use Rattle.vmig_c.specs.Announced.{Announces, heading_status};
 
 use crate::description::{Description, message_of};
-use crate::status::{DONE, MORE, stream_status};
-use receiver::read_heading;
+use crate::status::{DONE, MORE, NO_MEMORY, stream_status};
+use receiver::{RecvError, read_heading};
 use std::alloc::Global;
 
 /// What the machine is whose stream begins with these bytes.
@@ -23,6 +23,16 @@ pub(crate) fn announced(alloc: Global, bytes: &[u8], out: &mut Description) -> u
             DONE
         }
         Ok(None) => MORE,
-        Err(error) => stream_status(error),
+        Err(error) => heading_status(error),
+    }
+}
+
+/// The status of what refuses a header that nothing arrives by. Where memory was refused nothing is over by it.
+fn heading_status(error: RecvError) -> u32
+    ensures { result ≡ heading_status error }
+{
+    match error {
+        RecvError::NoMemory => NO_MEMORY,
+        error => stream_status(error),
     }
 }
