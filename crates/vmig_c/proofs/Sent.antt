@@ -17,7 +17,7 @@ use Rattle.wire.specs.Sinks.{Covers, Digested, SinkState, Takes, over_writer}
 use Rattle.wire.specs.Stream.{IsStream}
 use Rattle.wire.proofs.Unique.{one_machine}
 use Rattle.vmig_c.specs.Migrated.{HasTaken}
-use Rattle.vmig_c.specs.Sent.{ArrivedIsSent, CallsStaySent, FirstIsSent, IsSent, ReceivedIsSent, StoppedIsWhole, TakingsStaySent}
+use Rattle.vmig_c.specs.Sent.{ArrivedIsSent, CallsStaySent, FirstIsSent, IsSent, StoppedIsWhole, TakingsStaySent}
 
 pub first_is_sent : FirstIsSent
 first_is_sent m l honest fresh = fresh.relates honest
@@ -84,7 +84,3 @@ stopped_is_whole m h taken l is sound stopped =
 pub arrived_is_sent : ArrivedIsSent
 arrived_is_sent m h taken l r arrived is sound stopped come based there =
     one_machine (taken ++ l.out.held) (state_of arrived) (now l) (there.stream (taken ++ l.out.held) come) (stopped_is_whole m h taken l is sound stopped) (there.base ∙ based)
-
-pub received_is_sent : ReceivedIsSent
-received_is_sent m h taken l received rounds is sound stopped zero there =
-    one_machine (taken ++ l.out.held) (state_of received) (now l) there.received.stream (stopped_is_whole m h taken l is sound stopped) (there.base ∙ sym zero)

@@ -1,5 +1,5 @@
 -- What a handle has, as C is told.
-use Rattle.std.specs.Prelude.{◌≡◌, ℕ, ◌+◌, ◌*◌, nat_lt, Bool, true, false, List, [], ◌∷◌, ◌++◌, drop, length, map, max, replicate, if◌then◌else◌, Option, Some, None}
+use Rattle.std.specs.Prelude.{◌≡◌, ℕ, ◌+◌, ◌*◌, ◌-◌, ◌^◌, nat_lt, Bool, true, false, List, [], ◌∷◌, ◌++◌, drop, length, map, max, min, replicate, if◌then◌else◌, Option, Some, None}
 use Rattle.machine.specs.Layout.{pages_of}
 use Rattle.machine.specs.Parked.{ParkedSeen}
 use Rattle.machine.specs.Seen.{Seen, state_of}
@@ -153,7 +153,7 @@ IsToldState k (Lent x) d = d ≡ told_lent x
 pub record IsDescribed (k : KeptSeen) (d : Description) : Type 0 where
   pub told : Description
   pub by_state : IsToldState k k.state told
-  pub is : d ≡ record told { images = images_in k; lost = lost_bits k.lost }
+  pub is : d ≡ record told { images = min (images_in k) (2 ^ 32 - 1); lost = lost_bits k.lost }
 
 -- What is told of a handle.
 abbrev pub Describes : Option KeptSeen → Description → Type 0

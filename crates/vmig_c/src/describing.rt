@@ -55,7 +55,7 @@ pub(crate) fn describe(kept: &Kept) -> Description
             landing.is_whole(),
         ),
     };
-    told.images = image_count(&kept.contents) as u32;
+    told.images = image_count(&kept.contents).min(u32::MAX as usize) as u32;
     told.lost = lost_bits(kept.lost());
     told
 }

@@ -108,7 +108,8 @@ impl Model for Kept {
 }
 
 impl Kept {
-    ghost use Rattle.std.specs.Prelude.{◌≡◌, slice_set, true};
+    ghost use Rattle.std.specs.Prelude.{◌≡◌, ◌≤◌, length, slice_set, true};
+    ghost use Rattle.machine.specs.declared.machine.TheConstants.{DEVICES_MAX};
     ghost use Rattle.vmig_c.specs.Kept.{is_lost, kept_with, none_lost};
 
     /// Wraps the contents of a handle.
@@ -134,7 +135,8 @@ impl Kept {
 
     /// For each device, whether its disk was lost.
     pub(crate) fn lost(&self) -> &[bool]
-        ensures { result.now ≡ self.now.lost }
+        ensures lost { result.now ≡ self.now.lost }
+        ensures few { length result.now ≤ DEVICES_MAX }
     {
         &self.lost
     }
