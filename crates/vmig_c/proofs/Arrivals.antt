@@ -1,5 +1,5 @@
 -- The arrival of what lies behind a handle.
-use Rattle.std.proofs.Common.{◌≡◌, ℕ, Bool, true, false, List, refl, sym, ap, ◌∙◌, subst, inl, inr}
+use Rattle.std.proofs.Common.{◌≡◌, ℕ, Bool, List, refl, sym, subst, inl, inr}
 use Rattle.std.specs.Prelude.{None, Some}
 use Rattle.receiver.specs.declared.recv_error.RecvError.{RecvError}
 use Rattle.vmig_c.specs.Admission.{Admits}

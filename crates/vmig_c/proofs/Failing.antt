@@ -4,7 +4,6 @@ use Rattle.std.specs.Prelude.{Option, Some, None, MatchOption, Result, Ok, Err, 
 use Rattle.std.proofs.lemmas.List.{get_or-set_same}
 use Rattle.guestmem.specs.Memory.{Memory}
 use Rattle.machine.specs.Seen.{DeviceSeen, Seen, no_marks, state_of}
-use Rattle.machine.specs.State.{MachineState}
 use Rattle.machine.specs.Unsynced.{FailsFlushIf, makes_flush}
 use Rattle.machine.specs.declared.event.Event.TheVariants.{Step}
 use Rattle.sender.specs.LiveState.{HasPlaces, LiveSeen, now, refusal_for}
@@ -15,8 +14,8 @@ use Rattle.sender.specs.declared.phase.Phase.{Phase}
 use Rattle.sender.specs.declared.phase.Phase.TheVariants as phases
 use Rattle.wire.specs.Sinks.{over_writer}
 use Rattle.sender.proofs.Unsynced.{taken_failure_follows}
-use Rattle.vmig_c.specs.Durable.{Failed, FailedIsLost, FailsKept, FailsSync, FailsUnless, FailedMirrors, FailedStaysPlain, HasLost, Loses, RefusedFailsNothing, disk_refusal_unless, failed_status, loss_refusal}
-use Rattle.vmig_c.specs.Kept.{KeptSeen, State, Still, Moving, Arriving, Lent, is_lost}
+use Rattle.vmig_c.specs.Durable.{Failed, FailedIsLost, FailsSync, FailsUnless, FailedMirrors, FailedStaysPlain, HasLost, Loses, RefusedFailsNothing, loss_refusal}
+use Rattle.vmig_c.specs.Kept.{KeptSeen, is_lost}
 use Rattle.vmig_c.specs.Mirror.{Mirrors, is_closed}
 use Rattle.vmig_c.specs.OnHandle.{Refuses, Unless}
 use Rattle.vmig_c.specs.Sent.{FailuresStaySent}

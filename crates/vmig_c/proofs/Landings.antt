@@ -17,7 +17,7 @@ use Rattle.receiver.specs.declared.recv_error.RecvError.{RecvError}
 use Rattle.receiver.specs.declared.recv_error.RecvError.TheVariants.{BadMagic, BadVersion, BadShape, ShapeMismatch, BadTag, BadPage, BadSector, BadRound, BadDevice, BadDigest, Missing, Trailing, Truncated, DiskFailed, NoMemory, AlreadyFailed}
 use Rattle.mapped_disk.specs.declared.image.Image.{Image}
 use Rattle.vmig_c.specs.ArrivalSeen.{ArrivalSeen, AtHead, AtBody, Refused, Over}
-use Rattle.vmig_c.specs.Awaited.{AreSteady, HasArrived, IsClosed, IsFed, IsOver, TellsOf, awaited_sizes}
+use Rattle.vmig_c.specs.Awaited.{AreSteady, HasArrived, IsClosed, IsFed, TellsOf, awaited_sizes}
 use Rattle.vmig_c.specs.Landing.{AreDisksOf, IsAwaitedAt, image_state}
 use Rattle.vmig_c.specs.Mapping.{AreTaken, contents}
 use Rattle.vmig_c.specs.Unmapping.{HasUnmappedArrival, slots_refusal}

@@ -1,5 +1,5 @@
 -- The machine that a setup asks for.
-use Rattle.std.proofs.Common.{◌≡◌, ℕ, Bool, true, false, List, [], refl, sym, ap, ◌∙◌, subst, map}
+use Rattle.std.proofs.Common.{◌≡◌, ℕ, Bool, true, false, List, refl, sym, ap, ◌∙◌, subst, map}
 use Rattle.std.specs.Prelude.{Option, Some, None, length, not, ◌==◌, if◌then◌else◌}
 use Rattle.region.specs.Address.{address}
 use Rattle.region.specs.Empty.{empty_slot}
@@ -15,8 +15,8 @@ use Rattle.machine.specs.declared.shape.Shape.{Shape}
 use Rattle.mapped_disk.specs.declared.image.Image.{Image}
 use Rattle.vmig_c.specs.Kept.{IsNew, KeptSeen, Still}
 use Rattle.vmig_c.specs.Images.{AreImages, image_size}
-use Rattle.vmig_c.specs.Made.{AreFirst, AreOwn, AreOwnDisks, IsMachineOf, first_place, are_other_disks, first_ram, fit_contents, has_bytes, has_images, is_bad_ram, is_known_setup, ram_bytes, ram_left, setup_refusal_of}
-use Rattle.vmig_c.specs.Making.{are_bad_shapes, shapes_of, zero_sectors}
+use Rattle.vmig_c.specs.Made.{AreFirst, AreOwnDisks, IsMachineOf, first_place, are_other_disks, first_ram, fit_contents, has_bytes, has_images, is_bad_ram, is_known_setup, ram_bytes, ram_left, setup_refusal_of}
+use Rattle.vmig_c.specs.Making.{are_bad_shapes, shapes_of}
 use Rattle.vmig_c.specs.Mapping.{contents}
 use Rattle.vmig_c.specs.declared.setup.Setup.{Setup}
 use Rattle.vmig_c.proofs.Imaging.{eq_of}

@@ -1,5 +1,5 @@
 -- Machines that are made, and those that will arrive, by cases on the handle.
-use Rattle.std.proofs.Common.{◌≡◌, ℕ, true, false, List, refl, sym, ◌∙◌, inl, inr, true≢false}
+use Rattle.std.proofs.Common.{◌≡◌, ℕ, true, false, refl, sym, ◌∙◌, inl, inr, true≢false}
 use Rattle.std.specs.Prelude.{Option, Some, None, is_some}
 use Rattle.vmig_c.specs.Expected as arrivals
 use Rattle.vmig_c.specs.Kept.{KeptSeen}

@@ -1,7 +1,7 @@
 -- Machines whose disks lie in memory of the caller.
-use Rattle.std.proofs.Common.{◌≡◌, ◌≤◌, ◌<◌, ◌==◌, ◌+◌, ◌-◌, ◌++◌, ℕ, true, false, List, [], ◌∷◌, refl, sym, ap, ◌∙◌, subst, arith, map, length, drop, get_or, take, inl, inr, true≢false}
+use Rattle.std.proofs.Common.{◌≡◌, ◌≤◌, ◌<◌, ◌==◌, ◌+◌, ◌-◌, ◌++◌, ℕ, List, [], ◌∷◌, refl, sym, ap, ◌∙◌, subst, arith, map, length, drop, get_or, take}
 use Prim.Native.Nat.{zero, suc}
-use Rattle.std.specs.Prelude.{All, Option, Some, None, is_some, slice_set}
+use Rattle.std.specs.Prelude.{All, Option, Some, slice_set}
 use Rattle.std.proofs.lemmas.List.{drop-set-lt, drop_all, drop_more, length-drop, take_all, take_more, take_more_set, length-set}
 use Rattle.std.proofs.lemmas.List.Elements.{All-append}
 use Rattle.machine.proofs.Disks.{none_left}

@@ -28,7 +28,7 @@ use Rattle.sender.specs.declared.event.LiveEvent.TheVariants.{Guest}
 use Rattle.sender.specs.declared.event.LiveReply.{LiveReply}
 use Rattle.sender.specs.declared.event.LiveReply.TheVariants as live
 use Rattle.sender.specs.declared.mig_error.MigError.{MigError}
-use Rattle.vmig_c.specs.Mirror.{AppliedMirrors, ArePushed, IsPushed, Mirrors, MirrorsPage, PulledMirrors, IsPushable, PushedMirrors, UnseenMirrors, is_among, is_away, away_status, is_noted, is_short, is_stopped, machine_in, memory_in, push_refusal, unseen}
+use Rattle.vmig_c.specs.Mirror.{AppliedMirrors, ArePushed, IsPushed, Mirrors, MirrorsPage, PulledMirrors, IsPushable, PushedMirrors, UnseenMirrors, is_among, is_away, is_noted, is_short, is_stopped, machine_in, memory_in, push_refusal, unseen}
 use Rattle.vmig_c.specs.Named.{are_pages, is_known_pages, pages_refusal}
 use Rattle.vmig_c.specs.Status.{live_status, status_of}
 use Rattle.vmig_c.specs.Told.{TellsSo}

@@ -1,7 +1,7 @@
 -- The pages that a caller names.
-use Rattle.std.proofs.Common.{◌≡◌, ◌≢◌, ◌≤◌, ◌<◌, ◌*◌, ◌+◌, ◌-◌, ◌^◌, ◌==◌, ◌&&◌, ◌||◌, ◌++◌, ℕ, Bool, true, false, nat_lt, length, map, drop, get_or, take, List, [], ◌∷◌, refl, sym, ap, ◌∙◌, subst, arith}
+use Rattle.std.proofs.Common.{◌≡◌, ◌≢◌, ◌≤◌, ◌<◌, ◌*◌, ◌+◌, ◌^◌, ◌==◌, ◌&&◌, ◌||◌, ◌++◌, ℕ, Bool, true, false, nat_lt, length, drop, get_or, take, List, [], ◌∷◌, refl, sym, ap, ◌∙◌, subst, arith}
 use Prim.Native.Nat.{zero, suc}
-use Rattle.std.specs.Prelude.{All, Option, Some, None, not, slice_set, if◌then◌else◌}
+use Rattle.std.specs.Prelude.{Option, Some, None, not, slice_set, if◌then◌else◌}
 use Rattle.std.proofs.lemmas.Bool.Decides.{nat_tests}
 use Rattle.std.proofs.lemmas.List.{append-nil, append_assoc, drop_all, drop_more, get_or_at, length-map, length-take-le, map-append, set_at, take_all, take_more}
 use Rattle.vmig_c.specs.Named.{AreBelowTop, are_pages, has_words, marked, named_pages, needs_list, numbers_below, of_bitmap, pages_refusal, shifted, span_of}

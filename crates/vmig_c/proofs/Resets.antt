@@ -1,5 +1,5 @@
 -- The guest's reboot: each event is done.
-use Rattle.std.proofs.Common.{◌≡◌, ◌≤◌, ◌<◌, ◌+◌, ◌++◌, ℕ, Bool, true, false, List, [], ◌∷◌, refl, sym, ap, ◌∙◌, subst, arith, drop, get_or, length, map, true≢false}
+use Rattle.std.proofs.Common.{◌≡◌, ◌≤◌, ◌<◌, ◌+◌, ◌++◌, ℕ, Bool, true, false, List, [], ◌∷◌, refl, sym, ap, ◌∙◌, subst, arith, drop, get_or, length, true≢false}
 use Rattle.std.specs.Prelude.{MatchOption, Option, Some, None, Result, Ok, Err, option_map, slice_get, if◌then◌else◌}
 use Rattle.std.proofs.lemmas.List.{drop_all, drop_more, length-map}
 use Prim.Native.Nat.{zero, suc}

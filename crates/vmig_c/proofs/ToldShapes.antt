@@ -1,5 +1,5 @@
 -- What is told of devices, and of disks that were lost.
-use Rattle.std.proofs.Common.{◌≡◌, ◌≤◌, ◌<◌, ◌+◌, ◌*◌, ◌-◌, ◌^◌, ◌++◌, ℕ, Bool, true, false, List, [], ◌∷◌, refl, sym, ap, ◌∙◌, arith, drop, get_or, length, map, subst, take}
+use Rattle.std.proofs.Common.{◌≡◌, ◌≤◌, ◌<◌, ◌+◌, ◌*◌, ◌-◌, ◌++◌, ℕ, Bool, true, false, List, [], ◌∷◌, refl, sym, ap, ◌∙◌, arith, drop, get_or, length, map, subst, take}
 use Prim.Native.Nat.{zero, suc}
 use Rattle.std.specs.Prelude.{Option, Some, None, max, slice_set}
 use Rattle.std.proofs.lemmas.List.{append_assoc, drop_all, drop_more, length-drop, length-map, length-take-le, map-append, set_at, take_more}

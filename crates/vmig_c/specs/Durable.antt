@@ -3,7 +3,7 @@
 -- the driver takes what was written for durable does not end.
 use Rattle.std.specs.Prelude.{◌≡◌, ℕ, ◌≤◌, ◌<◌, Bool, true, false, if◌then◌else◌, List, length, Option, Some, None, slice_get, slice_set}
 use Rattle.blk.specs.declared.durable.SyncOwed.{SyncOwed}
-use Rattle.blk.specs.declared.durable.SyncOwed.TheVariants.{Nothing, Flush, EndOfWrite}
+use Rattle.blk.specs.declared.durable.SyncOwed.TheVariants.{Nothing}
 use Rattle.machine.specs.Refusal.{code_of}
 use Rattle.machine.specs.Seen.{Seen, state_of}
 use Rattle.machine.specs.State.{DeviceState, MachineState}

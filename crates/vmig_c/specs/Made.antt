@@ -1,10 +1,9 @@
 -- One making: why what a setup asks for is refused, and the machine that it asks for.
-use Rattle.std.specs.Prelude.{◌≡◌, ◌⊎◌, ℕ, ◌*◌, ◌/◌, ◌%◌, ◌==◌, ◌&&◌, ◌||◌, not, nat_lt, if◌then◌else◌, Bool, true, false, List, [], length, map, Option, Some, None}
+use Rattle.std.specs.Prelude.{◌≡◌, ◌⊎◌, ℕ, ◌*◌, ◌/◌, ◌%◌, ◌==◌, ◌&&◌, ◌||◌, not, nat_lt, if◌then◌else◌, Bool, true, false, List, length, map, Option, Some, None}
 use denote.RawPtr.{Ptr}
 use Rattle.region.specs.Empty.{empty_slot}
 use Rattle.region.specs.declared.slot.Slot.{Slot}
 use Rattle.guestmem.specs.declared.limits.TheConstants.{PAGE_SIZE, PAGES_MAX}
-use Rattle.blk.specs.Sectors.{Sector}
 use Rattle.machine.specs.First.{are_same, is_base, made_machine, zero_pages}
 use Rattle.machine.specs.Seen.{Seen, state_of}
 use Rattle.machine.specs.Shapes.{disk_sizes}

@@ -1,5 +1,5 @@
 -- Devices that C asks for.
-use Rattle.std.specs.Prelude.{ℕ, ◌==◌, ◌||◌, ◌&&◌, not, nat_lt, Bool, true, false, List, [], ◌∷◌, length, map, replicate, Some, if◌then◌else◌}
+use Rattle.std.specs.Prelude.{ℕ, ◌==◌, ◌||◌, ◌&&◌, not, nat_lt, Bool, true, List, [], ◌∷◌, length, map, replicate, Some, if◌then◌else◌}
 use Rattle.blk.specs.Sectors.{Sector}
 use Rattle.machine.specs.Shapes.{is_beyond}
 use Rattle.machine.specs.declared.machine.TheConstants.{DEVICES_MAX}

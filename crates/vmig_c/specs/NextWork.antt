@@ -8,7 +8,7 @@ use Rattle.machine.specs.State.{DeviceState}
 use Rattle.machine.specs.declared.work.Work.{Work}
 use Rattle.sender.specs.declared.mig_error.MigError.TheVariants.{AlreadyStopped}
 use Rattle.vmig_c.specs.Durable.{owed_for}
-use Rattle.vmig_c.specs.Kept.{KeptSeen, State}
+use Rattle.vmig_c.specs.Kept.{KeptSeen}
 use Rattle.vmig_c.specs.Mirror.{is_closed}
 use Rattle.vmig_c.specs.OnHandle.{OfState, RefusesBoth}
 use Rattle.vmig_c.specs.Status.{idle, mig_status, no_machine, sync, work}

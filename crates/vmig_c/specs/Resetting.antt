@@ -1,5 +1,5 @@
 -- The guest's reboot, as a list of events: 0 is written into the Status of each device in order, and what the host put into it is dropped.
-use Rattle.std.specs.Prelude.{◌≡◌, ℕ, ◌+◌, Bool, true, false, List, [], ◌∷◌, ◌++◌, if◌then◌else◌, map, Option, Some, None}
+use Rattle.std.specs.Prelude.{◌≡◌, ℕ, ◌+◌, Bool, true, false, List, [], ◌∷◌, ◌++◌, if◌then◌else◌, map, Option}
 use Rattle.machine.specs.Seen.{Seen, state_of}
 use Rattle.machine.specs.Shapes.{made_as}
 use Rattle.machine.specs.declared.event.Event.{Event}

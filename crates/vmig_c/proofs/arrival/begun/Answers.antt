@@ -1,4 +1,4 @@
-use Rattle.std.proofs.Common.{◌≡◌, ◌∙◌, List, ℕ}
+use Rattle.std.proofs.Common.{◌≡◌, ◌∙◌}
 use Rattle.machine.specs.Shapes.{disk_sizes}
 use Rattle.receiver.specs.Disks.{sizes_of}
 use Rattle.vmig_c.specs.Awaited.{place_for, terms_for}

@@ -1,9 +1,7 @@
-use Rattle.std.proofs.Common.{◌≡◌, ◌++◌, ◌≤◌, ◌<◌, ◌-◌, ◌∙◌, [], ap, List, ℕ, arith, drop, length, take, refl, rules, sym, subst}
-use Rattle.std.specs.Prelude.{IfErr, IfOk}
-use Rattle.std.proofs.lemmas.List.{drop_all, length-append, length-take}
+use Rattle.std.proofs.Common.{◌≡◌, ◌++◌, List, ℕ, refl, rules, subst}
 use Rattle.machine.specs.Shapes.{disk_sizes}
 use Rattle.wire.specs.Header.{said}
-use Rattle.vmig_c.specs.Awaited.{GoesOnWith, IsFedTo, TellsWhy, awaited_by, place_for, terms_for}
+use Rattle.vmig_c.specs.Awaited.{IsFedTo, TellsWhy, place_for, terms_for}
 use Rattle.vmig_c.specs.Headed.{HasHeader}
 use Rattle.vmig_c.proofs.Awaited.{begun_coming, cut_piece, fits_header, rest_based, rest_placed, rest_refused, rest_taken, told_longer}
 use Rattle.vmig_c.proofs.arrival.take_head.Goals as goal

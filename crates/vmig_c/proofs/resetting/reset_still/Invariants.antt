@@ -1,6 +1,5 @@
-use Rattle.std.proofs.Common.{◌≡◌, false}
+use Rattle.std.proofs.Common.{◌≡◌}
 use Rattle.vmig_c.specs.Kept.{Still}
-use Rattle.vmig_c.specs.Mirror.{is_closed}
 use Rattle.vmig_c.specs.Resetting.{shapes_of}
 use Rattle.vmig_c.proofs.Resets.{IsOnWay}
 use Rattle.vmig_c.proofs.resetting.reset_still.Given as goal
