@@ -4,8 +4,7 @@ use Rattle.wire.specs.Header.{Begins, Opening}
 use Rattle.receiver.specs.Faults.{IsHeaderFault, TellsHead, WaitsHead}
 use Rattle.receiver.specs.declared.ram_terms.RamTerms.{RamTerms}
 use Rattle.receiver.specs.declared.recv_error.RecvError.{RecvError}
-use Rattle.vmig_c.specs.Announced.{Announces}
-use Rattle.vmig_c.specs.Awaited.{stream_status}
+use Rattle.vmig_c.specs.Announced.{Announces, head_status}
 use Rattle.vmig_c.specs.Described.{message_of, nothing_told, with_shapes}
 use Rattle.vmig_c.specs.declared.description.Description.{Description}
 
@@ -16,5 +15,5 @@ announced bytes opening rest told old begins is = inl (record { opening = openin
 pub awaited : (bytes : List ℕ) (told : Description) → WaitsHead bytes → Announces bytes 79 told told
 awaited bytes told waits = inr (record { why = inl (record { status_is = refl; waits = waits }); same = refl })
 
-pub refused : (bytes : List ℕ) (error : RecvError) (status : ℕ) (told : Description) → TellsHead error ((ram : RamTerms) (sizes : List ℕ) → (at : ℕ) × IsHeaderFault ram sizes bytes error at) → status ≡ stream_status error → Announces bytes status told told
+pub refused : (bytes : List ℕ) (error : RecvError) (status : ℕ) (told : Description) → TellsHead error ((ram : RamTerms) (sizes : List ℕ) → (at : ℕ) × IsHeaderFault ram sizes bytes error at) → status ≡ head_status error → Announces bytes status told told
 refused bytes error status told why is = inr (record { why = inr (record { error = error; status_is = is; why = why }); same = refl })

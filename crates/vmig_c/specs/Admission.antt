@@ -6,10 +6,11 @@ use Rattle.machine.specs.First.{is_base}
 use Rattle.machine.specs.declared.shape.Shape.{Shape}
 use Rattle.machine.specs.declared.shape.Shape.TheVariants.{Net, Block, Console, Entropy}
 use Rattle.wire.specs.Header.{Begins, Opening}
-use Rattle.receiver.specs.Faults.{WaitsHead}
+use Rattle.receiver.specs.Faults.{IsHeaderFault, TellsHead, WaitsHead}
+use Rattle.receiver.specs.declared.ram_terms.RamTerms.{RamTerms}
+use Rattle.receiver.specs.declared.recv_error.RecvError.{RecvError}
 use Rattle.receiver.specs.declared.recv_error.RecvError.TheVariants.{AlreadyFailed}
 use Rattle.vmig_c.specs.AdmissionSeen.{AdmissionSeen, Granted, Pending, Denied}
-use Rattle.vmig_c.specs.Announced.{IsRefusedAt}
 use Rattle.vmig_c.specs.Awaited.{stream_status}
 use Rattle.vmig_c.specs.Images.{sectors_in}
 use Rattle.vmig_c.specs.Status.{stream_mismatch, stream_too_large}
@@ -64,6 +65,12 @@ pub record IsUnfit (limits : Limits) (expected : List Shape) (bytes : List ℕ) 
   pub rest : List ℕ
   pub begins : Begins bytes opening rest
   pub refused : stream_refusal limits expected opening.pages opening.shapes ≡ Some status
+
+-- The header has this fault, unless memory was refused.
+pub record IsRefusedAt (bytes : List ℕ) (status : ℕ) : Type 0 where
+  pub error : RecvError
+  pub status_is : status ≡ stream_status error
+  pub why : TellsHead error ((ram : RamTerms) (sizes : List ℕ) → (at : ℕ) × IsHeaderFault ram sizes bytes error at)
 
 -- The header has a fault within the first bytes, or memory for it was refused.
 pub record IsFaultyHead (bytes : List ℕ) (status : ℕ) : Type 0 where

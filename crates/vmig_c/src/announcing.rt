@@ -3,11 +3,11 @@
 //! This keeps nothing, so the bytes are handed in again by `vmig_feed`. That more bytes are needed (79) is no refusal, so it is above 63.
 
 ghost use Rattle.std.specs.Prelude.{◌≡◌};
-ghost use Rattle.vmig_c.specs.Announced.{Announces};
+ghost use Rattle.vmig_c.specs.Announced.{Announces, head_status};
 
 use crate::description::{Description, message_of};
-use crate::status::{DONE, MORE, stream_status};
-use receiver::read_heading;
+use crate::status::{DONE, MORE, NO_MEMORY, STREAM_NO_MEMORY, stream_status};
+use receiver::{RecvError, read_heading};
 use std::alloc::Global;
 
 /// What the machine is whose stream begins with these bytes.
@@ -23,6 +23,17 @@ pub(crate) fn announced(alloc: Global, bytes: &[u8], out: &mut Description) -> u
             DONE
         }
         Ok(None) => MORE,
-        Err(error) => stream_status(error),
+        Err(error) => head_status(error),
     }
+}
+
+/// The status of a fault. No arrival is over by it, so where memory was refused the call may be made again.
+fn head_status(error: RecvError) -> u32
+    ensures { result ≡ head_status error }
+{
+    let status = stream_status(error);
+    if status == STREAM_NO_MEMORY {
+        return NO_MEMORY;
+    }
+    status
 }
