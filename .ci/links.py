@@ -66,7 +66,7 @@ def check_quotes(differences):
     the first example."""
     program = read(TOP / "examples/c/first.c")
     program = program[program.index("#include") :].rstrip("\n").splitlines()
-    if "".join(f" *   {line}".rstrip() + "\n" for line in program) not in read(TOP / "crates/vmig_c/vmig.h"):
+    if "".join(f" *   {line}".rstrip() + "\n" for line in program) not in read(TOP / "bindings/include/vmig.h"):
         differences.append("vmig.h: the program at its head is not examples/c/first.c")
     texts = {kind: [read(path) for pattern in patterns for path in sorted(TOP.glob(pattern))] for kind, patterns in QUOTED.items()}
     count = 0
@@ -82,7 +82,7 @@ def check_quotes(differences):
 CHECKS = check_links, check_blocks, check_quotes
 
 # What lies elsewhere in a release, seen from its texts, and what of the repository is not in it.
-ELSEWHERE = {"crates/vmig_c/vmig.h": "../../include/vmig.h"}
+ELSEWHERE = {"bindings/include/vmig.h": "../../include/vmig.h"}
 NOT_RELEASED = "examples/library", "examples/move-recorded", "tests", "measures", ".ci", "crates"
 
 
