@@ -1,16 +1,19 @@
 //! A machine that arrives, and what its stream announces.
 
-use crate::device::{Device, devices_of};
+use crate::device::{Device, devices_of, shapes_of};
 use crate::error::{Error, Refused, done};
-use crate::machine::{Machine, is_linked_right};
+use crate::image::{Image, slots_of};
+use crate::machine::{Machine, Parts, is_linked_right};
 use crate::memory::Memory;
 use crate::raw;
 
 /// What the first bytes of a stream announce.
-#[derive(Clone, Debug, PartialEq, Eq)]
+#[derive(Clone, Debug, PartialEq, Eq, Hash)]
+#[non_exhaustive]
 pub struct Announced {
     /// The pages of its RAM.
     pub pages: u32,
+
     /// Its devices, in their order.
     pub devices: Vec<Device>,
 }
@@ -27,6 +30,111 @@ pub fn announced(bytes: &[u8]) -> Result<Option<Announced>, Error> {
     Ok(Some(Announced { pages: found.pages, devices: devices_of(&found)? }))
 }
 
+/// Within which limits, and in which memory, a machine will arrive. It allows nothing until it is said what.
+///
+/// ```
+/// use vmig::{Arrival, Device, Error, Machine, Memory};
+///
+/// let sent = Machine::builder().pages(2).device(Device::Entropy).build()?;
+/// let stream = sent.save()?;
+///
+/// let mut arrival = Arrival::builder().memory(Memory::zeros(2)?).device(Device::Entropy).begin()?;
+/// assert!(arrival.feed(&stream)?);
+/// let machine = arrival.finish()?;
+/// assert_eq!(machine.pages(), 2);
+///
+/// let mut small = Arrival::builder().most_pages(1).begin()?;
+/// assert_eq!(small.feed(&stream), Err(Error::StreamTooLarge));
+/// # Ok::<(), Box<dyn std::error::Error>>(())
+/// ```
+#[derive(Debug, Default)]
+#[must_use = "an arrival begins by `begin`"]
+pub struct ArrivalBuilder {
+    devices: Vec<Device>,
+    most_pages: u32,
+    most_sectors: u64,
+    base: u64,
+    parts: Parts,
+}
+
+impl ArrivalBuilder {
+    /// The most pages of RAM, in memory of the library. A [`Memory`] is its own limit, and this is not said beside it.
+    pub fn most_pages(self, most_pages: u32) -> ArrivalBuilder {
+        ArrivalBuilder { most_pages, ..self }
+    }
+
+    /// The most sectors of all disks together, in memory of the library. Images are their own limit.
+    pub fn most_sectors(self, most_sectors: u64) -> ArrivalBuilder {
+        ArrivalBuilder { most_sectors, ..self }
+    }
+
+    /// One more device: the machine of the stream has exactly those that are named. Where none is named it may have any.
+    pub fn device(mut self, device: Device) -> ArrivalBuilder {
+        self.devices.push(device);
+        self
+    }
+
+    /// More devices, in this order.
+    pub fn devices(mut self, devices: &[Device]) -> ArrivalBuilder {
+        self.devices.extend_from_slice(devices);
+        self
+    }
+
+    /// RAM will be this memory, which is written as pages come. It has as many pages as the stream's.
+    pub fn memory(mut self, memory: Memory) -> ArrivalBuilder {
+        self.parts.memory = Some(memory);
+        self
+    }
+
+    /// The next disk will be this image, which is written as sectors come. There is one for each block device of the stream, or none.
+    pub fn image(mut self, image: Image) -> ArrivalBuilder {
+        self.parts.images.push(image);
+        self
+    }
+
+    /// The guest-physical address of RAM's first byte: that of the machine that is sent, which the stream does not say.
+    pub fn base(self, base: u64) -> ArrivalBuilder {
+        ArrivalBuilder { base, ..self }
+    }
+
+    /// The arrival begins. Refusals, in their order: `BadRam` (the memory is not 1 to 16,384 whole pages, or `most_pages` beside it),
+    /// `BadShape`, `BadBase`, `BadImages` (not those of the devices), `NoMemory`.
+    pub fn begin(mut self) -> Result<Arrival, Refused<ArrivalBuilder>> {
+        match self.arrive() {
+            Ok(held) => Ok(Arrival { machine: Machine { held, parts: self.parts } }),
+            Err(error) => Err(Refused { error, value: self }),
+        }
+    }
+
+    /// The memory and the images that it was given.
+    #[must_use]
+    pub fn into_parts(self) -> Parts {
+        self.parts
+    }
+
+    fn arrive(&mut self) -> Result<raw::Machine, Error> {
+        is_linked_right()?;
+        let shapes = shapes_of(&self.devices);
+        let mut slots = slots_of(&mut self.parts.images);
+        let mut held = raw::NONE;
+        let mut arrival = raw::Arrival {
+            most_pages: self.most_pages,
+            most_sectors: self.most_sectors,
+            shapes: shapes.as_ptr(),
+            count: shapes.len(),
+            images: slots.as_mut_ptr(),
+            count_images: slots.len(),
+            ram: self.parts.memory.as_mut().map_or(raw::NO_RAM, Memory::slot),
+            base: self.base,
+            ..raw::ARRIVAL
+        };
+        // SAFETY: the slices are valid for the call, and the handle is of no machine. RAM and images are owned by what the machine's owner
+        // has beside it, which is dropped after the machine was freed.
+        done(unsafe { raw::vmig_arrive(&mut arrival, &mut held) })?;
+        Ok(held)
+    }
+}
+
 /// A machine whose stream arrives in pieces of any size.
 #[derive(Debug)]
 pub struct Arrival {
@@ -34,68 +142,47 @@ pub struct Arrival {
 }
 
 impl Arrival {
-    /// A machine will arrive with at most this number of pages of RAM, and of sectors of all its disks together. A larger one is refused by
-    /// the piece that completes its header, before memory is taken for RAM or disks.
-    pub fn within(most_pages: u32, most_sectors: u64) -> Result<Arrival, Error> {
-        Arrival::within_at(0, most_pages, most_sectors)
-    }
-
-    /// As `within`, of a machine whose RAM begins at the guest-physical address `base`, as that of the machine that is sent: a stream does
-    /// not say it.
-    pub fn within_at(base: u64, most_pages: u32, most_sectors: u64) -> Result<Arrival, Error> {
-        is_linked_right()?;
-        let mut held = raw::NONE;
-        let mut arrival = raw::Arrival { most_pages, most_sectors, base, ..raw::ARRIVAL };
-        // SAFETY: the handle is of no machine.
-        done(unsafe { raw::vmig_arrive(&mut arrival, &mut held) })?;
-        Ok(Arrival { machine: Machine { held, memory: None } })
-    }
-
-    /// A machine will arrive whose RAM will be this memory, with at most this number of sectors of all its disks together. Another one is
-    /// refused by the piece that completes its header.
-    pub fn over(memory: Memory, most_sectors: u64) -> Result<Arrival, Refused<Memory>> {
-        Arrival::over_at(0, memory, most_sectors)
-    }
-
-    /// As `over`, of a machine whose RAM begins at the guest-physical address `base`.
-    pub fn over_at(base: u64, mut memory: Memory, most_sectors: u64) -> Result<Arrival, Refused<Memory>> {
-        if let Err(error) = is_linked_right() {
-            return Err(Refused { error, value: memory });
-        }
-        let mut held = raw::NONE;
-        let mut arrival = raw::Arrival { ram: memory.slot(), most_sectors, base, ..raw::ARRIVAL };
-        // SAFETY: the handle is of no machine, and the bytes of the memory are the machine's until it is freed.
-        match done(unsafe { raw::vmig_arrive(&mut arrival, &mut held) }) {
-            Ok(_) => Ok(Arrival { machine: Machine { held, memory: Some(memory) } }),
-            Err(error) => Err(Refused { error, value: memory }),
-        }
+    /// Within which limits, and in which memory.
+    pub fn builder() -> ArrivalBuilder {
+        ArrivalBuilder::default()
     }
 
     /// The next bytes. Whether the end of the stream has come, and it is right. A fault is answered by the piece that shows it, and the
-    /// stream is refused for good.
+    /// stream is refused for good: `StreamFailed` from then on. Nothing may follow the stream's last byte.
     pub fn feed(&mut self, piece: &[u8]) -> Result<bool, Error> {
         // SAFETY: the slice is valid for the call, and the handle is of a machine that arrives.
         let status = done(unsafe { raw::vmig_feed(&mut self.machine.held, piece.as_ptr(), piece.len()) })?;
         Ok(status == raw::WHOLE)
     }
 
+    /// What the stream announced, once its header has come.
+    pub fn announced(&self) -> Result<Option<Announced>, Error> {
+        let found = self.machine.describe();
+        let devices = devices_of(&found)?;
+        Ok((found.pages != 0).then_some(Announced { pages: found.pages, devices }))
+    }
+
     /// How many rounds ended in what has arrived.
-    pub fn rounds(&mut self) -> u32 {
+    #[must_use]
+    pub fn rounds(&self) -> u32 {
         self.machine.describe().rounds
     }
 
     /// Whether the end of the stream has arrived, and nothing was refused.
-    pub fn is_whole(&mut self) -> bool {
+    #[must_use]
+    pub fn is_whole(&self) -> bool {
         self.machine.describe().whole == 1
     }
 
     /// Why it was refused, and how many bytes came before the piece that was. `None` where it was not.
-    pub fn fault(&mut self) -> Option<(Error, u64)> {
+    #[must_use]
+    pub fn fault(&self) -> Option<(Error, u64)> {
         let found = self.machine.describe();
         (found.fault != 0).then(|| (Error::of(found.fault), found.fault_at))
     }
 
-    /// All has arrived: the machine. Before its guest runs read the lines and make the steps that have something to do.
+    /// All has arrived: the machine, idle. Bring its disks to their files ([`Machine::sync_all`]), tell the source, and wait for its word; then
+    /// read the lines, make the steps that have something to do, and run the guest.
     pub fn finish(mut self) -> Result<Machine, Refused<Arrival>> {
         // SAFETY: as in `feed`.
         match done(unsafe { raw::vmig_finish(&mut self.machine.held) }) {
@@ -104,8 +191,9 @@ impl Arrival {
         }
     }
 
-    /// Gives the arrival up. The result is the memory in which its RAM was to be, with what came so far, if that is not the library's.
-    pub fn into_memory(self) -> Option<Memory> {
-        self.machine.into_memory()
+    /// Gives the arrival up. The result is the memory and the images that it was given, with what came so far.
+    #[must_use = "dropping the arrival gives it up too"]
+    pub fn into_parts(self) -> Parts {
+        self.machine.into_parts()
     }
 }

@@ -2,77 +2,73 @@
 
 use crate::error::Error;
 use crate::raw;
-use std::alloc::{Layout, alloc_zeroed, dealloc};
+use crate::region::{PAGE, Region};
 use std::ops::{Deref, DerefMut};
 use std::ptr::NonNull;
-use std::slice;
 
-const PAGE: usize = 4096;
+/// The most pages that RAM has.
+const MOST_PAGES: u32 = 16_384;
 
-/// Memory for the RAM of a machine, 1 to 16,384 pages of 4,096 bytes. Its owner reads and writes the bytes, for instance to put a
-/// kernel there. Then a machine is made over it ([`crate::Machine::over`]), or arrives in it ([`crate::Arrival::over`]).
+/// Memory for the RAM of a machine: 1 to 16,384 pages of 4,096 bytes.
+///
+/// Its owner reads and writes the bytes, for instance to put a kernel there. Then a machine is made over it
+/// ([`MachineBuilder::memory`](crate::MachineBuilder::memory)), or arrives in it ([`ArrivalBuilder::memory`](crate::ArrivalBuilder::memory)).
+/// [`Machine::lend`](crate::Machine::lend) gives it to a guest, and [`Machine::into_parts`](crate::Machine::into_parts) gives it back.
+///
+/// ```
+/// use vmig::{Device, Machine, Memory};
+///
+/// let mut memory = Memory::zeros(16)?;
+/// memory[0x1000..0x1005].copy_from_slice(b"hello");
+/// let machine = Machine::builder().memory(memory).base(0x8000_0000).device(Device::Console).build()?;
+/// let mut bytes = [0; 5];
+/// machine.read_ram(0x8000_1000, &mut bytes)?;
+/// assert_eq!(&bytes, b"hello");
+/// assert_eq!(machine.into_parts().memory.expect("memory of this program")[0x1000], b'h');
+/// # Ok::<(), Box<dyn std::error::Error>>(())
+/// ```
 #[derive(Debug)]
 pub struct Memory {
-    at: NonNull<u8>,
-    len: usize,
-    is_allocated: bool,
+    region: Region,
 }
-
-// SAFETY: the bytes are owned.
-unsafe impl Send for Memory {}
 
 impl Memory {
     /// Pages of zeros, aligned to a page.
     pub fn zeros(pages: u32) -> Result<Memory, Error> {
-        if !(1..=16_384).contains(&pages) {
+        if !(1..=MOST_PAGES).contains(&pages) {
             return Err(Error::BadRam);
         }
-        let len = PAGE * pages as usize;
-        // SAFETY: the layout has bytes.
-        let at = NonNull::new(unsafe { alloc_zeroed(layout(len)) }).ok_or(Error::NoMemory)?;
-        Ok(Memory { at, len, is_allocated: true })
+        let region = Region::zeros(PAGE * pages as usize).ok_or(Error::NoMemory)?;
+        Ok(Memory { region })
     }
 
-    /// Memory that the caller mapped.
+    /// Memory that the caller has, as a mapping that a virtual machine monitor made for its guest.
     ///
     /// # Safety
-    /// `len` bytes are at `at`, which may be read and written. Until this value, or the machine that it became a part of, is
-    /// dropped they stay mapped there, and nothing else reads or writes them, but for the guest while they are lent.
+    /// `len` bytes, fewer than 2^63, are at `at`, and may be read and written. Until this value, or the machine that it became a part of, is
+    /// dropped they stay there, and nothing else reads or writes them, but for the guest while they are lent. If a file lies behind them it
+    /// is not cut.
     pub unsafe fn from_raw_parts(at: NonNull<u8>, len: usize) -> Memory {
-        Memory { at, len, is_allocated: false }
+        // SAFETY: the caller says so.
+        Memory { region: unsafe { Region::from_raw_parts(at, len) } }
     }
 
     /// The same as C has it, for a call that takes it.
     pub(crate) fn slot(&mut self) -> raw::Ram {
-        raw::Ram { at: self.at.as_ptr().cast(), len: self.len }
+        raw::Ram { at: self.region.as_mut_ptr(), len: self.region.len() }
     }
-}
-
-fn layout(len: usize) -> Layout {
-    Layout::from_size_align(len, PAGE).expect("at most 64 MiB")
 }
 
 impl Deref for Memory {
     type Target = [u8];
 
     fn deref(&self) -> &[u8] {
-        // SAFETY: the bytes are there, and are this value's.
-        unsafe { slice::from_raw_parts(self.at.as_ptr(), self.len) }
+        self.region.bytes()
     }
 }
 
 impl DerefMut for Memory {
     fn deref_mut(&mut self) -> &mut [u8] {
-        // SAFETY: as in `deref`.
-        unsafe { slice::from_raw_parts_mut(self.at.as_ptr(), self.len) }
-    }
-}
-
-impl Drop for Memory {
-    fn drop(&mut self) {
-        if self.is_allocated {
-            // SAFETY: it was allocated so, and no machine is over it any more.
-            unsafe { dealloc(self.at.as_ptr(), layout(self.len)) }
-        }
+        self.region.bytes_mut()
     }
 }
