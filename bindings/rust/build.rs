@@ -1,4 +1,4 @@
-//! Links libvmig.a as `install` leaves it: from the folder that VMIG_LIB names, or that pkg-config knows. VMIG_HEADER becomes the
+//! Links libvmig.a as `install` leaves it: from the folder that `VMIG_LIB` names, or that pkg-config knows. `VMIG_HEADER` becomes the
 //! header beside it, which the tests compare with the declarations of this crate.
 
 use std::path::{Path, PathBuf};

@@ -47,9 +47,7 @@ impl Device {
         let none = raw::Shape::default();
         match self {
             Device::Network { mac } => raw::Shape { kind: raw::NETWORK, mac, ..none },
-            Device::Block { sectors, read_only, id } => {
-                raw::Shape { kind: raw::BLOCK, sectors, read_only: read_only.into(), id, ..none }
-            }
+            Device::Block { sectors, read_only, id } => raw::Shape { kind: raw::BLOCK, sectors, read_only: read_only.into(), id, ..none },
             Device::Console => raw::Shape { kind: raw::CONSOLE, ..none },
             Device::Entropy => raw::Shape { kind: raw::ENTROPY, ..none },
         }
@@ -59,9 +57,7 @@ impl Device {
     pub(crate) fn of(shape: &raw::Shape) -> Option<Device> {
         match shape.kind {
             raw::NETWORK => Some(Device::Network { mac: shape.mac }),
-            raw::BLOCK => {
-                Some(Device::Block { sectors: shape.sectors, read_only: shape.read_only != 0, id: shape.id })
-            }
+            raw::BLOCK => Some(Device::Block { sectors: shape.sectors, read_only: shape.read_only != 0, id: shape.id }),
             raw::CONSOLE => Some(Device::Console),
             raw::ENTROPY => Some(Device::Entropy),
             _ => None,

@@ -302,7 +302,8 @@ mod tests {
 
     #[test]
     fn each_refusal_of_the_header_has_its_error() {
-        let refusals: Vec<_> = in_header().into_iter().skip_while(|(name, _)| name != "VMIG_NO_DEVICE").take(38).collect();
+        let refusals: Vec<_> =
+            in_header().into_iter().skip_while(|(name, _)| name != "VMIG_NO_DEVICE").take_while(|(_, number)| *number < 64).collect();
         assert_eq!(refusals.last().expect("refusals").0, "VMIG_STREAM_TOO_LARGE");
         for (name, number) in refusals {
             let camel: String = name[5..].split('_').map(|word| word[..1].to_owned() + &word[1..].to_lowercase()).collect();

@@ -44,7 +44,8 @@ impl Image {
         if !(1..=MOST_SECTORS).contains(&sectors) {
             return Err(Error::BadImages);
         }
-        let region = Region::zeros((SECTOR * sectors) as usize).ok_or(Error::NoMemory)?;
+        let len = usize::try_from(SECTOR * sectors).map_err(|_| Error::NoMemory)?;
+        let region = Region::zeros(len).ok_or(Error::NoMemory)?;
         Ok(Image { region })
     }
 
@@ -61,9 +62,10 @@ impl Image {
         if len % SECTOR != 0 || !(1..=MOST_SECTORS).contains(&(len / SECTOR)) {
             return Err(io::Error::new(io::ErrorKind::InvalidInput, "not 1 to 2,097,152 whole sectors of 512 bytes"));
         }
+        let len = usize::try_from(len).map_err(|_| io::ErrorKind::FileTooLarge)?;
         file.try_lock()?;
         // SAFETY: the caller says so.
-        let region = unsafe { Region::map(file, len as usize) }?;
+        let region = unsafe { Region::map(file, len) }?;
         Ok(Image { region })
     }
 
@@ -71,12 +73,13 @@ impl Image {
     /// brings them there.
     ///
     /// # Safety
-    /// `512 * sectors` bytes, fewer than 2^63, are at `at`, and may be read and written. Until this value, or the machine that took it, is
+    /// `len` bytes, 512 for each sector and fewer than 2^63, are at `at`, and may be read and written. Until this value, or the machine that took it, is
     /// dropped they stay there, and nothing else reads or writes them. If a file lies behind them all its blocks are allocated, it is not
     /// cut, and no other machine has it.
-    pub unsafe fn from_raw_parts(at: NonNull<u8>, sectors: u64) -> Image {
+    #[must_use]
+    pub unsafe fn from_raw_parts(at: NonNull<u8>, len: usize) -> Image {
         // SAFETY: the caller says so.
-        Image { region: unsafe { Region::from_raw_parts(at, (SECTOR * sectors) as usize) } }
+        Image { region: unsafe { Region::from_raw_parts(at, len) } }
     }
 
     /// How many sectors it has.

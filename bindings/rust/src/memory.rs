@@ -48,6 +48,7 @@ impl Memory {
     /// `len` bytes, fewer than 2^63, are at `at`, and may be read and written. Until this value, or the machine that it became a part of, is
     /// dropped they stay there, and nothing else reads or writes them, but for the guest while they are lent. If a file lies behind them it
     /// is not cut.
+    #[must_use]
     pub unsafe fn from_raw_parts(at: NonNull<u8>, len: usize) -> Memory {
         // SAFETY: the caller says so.
         Memory { region: unsafe { Region::from_raw_parts(at, len) } }

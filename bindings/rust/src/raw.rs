@@ -312,13 +312,13 @@ pub const NO_MEMORY: u32 = 10;
 pub const TOO_SMALL: u32 = 11;
 /// Not 1 to 16 devices, or one beyond the limits, or of an unknown kind.
 pub const BAD_SHAPE: u32 = 12;
-/// Contents or images that do not fit the disks; a slot that is not VMIG_NO_IMAGE.
+/// Contents or images that do not fit the disks; a slot that is not `NO_IMAGE`.
 pub const BAD_IMAGES: u32 = 15;
 /// The machine is not being sent.
 pub const NOT_SENDING: u32 = 17;
 /// The machine is being sent.
 pub const SENDING: u32 = 18;
-/// Out of memory for what waits to be taken: vmig_send_abort, and the machine goes on.
+/// Out of memory for what waits to be taken: `vmig_send_abort`, and the machine goes on.
 pub const SEND_FAILED: u32 = 20;
 /// The machine was stopped: its guest is paused, and its stream is closed.
 pub const STOPPED: u32 = 21;
@@ -330,7 +330,7 @@ pub const LENT: u32 = 23;
 pub const NOT_LENT: u32 = 24;
 /// RAM is in memory of the library, and is never lent.
 pub const NOT_YOURS: u32 = 25;
-/// Not 1 to 16,384 whole pages, or not as asked for or lent; lend: not VMIG_NO_RAM.
+/// Not 1 to 16,384 whole pages, or not as asked for or lent; lend: not `NO_RAM`.
 pub const BAD_RAM: u32 = 26;
 /// A struct of another version, a flag, or a word that has to be 0.
 pub const NOT_KNOWN: u32 = 27;
@@ -374,7 +374,7 @@ pub const IDLE: u32 = 65;
 pub const TAKEN: u32 = 66;
 /// One unit of a request is done: a sector, a flush or the id.
 pub const MOVED: u32 = 67;
-/// The sector is bad: the request will end with an error; sector_read: it has no bytes.
+/// The sector is bad: the request will end with an error; `sector_read`: it has no bytes.
 pub const BAD_SECTOR: u32 = 68;
 /// The disk is lost: the flush failed, and the request will end with an error.
 pub const DISK_FAILED: u32 = 69;
@@ -386,17 +386,17 @@ pub const SENT: u32 = 71;
 pub const DROPPED: u32 = 72;
 /// The guest's chain is malformed; the device asks its driver for a reset.
 pub const NEEDS_RESET: u32 = 73;
-/// Send_some: nothing is due any more in this round.
+/// `send_some`: nothing is due any more in this round.
 pub const ROUND_DONE: u32 = 76;
-/// Send_round: something is still due, and the round goes on.
+/// `send_round`: something is still due, and the round goes on.
 pub const ROUND_OPEN: u32 = 77;
 /// Next: the step that it names has something to do.
 pub const WORK: u32 = 78;
-/// Stream_describe: the header is not whole; save: the stream is longer than size.
+/// `stream_describe`: the header is not whole; save: the stream is longer than size.
 pub const MORE: u32 = 79;
 /// Next: the step that it names needs its disk durable before.
 pub const SYNC: u32 = 80;
-/// Feed: the stream has ended, and is right: call vmig_finish.
+/// Feed: the stream has ended, and is right: call `vmig_finish`.
 pub const WHOLE: u32 = 82;
 
 unsafe extern "C" {

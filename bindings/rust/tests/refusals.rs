@@ -92,17 +92,19 @@ fn another_machine_than_the_one_expected_is_refused() {
         Arrival::builder().most_pages(1).devices(&[Device::Entropy, CARD]),
         Arrival::builder().memory(Memory::zeros(2).unwrap()),
         Arrival::builder().most_pages(1).image(Image::zeros(1).unwrap()),
-        Arrival::builder().most_pages(1).base(0xffff_ffff_ffff_f000),
-    ]
-    .into_iter()
-    .take(4)
-    {
+    ] {
         let mut arrival = builder.begin().unwrap();
         assert_eq!(arrival.feed(&stream), Err(Error::StreamMismatch));
         assert_eq!(arrival.fault(), Some((Error::StreamMismatch, 0)));
     }
-    let mut last = Arrival::builder().most_pages(1).base(0xffff_ffff_ffff_f000).begin().unwrap();
-    assert_eq!(last.feed(&stream), Ok(true));
+}
+
+#[test]
+fn ram_that_would_reach_past_the_last_address_is_refused() {
+    let at_the_end = || Arrival::builder().most_pages(2).base(0xffff_ffff_ffff_f000).begin().unwrap();
+    let two = Machine::builder().pages(2).device(Device::Entropy).build().unwrap().save().unwrap();
+    assert_eq!(at_the_end().feed(&two), Err(Error::StreamMismatch));
+    assert_eq!(at_the_end().feed(&stream()), Ok(true));
 }
 
 #[test]

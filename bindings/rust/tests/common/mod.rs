@@ -1,5 +1,5 @@
 //! What the tests share: the part of a driver that sets up its device and writes a split ring (VIRTIO 1.2, 2.7, 3.1 and 4.2.2).
-#![allow(dead_code)]
+#![allow(dead_code, clippy::cast_possible_truncation)]
 
 use vmig::{Device, Machine, Next, Pick, SENT_MAX, Step};
 
@@ -80,7 +80,7 @@ impl Ring {
     }
 }
 
-/// A driver accepts VERSION_1 and these features below bit 32, and readies its queues.
+/// A driver accepts `VERSION_1` and these features below bit 32, and readies its queues.
 pub fn ready(machine: &mut Machine, features: u32, rings: &[&Ring]) {
     let dev = rings[0].dev;
     for (offset, value) in [(STATUS, 0), (STATUS, 3), (DRIVER_FEATURES_SEL, 0), (DRIVER_FEATURES, features)] {
