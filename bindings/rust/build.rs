@@ -1,5 +1,5 @@
 //! Links libvmig.a as `install` leaves it: from the folder that `VMIG_LIB` names, or that pkg-config knows. `VMIG_HEADER` becomes the
-//! header beside it, which the tests compare with the declarations of this crate.
+//! header beside it, or in the repository, which the tests compare with the declarations of this crate.
 
 use std::path::{Path, PathBuf};
 use std::process::Command;
@@ -22,6 +22,7 @@ fn main() {
     };
     println!("cargo:rustc-link-search=native={}", folder.display());
     println!("cargo:rerun-if-changed={}", folder.join("libvmig.a").display());
-    let header = Path::new(&folder).join("../include/vmig.h");
+    let beside = folder.join("../include/vmig.h");
+    let header = if beside.exists() { beside } else { Path::new(env!("CARGO_MANIFEST_DIR")).join("../include/vmig.h") };
     println!("cargo:rustc-env=VMIG_HEADER={}", header.display());
 }
