@@ -42,6 +42,9 @@ pub struct Image {
     pub sectors: u64,
 }
 
+// The header says the size of this one, of which descriptions have sixteen.
+const _: () = assert!(size_of::<Shape>() == 56 && size_of::<Description>() == 96 + 16 * 56);
+
 /// No image.
 pub const NO_IMAGE: Image = Image { at: core::ptr::null_mut(), sectors: 0 };
 

@@ -29,7 +29,8 @@ impl Sending {
         }
         machine.send_stop()?;
         self.carry(machine)?;
-        // The target's word that all is there: a byte.
+        // The target's word that all is there: a byte. Where none comes it has no processor, and cannot run the guest.
+        self.line.set_read_timeout(Some(std::time::Duration::from_secs(10)))?;
         self.line.read_exact(&mut [0])?;
         // From the first of these bytes on the guest may run there, so an error of this write is none for the source.
         if let Err(error) = self.line.write_all(&cpu.to_bytes()) {
