@@ -52,7 +52,7 @@ impl Image {
     /// A file whose length is that of 1 to 2,097,152 sectors, mapped and shared: what the guest writes is there at once, and durable after
     /// [`Machine::sync`](crate::Machine::sync). The file is open for reading and writing. All its blocks are allocated, and it is locked
     /// ([`File::try_lock`]) until the image is dropped: a second image of it, in this process or another one, is refused by
-    /// [`io::ErrorKind::WouldBlock`].
+    /// [`io::ErrorKind::WouldBlock`]. (A clone of the [`File`] has the same lock.)
     ///
     /// # Safety
     /// Until the image, or the machine that took it, is dropped no process cuts the file, nor reads or writes it in another way. The lock
