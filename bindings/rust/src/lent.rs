@@ -30,8 +30,8 @@ impl Machine {
 }
 
 impl Lent {
-    /// Where RAM lies, for a guest that runs on it. While it runs no slice of these bytes is in use here, and all its processors are outside
-    /// before RAM is given back.
+    /// Where RAM lies, for a guest that runs on it: the same address at each loan, and that of the [`crate::Memory`], so a memory slot of KVM
+    /// is set once. While the guest runs no slice of these bytes is in use here, and all its processors are outside before RAM is given back.
     #[must_use]
     pub fn as_mut_ptr(&mut self) -> *mut u8 {
         self.ram.at.cast()

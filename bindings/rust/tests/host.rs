@@ -13,6 +13,7 @@ const SECTORS: u32 = 256;
 fn begin(disk: &Path, words: &[&str]) -> (Child, BufReader<impl Read + use<>>) {
     let tests = std::env::current_exe().unwrap();
     let host = tests.parent().and_then(Path::parent).expect("target/PROFILE/deps").join("examples/host");
+    assert!(host.exists(), "`cargo test` builds the examples, and `cargo build --examples` does");
     let mut child = Command::new(host).arg(disk).args(words).stdout(Stdio::piped()).spawn().unwrap();
     let output = BufReader::new(child.stdout.take().unwrap());
     (child, output)

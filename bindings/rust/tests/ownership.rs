@@ -198,6 +198,19 @@ fn a_guest_writes_through_the_pointer_of_a_loan() {
 }
 
 #[test]
+fn ram_stays_where_it_lies() {
+    let memory = Memory::zeros(2).unwrap();
+    let at = memory.as_ptr();
+    let mut machine = Machine::builder().memory(memory).device(Device::Console).build().unwrap();
+    for _ in 0..2 {
+        let mut lent = machine.lend().unwrap();
+        assert_eq!((lent.as_mut_ptr().cast_const(), at.addr() % 4096), (at, 0));
+        machine = lent.give_back(Pages::NONE).unwrap();
+    }
+    assert_eq!(machine.into_parts().memory.unwrap().as_ptr(), at);
+}
+
+#[test]
 fn each_type_can_be_printed() {
     let machine = over_mine();
     let printed = [
