@@ -58,14 +58,24 @@ impl Image {
     /// Until the image, or the machine that took it, is dropped no process cuts the file, nor reads or writes it in another way. The lock
     /// keeps out only those that ask for it.
     pub unsafe fn map(file: File) -> io::Result<Image> {
-        let len = file.metadata()?.len();
-        if len % SECTOR != 0 || !(1..=MOST_SECTORS).contains(&(len / SECTOR)) {
-            return Err(io::Error::new(io::ErrorKind::InvalidInput, "not 1 to 2,097,152 whole sectors of 512 bytes"));
-        }
-        let len = usize::try_from(len).map_err(|_| io::ErrorKind::FileTooLarge)?;
+        let len = len_of(&file)?;
         file.try_lock()?;
         // SAFETY: the caller says so.
         let region = unsafe { Region::map(file, len) }?;
+        Ok(Image { region })
+    }
+
+    /// As [`Image::map`], but what is written stays in memory, and is gone with the image: several machines begin with the sectors of one
+    /// file, as of the root of a file system whose device is read-only. The file may be open for reading alone, and its lock is a shared one.
+    /// A sync has nothing to do, so what a guest flushes is not durable.
+    ///
+    /// # Safety
+    /// As of [`Image::map`], but that others may read the file.
+    pub unsafe fn map_copy(file: File) -> io::Result<Image> {
+        let len = len_of(&file)?;
+        file.try_lock_shared()?;
+        // SAFETY: the caller says so.
+        let region = unsafe { Region::map_copy(file, len) }?;
         Ok(Image { region })
     }
 
@@ -97,6 +107,15 @@ impl Image {
     pub(crate) fn slot(&mut self) -> raw::Image {
         raw::Image { at: self.region.as_mut_ptr(), sectors: self.sectors() }
     }
+}
+
+/// The length of a file that is a disk.
+fn len_of(file: &File) -> io::Result<usize> {
+    let len = file.metadata()?.len();
+    if len % SECTOR != 0 || !(1..=MOST_SECTORS).contains(&(len / SECTOR)) {
+        return Err(io::Error::new(io::ErrorKind::InvalidInput, "not 1 to 2,097,152 whole sectors of 512 bytes"));
+    }
+    usize::try_from(len).map_err(|_| io::ErrorKind::FileTooLarge.into())
 }
 
 /// What a call of C takes of these images.

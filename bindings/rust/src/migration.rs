@@ -6,6 +6,7 @@ use crate::raw;
 
 /// What is left to be sent.
 #[derive(Clone, Copy, Debug, Default, PartialEq, Eq, Hash)]
+#[non_exhaustive]
 pub struct Left {
     /// Due in this round.
     pub due_pages: u64,

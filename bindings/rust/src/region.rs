@@ -15,6 +15,7 @@ pub(crate) const PAGE: usize = 4096;
 const PROT_READ: c_int = 1;
 const PROT_WRITE: c_int = 2;
 const MAP_SHARED: c_int = 1;
+const MAP_PRIVATE: c_int = 2;
 const MS_SYNC: c_int = 4;
 
 unsafe extern "C" {
@@ -35,8 +36,8 @@ pub(crate) struct Region {
 #[derive(Debug)]
 enum Owner {
     Allocator,
-    // The lock that it holds is given up with it, after the bytes were unmapped.
-    Map { _file: File },
+    // The lock that the file holds is given up with it, after the bytes were unmapped.
+    Map { _file: File, is_shared: bool },
     Caller,
 }
 
@@ -67,13 +68,29 @@ impl Region {
         let size = i64::try_from(len).map_err(|_| io::ErrorKind::FileTooLarge)?;
         // SAFETY: the file is open.
         match unsafe { posix_fallocate(file.as_raw_fd(), 0, size) } {
-            0 => {}
-            number => return Err(io::Error::from_raw_os_error(number)),
+            // SAFETY: the caller says so.
+            0 => unsafe { Region::map_as(file, len, true) },
+            number => Err(io::Error::from_raw_os_error(number)),
         }
+    }
+
+    /// The first bytes of a file. What is written to them stays in memory, and does not reach it.
+    ///
+    /// # Safety
+    /// As of `map`.
+    pub(crate) unsafe fn map_copy(file: File, len: usize) -> io::Result<Region> {
+        // SAFETY: the caller says so.
+        unsafe { Region::map_as(file, len, false) }
+    }
+
+    /// # Safety
+    /// As of `map`.
+    unsafe fn map_as(file: File, len: usize, is_shared: bool) -> io::Result<Region> {
+        let flags = if is_shared { MAP_SHARED } else { MAP_PRIVATE };
         // SAFETY: the system chooses a place where nothing lies.
-        let at = unsafe { mmap(ptr::null_mut(), len, PROT_READ | PROT_WRITE, MAP_SHARED, file.as_raw_fd(), 0) };
+        let at = unsafe { mmap(ptr::null_mut(), len, PROT_READ | PROT_WRITE, flags, file.as_raw_fd(), 0) };
         match NonNull::new(at.cast::<u8>()) {
-            Some(at) if at.as_ptr().addr() != usize::MAX => Ok(Region { at, len, owner: Owner::Map { _file: file } }),
+            Some(at) if at.as_ptr().addr() != usize::MAX => Ok(Region { at, len, owner: Owner::Map { _file: file, is_shared } }),
             _ => Err(io::Error::last_os_error()),
         }
     }
@@ -104,9 +121,9 @@ impl Region {
         unsafe { slice::from_raw_parts_mut(self.at.as_ptr(), self.len) }
     }
 
-    /// Brings the bytes to their file, if they are of one.
+    /// Brings the bytes to their file, if they are shared with one.
     pub(crate) fn sync(&self) -> io::Result<()> {
-        let Owner::Map { .. } = self.owner else {
+        let Owner::Map { is_shared: true, .. } = self.owner else {
             return Ok(());
         };
         // SAFETY: the bytes are mapped, and the call changes none of them.

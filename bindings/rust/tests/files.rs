@@ -74,6 +74,30 @@ fn a_file_that_cannot_be_written_is_no_disk() {
 }
 
 #[test]
+fn several_machines_begin_with_one_file() {
+    let scratch = Scratch::new("copies", &[1; 1024]);
+    // SAFETY: nothing but this test has the file, which it writes by no image.
+    let copy = || unsafe { Image::map_copy(File::open(&scratch.0).unwrap()) };
+    let (mut one, two) = (copy().unwrap(), copy().unwrap());
+    assert_eq!(scratch.map().unwrap_err().kind(), ErrorKind::WouldBlock);
+    one[0] = 2;
+    let disk = Device::Block { sectors: 2, read_only: true, id: [0; 20] };
+    let mut machines = [one, two].map(|image| Machine::builder().pages(1).device(disk).image(image).build().unwrap());
+    let mut sector = [0; 512];
+    for (machine, byte) in machines.iter_mut().zip([2, 1]) {
+        machine.sync_all().unwrap();
+        assert_eq!((machine.read_sector(0, 0, &mut sector), sector[0], sector[1]), (Ok(true), byte, 1));
+    }
+    drop(machines);
+    assert_eq!(fs::read(&scratch.0).unwrap(), [1; 1024]);
+    assert!(scratch.map().is_ok());
+
+    let image = scratch.map().unwrap();
+    assert_eq!(copy().unwrap_err().kind(), ErrorKind::WouldBlock);
+    drop(image);
+}
+
+#[test]
 fn a_file_with_holes_gets_its_blocks() {
     let scratch = Scratch::new("holes", &[]);
     File::options().write(true).open(&scratch.0).unwrap().set_len(1 << 20).unwrap();

@@ -2,7 +2,7 @@
 
 mod common;
 use common::{CARD, Ring, bytes, made, ready, work};
-use vmig::{Arrival, Device, Error, Image, Left, Machine, Memory, Pages, State, UNSEEN};
+use vmig::{Arrival, Device, Error, Image, Machine, Memory, Pages, State, UNSEEN};
 
 /// All that waits goes to the other side. Whether the stream is whole.
 fn carry(machine: &mut Machine, arrival: &mut Arrival) -> bool {
@@ -27,7 +27,7 @@ fn a_machine_is_sent_in_rounds() {
     machine.write_ram(0x3000, b"a").unwrap();
     machine.write_ram(0x5fff, b"bc").unwrap();
     let left = machine.send_left().unwrap();
-    assert_eq!(left, Left { dirty_pages: 3, stop_bytes: left.stop_bytes, ..Left::default() });
+    assert_eq!((left.due_pages, left.due_sectors, left.dirty_pages, left.dirty_sectors), (0, 0, 3, 0));
     assert!(!carry(&mut machine, &mut arrival));
     assert_eq!(arrival.rounds(), 1);
 
