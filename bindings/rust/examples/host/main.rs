@@ -39,7 +39,7 @@ struct Host {
 }
 
 impl Host {
-    /// The guest runs until it comes out, and is served. Whether it has ended.
+    /// The guest runs until it comes out, and is served: whether it has ended. A loan of this RAM and a list of its pages are never refused.
     fn run_a_while(&mut self, machine: Machine) -> Result<(Machine, bool), Failure> {
         let mut written = Vec::new();
         let mut lent = machine.lend()?;
