@@ -1,6 +1,6 @@
 #!/usr/bin/env python3
 """Checks of links and of quoted code. As a command, for a release: `.ci/links.py release FOLDER` changes the links of the texts below
-this folder, which lie there as in the repository: the header lies elsewhere, and what is not released is named without a link.
+this folder, which lie there as in the repository: what is not released is named without a link.
 `.ci/links.py check FOLDER` looks that each link there leads somewhere, and that each trace that a text names is there."""
 
 import os
@@ -66,7 +66,7 @@ def check_quotes(differences):
     the first example."""
     program = read(TOP / "examples/c/first.c")
     program = program[program.index("#include") :].rstrip("\n").splitlines()
-    if "".join(f" *   {line}".rstrip() + "\n" for line in program) not in read(TOP / "crates/vmig_c/vmig.h"):
+    if "".join(f" *   {line}".rstrip() + "\n" for line in program) not in read(TOP / "bindings/include/vmig.h"):
         differences.append("vmig.h: the program at its head is not examples/c/first.c")
     texts = {kind: [read(path) for pattern in patterns for path in sorted(TOP.glob(pattern))] for kind, patterns in QUOTED.items()}
     count = 0
@@ -81,9 +81,8 @@ def check_quotes(differences):
 
 CHECKS = check_links, check_blocks, check_quotes
 
-# What lies elsewhere in a release, seen from its texts, and what of the repository is not in it.
-ELSEWHERE = {"crates/vmig_c/vmig.h": "../../include/vmig.h"}
-NOT_RELEASED = "examples/library", "examples/move-recorded", "tests", "measures", ".ci", "crates"
+# What of the repository is not in a release.
+NOT_RELEASED = "examples/library", "examples/move-recorded", "bindings/README.md", "bindings/package", "tests", "measures", ".ci", "crates"
 
 
 def release(folder):
@@ -95,8 +94,6 @@ def release(folder):
             if "://" in target or target.startswith("#"):
                 return match[0]
             name = os.path.normpath((path.parent / target.partition("#")[0]).relative_to(folder))
-            if name in ELSEWHERE:
-                return f"[{text}]({os.path.relpath(folder / ELSEWHERE[name], path.parent)})"
             if any(name == left or name.startswith(f"{left}/") for left in NOT_RELEASED):
                 return text
             return match[0]

@@ -48,7 +48,7 @@ def check_records(differences):
 
 def check_statuses(differences):
     """Each enumerator of the header is named by a program, and where none can meet it, by a line of statuses.c that says why."""
-    names = re.findall(r"^ +(VMIG_\w+) = \d+", read(TOP / "crates/vmig_c/vmig.h"), flags=re.M)
+    names = re.findall(r"^ +(VMIG_\w+) = \d+", read(TOP / "bindings/include/vmig.h"), flags=re.M)
     programs = "\n".join(read(path) for folder in ("examples", "tests", "measures") for path in sorted(TOP.glob(f"{folder}/c/*.[ch]")))
     for name in names:
         if not re.search(rf"\b{name}\b", programs):

@@ -4,7 +4,8 @@ use crate::error::Error;
 use crate::raw;
 
 /// What a device is made as.
-#[derive(Clone, Copy, Debug, PartialEq, Eq)]
+#[derive(Clone, Copy, Debug, PartialEq, Eq, Hash)]
+#[non_exhaustive]
 pub enum Device {
     /// A network device with this MAC.
     Network {
@@ -18,7 +19,7 @@ pub enum Device {
         sectors: u64,
         /// Whether the driver may only read it.
         read_only: bool,
-        /// What it answers to a driver that asks for its id.
+        /// The id that it returns to a driver.
         id: [u8; 20],
     },
 
@@ -30,6 +31,18 @@ pub enum Device {
 }
 
 impl Device {
+    /// A block device of this number of sectors, which the driver may write, with an id of zeros.
+    #[must_use]
+    pub const fn disk(sectors: u64) -> Device {
+        Device::Block { sectors, read_only: false, id: [0; 20] }
+    }
+
+    /// Whether it has a disk.
+    #[must_use]
+    pub const fn is_disk(&self) -> bool {
+        matches!(self, Device::Block { .. })
+    }
+
     pub(crate) fn shape(self) -> raw::Shape {
         let none = raw::Shape::default();
         match self {
@@ -52,8 +65,44 @@ impl Device {
     }
 }
 
+/// The shapes of devices, as C has them.
+pub(crate) fn shapes_of(devices: &[Device]) -> Vec<raw::Shape> {
+    devices.iter().map(|device| device.shape()).collect()
+}
+
 /// The devices of a description, in their order.
 pub(crate) fn devices_of(found: &raw::Description) -> Result<Vec<Device>, Error> {
     let shapes = found.shapes.iter().take(found.count as usize);
     shapes.map(|shape| Device::of(shape).ok_or(Error::NotKnown)).collect()
+}
+
+#[cfg(test)]
+mod tests {
+    use super::*;
+
+    #[test]
+    fn a_device_is_its_shape() {
+        let disk = Device::Block { sectors: 7, read_only: true, id: *b"abcdefghijklmnopqrst" };
+        for device in [Device::Network { mac: [1, 2, 3, 4, 5, 6] }, disk, Device::disk(9), Device::Console, Device::Entropy] {
+            assert_eq!(Device::of(&device.shape()), Some(device));
+        }
+    }
+
+    #[test]
+    fn what_a_kind_does_not_need_is_zero() {
+        let shape = Device::Console.shape();
+        assert_eq!((shape.read_only, shape.mac, shape.sectors, shape.id), (0, [0; 6], 0, [0; 20]));
+        assert_eq!((shape.frame, shape.reserved), (0, [0; 2]));
+    }
+
+    #[test]
+    fn an_unknown_kind_is_no_device() {
+        let shape = raw::Shape { kind: 5, ..raw::Shape::default() };
+        assert_eq!(Device::of(&shape), None);
+        let mut found = raw::Description { count: 2, ..raw::Description::default() };
+        found.shapes[0].kind = raw::ENTROPY;
+        assert_eq!(devices_of(&found), Err(Error::NotKnown));
+        found.count = 1;
+        assert_eq!(devices_of(&found), Ok(vec![Device::Entropy]));
+    }
 }

@@ -5,7 +5,8 @@ use crate::machine::Machine;
 use crate::raw;
 
 /// What is left to be sent.
-#[derive(Clone, Copy, Debug, Default, PartialEq, Eq)]
+#[derive(Clone, Copy, Debug, Default, PartialEq, Eq, Hash)]
+#[non_exhaustive]
 pub struct Left {
     /// Due in this round.
     pub due_pages: u64,
@@ -19,6 +20,7 @@ pub struct Left {
     pub stop_bytes: u64,
 }
 
+/// It is sent while it runs: `send_begin`, then `send_some` and `send_round` as often as the host likes, then `send_stop`.
 impl Machine {
     /// It begins to be sent: every page and sector is due in round 1.
     pub fn send_begin(&mut self) -> Result<(), Error> {
@@ -55,10 +57,10 @@ impl Machine {
     }
 
     /// What is left to be sent.
-    pub fn send_left(&mut self) -> Result<Left, Error> {
+    pub fn send_left(&self) -> Result<Left, Error> {
         let mut left = raw::Left::default();
         // SAFETY: as above.
-        done(unsafe { raw::vmig_send_left(&mut self.held, &mut left) })?;
+        done(unsafe { raw::vmig_send_left(&self.held, &mut left) })?;
         let raw::Left { due_pages, due_sectors, dirty_pages, dirty_sectors, stop_bytes, .. } = left;
         Ok(Left { due_pages, due_sectors, dirty_pages, dirty_sectors, stop_bytes })
     }
@@ -69,5 +71,19 @@ impl Machine {
         // SAFETY: as above, and the slice is valid for the call.
         done(unsafe { raw::vmig_send_take(&mut self.held, buf.as_mut_ptr(), buf.len(), &mut got) })?;
         Ok(got)
+    }
+
+    /// The whole stream of the machine, which continues. A machine that is being sent is refused.
+    pub fn save(&self) -> Result<Vec<u8>, Error> {
+        let mut stream = Vec::new();
+        loop {
+            let mut len = 0;
+            // SAFETY: as above, and the buffer is valid for the call.
+            let status = done(unsafe { raw::vmig_save(&self.held, stream.as_mut_ptr(), stream.len(), &mut len) })?;
+            stream.resize(len, 0);
+            if status == raw::OK {
+                return Ok(stream);
+            }
+        }
     }
 }

@@ -2,9 +2,11 @@
 
 use crate::raw;
 use std::fmt;
+use std::io;
 
-/// Why a call was refused. Each is the status of `vmig.h` of the same name, and nothing has changed but for what is said there.
-#[derive(Clone, Copy, Debug, PartialEq, Eq)]
+/// Why a call was refused. Each is the status of `vmig.h` of the same name, and nothing has changed but for what is said there. `NoMachine`,
+/// `InUse`, `Lent` and `NotLent` are here because the header has them: types keep a program from them.
+#[derive(Clone, Copy, Debug, PartialEq, Eq, Hash)]
 #[repr(u32)]
 #[non_exhaustive]
 pub enum Error {
@@ -195,8 +197,23 @@ impl fmt::Display for Error {
 
 impl std::error::Error for Error {}
 
-/// A call that was refused, and the value that it took, as it was: a machine with its guest, a loan or memory. So it does not become an
-/// [`Error`] by itself, which would drop the value.
+/// A call that was refused, and the value that it took, as it was: a machine with its guest, a loan or what was to become one.
+///
+/// It does not become an [`Error`] by itself, which would drop the value. In a `Box<dyn std::error::Error>` the value is kept, and
+/// `downcast` finds it.
+///
+/// ```
+/// use vmig::{Device, Error, Machine, Memory};
+///
+/// let mut memory = Memory::zeros(2)?;
+/// memory[0] = 7;
+/// let refused = Machine::builder().memory(memory).base(1).device(Device::Entropy).build().unwrap_err();
+/// assert_eq!(refused.error, Error::BadBase);
+/// let machine = refused.value.base(0x1000).build()?;
+/// assert_eq!(machine.into_parts().memory.expect("memory of this program")[0], 7);
+/// # Ok::<(), Box<dyn std::error::Error>>(())
+/// ```
+#[must_use = "it has what the call was given"]
 pub struct Refused<T> {
     /// Why it was refused.
     pub error: Error,
@@ -213,7 +230,7 @@ impl<T> Refused<T> {
 
 impl<T> fmt::Debug for Refused<T> {
     fn fmt(&self, f: &mut fmt::Formatter<'_>) -> fmt::Result {
-        self.error.fmt(f)
+        f.debug_struct("Refused").field("error", &self.error).finish_non_exhaustive()
     }
 }
 
@@ -226,5 +243,114 @@ impl<T> fmt::Display for Refused<T> {
 impl<T> std::error::Error for Refused<T> {
     fn source(&self) -> Option<&(dyn std::error::Error + 'static)> {
         Some(&self.error)
+    }
+}
+
+/// Why a disk was not brought to its file.
+#[derive(Debug)]
+#[non_exhaustive]
+pub enum SyncError {
+    /// The call was refused, and nothing was tried.
+    Refused(Error),
+
+    /// The system could not do it. The disk is lost from here on: see [`crate::Machine::sync_failed`].
+    Failed(io::Error),
+
+    /// The disk was lost before. Nothing was tried: the system tells an error once, so another try could pass for a success.
+    Lost,
+}
+
+impl fmt::Display for SyncError {
+    fn fmt(&self, f: &mut fmt::Formatter<'_>) -> fmt::Result {
+        match self {
+            SyncError::Refused(error) => error.fmt(f),
+            SyncError::Failed(error) => write!(f, "the disk could not be brought to its file: {error}"),
+            SyncError::Lost => f.write_str("the disk is lost: bringing it to its file failed before"),
+        }
+    }
+}
+
+impl std::error::Error for SyncError {
+    fn source(&self) -> Option<&(dyn std::error::Error + 'static)> {
+        match self {
+            SyncError::Refused(error) => Some(error),
+            SyncError::Failed(error) => Some(error),
+            SyncError::Lost => None,
+        }
+    }
+}
+
+impl From<Error> for SyncError {
+    fn from(error: Error) -> SyncError {
+        SyncError::Refused(error)
+    }
+}
+
+#[cfg(test)]
+mod tests {
+    use super::*;
+    use std::collections::HashSet;
+
+    /// The statuses of the header that was installed, as (name, number).
+    fn in_header() -> Vec<(String, u32)> {
+        let text = std::fs::read_to_string(env!("VMIG_HEADER")).expect("the header lies beside the library");
+        let lines = text.lines().map(str::trim_start).filter(|line| line.starts_with("VMIG_"));
+        let named = lines.filter_map(|line| line.split_once(" = "));
+        let numbered = named.filter_map(|(name, rest)| Some((name, rest.split([',', ' ']).next()?.parse().ok()?)));
+        numbered.map(|(name, number)| (name.to_owned(), number)).collect()
+    }
+
+    #[test]
+    fn each_refusal_of_the_header_has_its_error() {
+        let refusals: Vec<_> =
+            in_header().into_iter().skip_while(|(name, _)| name != "VMIG_NO_DEVICE").take_while(|(_, number)| *number < 64).collect();
+        assert_eq!(refusals.last().expect("refusals").0, "VMIG_STREAM_TOO_LARGE");
+        for (name, number) in refusals {
+            let camel: String = name[5..].split('_').map(|word| word[..1].to_owned() + &word[1..].to_lowercase()).collect();
+            assert_eq!(format!("{:?}", Error::of(number)), camel);
+            assert_eq!(done(number), Err(Error::of(number)));
+        }
+    }
+
+    #[test]
+    fn a_status_from_64_on_was_done() {
+        for (name, number) in in_header().iter().filter(|(_, number)| *number >= 64) {
+            assert_eq!(done(*number), Ok(*number), "{name}");
+        }
+        assert_eq!(done(0), Ok(0));
+    }
+
+    #[test]
+    fn an_unknown_refusal_is_an_error() {
+        for number in [6, 13, 16, 63] {
+            assert_eq!(done(number), Err(Error::Unknown));
+        }
+    }
+
+    #[test]
+    fn each_error_has_a_text_of_its_own() {
+        let texts: HashSet<_> = TEXTS.iter().map(|(error, text)| (error.to_string(), *text)).collect();
+        assert_eq!(texts.len(), TEXTS.len());
+        assert!(texts.iter().all(|(told, text)| told == text && !text.ends_with('.')));
+    }
+
+    #[test]
+    fn errors_are_errors_of_the_standard_library() {
+        let refused = Refused { error: Error::Lent, value: vec![1] };
+        assert_eq!((refused.to_string(), format!("{refused:?}")), ("the RAM is lent".into(), "Refused { error: Lent, .. }".into()));
+        let boxed: Box<dyn std::error::Error> = refused.into();
+        assert_eq!(boxed.source().expect("an error").to_string(), "the RAM is lent");
+        let (error, value) = boxed.downcast::<Refused<Vec<i32>>>().expect("what was boxed").into_parts();
+        assert_eq!((error, value), (Error::Lent, vec![1]));
+    }
+
+    #[test]
+    fn a_sync_error_says_what_it_is() {
+        let refused = SyncError::from(Error::WrongKind);
+        assert_eq!(refused.to_string(), Error::WrongKind.to_string());
+        assert!(std::error::Error::source(&refused).is_some() && std::error::Error::source(&SyncError::Lost).is_none());
+        let failed = SyncError::Failed(io::Error::from(io::ErrorKind::StorageFull));
+        assert!(failed.to_string().starts_with("the disk could not be brought"));
+        assert!(SyncError::Lost.to_string().contains("lost") && std::error::Error::source(&failed).is_some());
     }
 }

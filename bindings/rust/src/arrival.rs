@@ -1,0 +1,199 @@
+//! A machine that arrives, and what its stream announces.
+
+use crate::device::{Device, devices_of, shapes_of};
+use crate::error::{Error, Refused, done};
+use crate::image::{Image, slots_of};
+use crate::machine::{Machine, Parts, is_linked_right};
+use crate::memory::Memory;
+use crate::raw;
+
+/// What the first bytes of a stream announce.
+#[derive(Clone, Debug, PartialEq, Eq, Hash)]
+#[non_exhaustive]
+pub struct Announced {
+    /// The pages of its RAM.
+    pub pages: u32,
+
+    /// Its devices, in their order.
+    pub devices: Vec<Device>,
+}
+
+/// What the machine is whose stream begins with these bytes, before any memory is taken for it. `None` where the header is not whole, which
+/// 496 bytes always tell.
+pub fn announced(bytes: &[u8]) -> Result<Option<Announced>, Error> {
+    let mut found = raw::Description::default();
+    // SAFETY: the slice is valid for the call.
+    let status = done(unsafe { raw::vmig_stream_describe(bytes.as_ptr(), bytes.len(), &mut found) })?;
+    if status == raw::MORE {
+        return Ok(None);
+    }
+    Ok(Some(Announced { pages: found.pages, devices: devices_of(&found)? }))
+}
+
+/// Within which limits, and in which memory, a machine will arrive. It allows nothing until it is said what.
+///
+/// ```
+/// use vmig::{Arrival, Device, Error, Machine, Memory};
+///
+/// let sent = Machine::builder().pages(2).device(Device::Entropy).build()?;
+/// let stream = sent.save()?;
+///
+/// let mut arrival = Arrival::builder().memory(Memory::zeros(2)?).device(Device::Entropy).begin()?;
+/// assert!(arrival.feed(&stream)?);
+/// let machine = arrival.finish()?;
+/// assert_eq!(machine.pages(), 2);
+///
+/// let mut small = Arrival::builder().most_pages(1).begin()?;
+/// assert_eq!(small.feed(&stream), Err(Error::StreamTooLarge));
+/// # Ok::<(), Box<dyn std::error::Error>>(())
+/// ```
+#[derive(Debug, Default)]
+#[must_use = "an arrival begins by `begin`"]
+pub struct ArrivalBuilder {
+    devices: Vec<Device>,
+    most_pages: u32,
+    most_sectors: u64,
+    base: u64,
+    parts: Parts,
+}
+
+impl ArrivalBuilder {
+    /// The most pages of RAM, in memory of the library. A [`Memory`] is its own limit, and this is not said beside it.
+    pub fn most_pages(self, most_pages: u32) -> ArrivalBuilder {
+        ArrivalBuilder { most_pages, ..self }
+    }
+
+    /// The most sectors of all disks together, in memory of the library. Images are their own limit.
+    pub fn most_sectors(self, most_sectors: u64) -> ArrivalBuilder {
+        ArrivalBuilder { most_sectors, ..self }
+    }
+
+    /// One more device: the machine of the stream has exactly those that are named. Where none is named it may have any.
+    pub fn device(mut self, device: Device) -> ArrivalBuilder {
+        self.devices.push(device);
+        self
+    }
+
+    /// More devices, in this order.
+    pub fn devices(mut self, devices: &[Device]) -> ArrivalBuilder {
+        self.devices.extend_from_slice(devices);
+        self
+    }
+
+    /// RAM will be this memory, which is written as pages come. It has as many pages as the stream's.
+    pub fn memory(mut self, memory: Memory) -> ArrivalBuilder {
+        self.parts.memory = Some(memory);
+        self
+    }
+
+    /// The next disk will be this image, which is written as sectors come. There is one for each block device of the stream, or none.
+    pub fn image(mut self, image: Image) -> ArrivalBuilder {
+        self.parts.images.push(image);
+        self
+    }
+
+    /// The guest-physical address of RAM's first byte: that of the machine that is sent, which the stream does not say.
+    pub fn base(self, base: u64) -> ArrivalBuilder {
+        ArrivalBuilder { base, ..self }
+    }
+
+    /// The arrival begins. Refusals, in their order: `BadRam` (the memory is not 1 to 16,384 whole pages, or `most_pages` beside it),
+    /// `BadShape`, `BadBase`, `BadImages` (not those of the devices), `NoMemory`.
+    pub fn begin(mut self) -> Result<Arrival, Refused<ArrivalBuilder>> {
+        match self.arrive() {
+            Ok(held) => Ok(Arrival { machine: Machine { held, parts: self.parts } }),
+            Err(error) => Err(Refused { error, value: self }),
+        }
+    }
+
+    /// The memory and the images that it was given.
+    #[must_use]
+    pub fn into_parts(self) -> Parts {
+        self.parts
+    }
+
+    fn arrive(&mut self) -> Result<raw::Machine, Error> {
+        is_linked_right()?;
+        let shapes = shapes_of(&self.devices);
+        let mut slots = slots_of(&mut self.parts.images);
+        let mut held = raw::NONE;
+        let mut arrival = raw::Arrival {
+            most_pages: self.most_pages,
+            most_sectors: self.most_sectors,
+            shapes: shapes.as_ptr(),
+            count: shapes.len(),
+            images: slots.as_mut_ptr(),
+            count_images: slots.len(),
+            ram: self.parts.memory.as_mut().map_or(raw::NO_RAM, Memory::slot),
+            base: self.base,
+            ..raw::ARRIVAL
+        };
+        // SAFETY: the slices are valid for the call, and the handle is of no machine. RAM and images are owned by what the machine's owner
+        // has beside it, which is dropped after the machine was freed.
+        done(unsafe { raw::vmig_arrive(&mut arrival, &mut held) })?;
+        Ok(held)
+    }
+}
+
+/// A machine whose stream arrives in pieces of any size.
+#[derive(Debug)]
+pub struct Arrival {
+    machine: Machine,
+}
+
+impl Arrival {
+    /// Within which limits, and in which memory.
+    pub fn builder() -> ArrivalBuilder {
+        ArrivalBuilder::default()
+    }
+
+    /// The next bytes. Whether the end of the stream has come, and it is right. A fault is answered by the piece that shows it, and the
+    /// stream is refused for good: `StreamFailed` from then on. Nothing may follow the stream's last byte.
+    pub fn feed(&mut self, piece: &[u8]) -> Result<bool, Error> {
+        // SAFETY: the slice is valid for the call, and the handle is of a machine that arrives.
+        let status = done(unsafe { raw::vmig_feed(&mut self.machine.held, piece.as_ptr(), piece.len()) })?;
+        Ok(status == raw::WHOLE)
+    }
+
+    /// What the stream announced, once its header has come.
+    pub fn announced(&self) -> Result<Option<Announced>, Error> {
+        let found = self.machine.describe();
+        let devices = devices_of(&found)?;
+        Ok((found.pages != 0).then_some(Announced { pages: found.pages, devices }))
+    }
+
+    /// How many rounds ended in what has arrived.
+    #[must_use]
+    pub fn rounds(&self) -> u32 {
+        self.machine.describe().rounds
+    }
+
+    /// Whether the end of the stream has arrived, and nothing was refused.
+    #[must_use]
+    pub fn is_whole(&self) -> bool {
+        self.machine.describe().whole == 1
+    }
+
+    /// Why it was refused, and how many bytes came before the piece that was. `None` where it was not.
+    #[must_use]
+    pub fn fault(&self) -> Option<(Error, u64)> {
+        let found = self.machine.describe();
+        (found.fault != 0).then(|| (Error::of(found.fault), found.fault_at))
+    }
+
+    /// All has arrived: the machine, idle. Bring its disks to their files ([`Machine::sync_all`]), tell the source, and wait for its word; then
+    /// read the lines, make the steps that have something to do, and run the guest.
+    pub fn finish(mut self) -> Result<Machine, Refused<Arrival>> {
+        // SAFETY: as in `feed`.
+        match done(unsafe { raw::vmig_finish(&mut self.machine.held) }) {
+            Ok(_) => Ok(self.machine),
+            Err(error) => Err(Refused { error, value: self }),
+        }
+    }
+
+    /// Gives the arrival up. The result is the memory and the images that it was given, with what came so far.
+    #[must_use = "dropping the arrival gives it up too"]
+    pub fn into_parts(self) -> Parts {
+        self.machine.into_parts()
+    }
+}

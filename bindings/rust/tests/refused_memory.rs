@@ -1,0 +1,91 @@
+//! Memory that is refused: a malloc of this program's own refuses the large requests, while a call of the library is being made. It is alone in
+//! its program, as it is the malloc of all of it.
+
+use std::ffi::c_void;
+use std::ptr;
+use std::sync::atomic::{AtomicUsize, Ordering};
+use vmig::{Arrival, Device, Error, Machine, Memory, Pages, State, announced};
+
+unsafe extern "C" {
+    fn __libc_malloc(size: usize) -> *mut c_void;
+    fn __libc_realloc(at: *mut c_void, size: usize) -> *mut c_void;
+}
+
+/// Requests of so many bytes and more are refused.
+static REFUSED_FROM: AtomicUsize = AtomicUsize::new(usize::MAX);
+
+fn is_refused(size: usize) -> bool {
+    size >= REFUSED_FROM.load(Ordering::Relaxed)
+}
+
+#[unsafe(no_mangle)]
+extern "C" fn malloc(size: usize) -> *mut c_void {
+    // SAFETY: it is the C library's own, under the name that it keeps for a program with its own malloc.
+    if is_refused(size) { ptr::null_mut() } else { unsafe { __libc_malloc(size) } }
+}
+
+#[unsafe(no_mangle)]
+unsafe extern "C" fn realloc(at: *mut c_void, size: usize) -> *mut c_void {
+    // SAFETY: likewise, and the block is one of `malloc`.
+    if is_refused(size) { ptr::null_mut() } else { unsafe { __libc_realloc(at, size) } }
+}
+
+/// Makes a call while large requests are refused. The call takes none but the library's.
+fn without<T>(refused_from: usize, call: impl FnOnce() -> T) -> T {
+    REFUSED_FROM.store(refused_from, Ordering::Relaxed);
+    let result = call();
+    REFUSED_FROM.store(usize::MAX, Ordering::Relaxed);
+    result
+}
+
+#[test]
+fn memory_that_is_refused_costs_nothing() {
+    a_machine_is_not_made();
+    a_move_fails_and_another_succeeds();
+    an_arrival_fails_and_another_succeeds();
+    a_loan_stays();
+}
+
+fn a_machine_is_not_made() {
+    let builder = Machine::builder().pages(1024).device(Device::Console);
+    let refused = without(1 << 16, || builder.build()).unwrap_err();
+    assert_eq!(refused.error, Error::NoMemory);
+    assert_eq!(refused.value.build().unwrap().pages(), 1024);
+}
+
+fn a_move_fails_and_another_succeeds() {
+    let mut machine = Machine::builder().pages(64).device(Device::Console).build().unwrap();
+    for page in 0..64 {
+        machine.write_ram(4096 * page, &[1; 4096]).unwrap();
+    }
+    machine.send_begin().unwrap();
+    assert_eq!(without(1 << 14, || machine.send_some(64)), Err(Error::SendFailed));
+    assert_eq!(
+        (machine.state(), machine.send_round(), machine.send_begin()),
+        (State::SendFailed, Err(Error::SendFailed), Err(Error::SendFailed))
+    );
+    assert_eq!(machine.write_ram(0, &[2]), Ok(()));
+    machine.send_abort().unwrap();
+    assert_eq!(machine.state(), State::Idle);
+    machine.send_begin().unwrap();
+    assert_eq!(machine.send_stop(), Ok((64, 0)));
+    assert_eq!(without(16, || announced(b"VMIG")), Ok(None));
+}
+
+fn an_arrival_fails_and_another_succeeds() {
+    let stream = Machine::builder().pages(1024).device(Device::Console).build().unwrap().save().unwrap();
+    let limits = || Arrival::builder().most_pages(1024).begin().unwrap();
+    let mut arrival = limits();
+    assert_eq!(without(1 << 16, || arrival.feed(&stream)), Err(Error::StreamNoMemory));
+    assert_eq!((arrival.fault(), arrival.feed(&stream)), (Some((Error::StreamNoMemory, 0)), Err(Error::StreamFailed)));
+    assert_eq!(arrival.finish().unwrap_err().error, Error::StreamFailed);
+    assert_eq!(limits().feed(&stream), Ok(true));
+}
+
+fn a_loan_stays() {
+    let machine = Machine::builder().memory(Memory::zeros(4096).unwrap()).device(Device::Console).build().unwrap();
+    let lent = machine.lend().unwrap();
+    let refused = without(4096, || lent.give_back(Pages::ALL)).unwrap_err();
+    assert_eq!((refused.error, refused.value.pages()), (Error::NoMemory, 4096));
+    assert_eq!(refused.value.give_back(Pages::list(&[4095])).unwrap().pages(), 4096);
+}

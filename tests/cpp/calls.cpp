@@ -1,0 +1,180 @@
+// Each call of vmig.hpp, with what vmig.h says of it for a machine of each state: none, idle, lent, sending, stopped and arriving.
+#include <cstdio>
+#include <type_traits>
+#include <utility>
+#include <vector>
+#include "vmig.hpp"
+
+using vmig::lent;
+using vmig::machine;
+using vmig::status;
+
+static_assert(!std::is_copy_constructible_v<machine> && !std::is_copy_assignable_v<machine>);
+static_assert(std::is_nothrow_move_constructible_v<machine> && std::is_nothrow_move_assignable_v<machine>);
+static_assert(!std::is_copy_constructible_v<lent> && std::is_nothrow_move_constructible_v<lent>);
+static_assert(sizeof(machine) == sizeof(vmig_machine));
+
+namespace {
+
+int failures;
+
+void expect(int line, status got, status wanted)
+{
+    if (got == wanted) return;
+    std::printf("line %d: got %s, wanted %s\n", line, vmig::name(got), vmig::name(wanted));
+    failures++;
+}
+
+void expect(int line, bool holds)
+{
+    if (holds) return;
+    std::printf("line %d: it does not hold\n", line);
+    failures++;
+}
+
+#define EXPECT(...) expect(__LINE__, __VA_ARGS__)
+
+// What each call answers that looks at a machine or changes it, where the table of states has one answer for all of them.
+void in_state(machine &m, status wanted)
+{
+    std::uint32_t value = 0, len = 0;
+    std::size_t kept = 0;
+    std::uint8_t dev = 0, pick = 0, byte = 0;
+
+    EXPECT(m.reg_read(0, 0, 4, &value), wanted);
+    EXPECT(m.reg_write(0, 0x070, 4, 0, &value), wanted);
+    EXPECT(m.input(0, &byte, 1, &kept), wanted);
+    EXPECT(m.resize(0, 80, 25), wanted);
+    EXPECT(m.drop(0), wanted);
+    EXPECT(m.reset(), wanted);
+    EXPECT(m.next(&dev, &pick), wanted == status::ok ? status::idle : wanted);
+    EXPECT(m.step(0, 0, &byte, 1, &len), wanted == status::ok ? status::idle : wanted);
+    EXPECT(m.sync_failed(0), wanted == status::ok ? status::wrong_kind : wanted);
+    EXPECT(m.ram_write(0, &byte, 1), wanted);
+    EXPECT(m.push(vmig_pages VMIG_NO_PAGES, nullptr, 0, nullptr, 0), wanted == status::ok ? status::too_small : wanted);
+}
+
+// Those that a machine that was stopped answers too.
+void looks(machine &m, status wanted)
+{
+    std::uint8_t byte = 0;
+    std::size_t room = 0;
+    std::uint32_t pulled = 0;
+
+    EXPECT(m.ram_read(0, &byte, 1), wanted);
+    EXPECT(m.room(0, &room), wanted);
+    EXPECT(m.pull(nullptr, 0, nullptr, 0, &pulled), wanted == status::ok ? status::too_small : wanted);
+    EXPECT(m.lines() == 0);
+}
+
+void none()
+{
+    machine m;
+    lent loan;
+    std::uint64_t pages = 0, sectors = 0;
+    std::uint8_t sector[512] = {};
+    std::size_t len = 0;
+    vmig_left left;
+
+    in_state(m, status::no_machine);
+    looks(m, status::no_machine);
+    EXPECT(m.describe().state == VMIG_IS_NONE);
+    EXPECT(m.release(nullptr, 0), status::no_machine);
+    EXPECT(m.sector_read(0, 0, sector), status::no_machine);
+    EXPECT(m.send_begin(), status::no_machine);
+    EXPECT(m.send_some(1), status::no_machine);
+    EXPECT(m.send_round(), status::no_machine);
+    EXPECT(m.send_stop(&pages, &sectors), status::no_machine);
+    EXPECT(m.send_abort(), status::no_machine);
+    EXPECT(m.send_take(sector, 1, &len), status::no_machine);
+    EXPECT(m.send_left(&left), status::no_machine);
+    EXPECT(m.save(nullptr, 0, &len), status::no_machine);
+    EXPECT(m.feed(nullptr, 0), status::no_machine);
+    EXPECT(m.finish(), status::no_machine);
+    EXPECT(std::move(m).lend(&loan), status::no_machine);
+    EXPECT(std::move(loan).give_back(VMIG_ALL_PAGES, &m), status::no_machine);
+    m.free();
+}
+
+machine made(std::vector<std::uint8_t> &memory)
+{
+    const vmig_shape shape = {VMIG_CONSOLE, 0, {}, 0, {}, 0, {}};
+    vmig_setup setup = VMIG_SETUP;
+    machine m;
+
+    setup.shapes = &shape, setup.count = 1, setup.ram = {memory.data(), memory.size()};
+    EXPECT(m.make(&setup), status::ok);
+    EXPECT(m.make(&setup), status::in_use);
+    return m;
+}
+
+void idle_and_lent()
+{
+    std::vector<std::uint8_t> memory(4 * 4096);
+    machine m = made(memory);
+    lent loan, other;
+    std::uint8_t sector[512] = {};
+
+    in_state(m, status::ok);
+    looks(m, status::ok);
+    EXPECT(m.sector_read(0, 0, sector), status::wrong_kind);
+    EXPECT(m.send_some(1), status::not_sending);
+    EXPECT(m.get() != nullptr && std::as_const(m).get()->at != nullptr);
+    EXPECT(std::move(m).lend(&loan), status::ok);
+    other = std::move(loan);
+    EXPECT(other.data() == memory.data() && other.size_bytes() == memory.size() && loan.data() == nullptr);
+    EXPECT(other.describe().lent == 1 && other.lines() == 0);
+    EXPECT(std::move(other).give_back(VMIG_NO_PAGES, &m), status::ok);
+    EXPECT(m.release(nullptr, 0), status::ok);
+    EXPECT(m.describe().state == VMIG_IS_NONE);
+}
+
+// It is sent, and stopped, and another one arrives.
+void moved()
+{
+    std::vector<std::uint8_t> memory(4 * 4096);
+    machine m = made(memory), arrived;
+    std::uint64_t pages = 0, sectors = 0;
+    std::uint8_t piece[4096];
+    std::size_t got = 0;
+    vmig_left left;
+    vmig_arrival arrival = VMIG_ARRIVAL;
+    vmig_description announced;
+    status told = status::ok;
+
+    arrival.most_pages = 4;
+    EXPECT(m.send_begin(), status::ok);
+    EXPECT(m.send_begin(), status::sending);
+    EXPECT(m.send_round(), status::round_open);
+    EXPECT(m.send_some(4), status::round_done);
+    in_state(m, status::ok);
+    EXPECT(m.send_round(), status::ok);
+    EXPECT(m.send_left(&left), status::ok);
+    EXPECT(left.due_pages == 1);
+    EXPECT(m.save(nullptr, 0, &got), status::sending);
+    EXPECT(m.send_stop(&pages, &sectors), status::ok);
+    EXPECT(pages == 1 && sectors == 0);
+    in_state(m, status::stopped);
+    looks(m, status::ok);
+    EXPECT(arrived.arrive(&arrival), status::ok);
+    in_state(arrived, status::no_machine);
+    while (!vmig::refused(told) && m.send_take(piece, sizeof piece, &got) == status::ok && got != 0) told = arrived.feed(piece, got);
+    EXPECT(told, status::whole);
+    EXPECT(vmig::stream_describe(piece, 0, &announced), status::more);
+    EXPECT(arrived.finish(), status::ok);
+    EXPECT(m.send_abort(), status::ok);
+    EXPECT(m.save(nullptr, 0, &got), status::more);
+    EXPECT(arrived.describe().pages == 4);
+}
+
+}  // namespace
+
+int main()
+{
+    none();
+    idle_and_lent();
+    moved();
+    EXPECT(vmig::version() == VMIG_VERSION_NUMBER);
+    std::printf(failures == 0 ? "calls: all as expected\n" : "calls: %d not as expected\n", failures);
+    return failures != 0;
+}
