@@ -102,7 +102,7 @@
  *             else s = vmig_step(m, dev, pick, buf, sizeof buf, &len);
  *             if (vmig_refused(s)) return s;                 VMIG_NO_MEMORY: nothing changed. Let the guest run, and come again
  *             if (s == VMIG_SENT) hand_on(dev, buf, len);    before the next step, which overwrites it
- *             if (s == VMIG_COMPLETED) put_in_as_many_random_bytes(dev, len);                      of an entropy device
+ *             if (s == VMIG_COMPLETED && is_entropy(dev)) put_in_as_many_random_bytes(dev, len);
  *             tell_the_controller(vmig_lines(m));            of what changed, and of nothing else
  *         }
  *         return VMIG_WORK;
@@ -258,12 +258,14 @@ enum {
     VMIG_STREAM_BAD_MAGIC = 33,         /* it does not begin with "VMIG" */
     VMIG_STREAM_BAD_VERSION = 34,       /* a stream whose version is neither 1 nor 2 */
     VMIG_STREAM_BAD_SHAPE = 35,         /* the machine that it announces is beyond the limits of any machine */
-    VMIG_STREAM_MISMATCH = 36,          /* at the header: not the shapes, images, pages of RAM or base that the arrival names */
+    VMIG_STREAM_MISMATCH = 36,          /* at the header: not the shapes, images or pages of RAM that the arrival names; or RAM
+                                         * from its base on would pass the last address */
     VMIG_STREAM_BAD_TAG = 37,           /* a tag that may not come there */
     VMIG_STREAM_BAD_PAGE = 38,          /* there is no such page, or its 4,096 bytes are all 0 in version 2 */
     VMIG_STREAM_BAD_SECTOR = 39,        /* there is no such sector */
     VMIG_STREAM_BAD_ROUND = 40,         /* the end of a round that is not the next */
-    VMIG_STREAM_BAD_DEVICE = 41,        /* a device that is not the next, or cannot be */
+    VMIG_STREAM_BAD_DEVICE = 41,        /* a device that is not the next, or cannot be: so it is of most arrivals whose base is not
+                                         * that of the machine that was sent */
     VMIG_STREAM_BAD_DIGEST = 42,        /* the digest is another */
     VMIG_STREAM_MISSING = 43,           /* a page, a sector or a device is missing */
     VMIG_STREAM_TRAILING = 44,          /* bytes after its end */
@@ -491,7 +493,7 @@ uint32_t vmig_lines(const vmig_machine *m) VMIG_NONNULL_(1);
 
 /* The host puts bytes in: entropy, text for a console, or one frame of 14 to 1,514 bytes. *kept of its bytes were kept: the first
  * ones, a frame whole or not at all. The rest is still yours. Entropy devices and consoles hold 4,096 bytes, network devices 64
- * frames.
+ * frames. Put in entropy before the guest runs, and as it is taken: at an empty pool a request waits, and no step is named for it.
  * NO_DEVICE, WRONG_KIND (a block device), BAD_FRAME. */
 vmig_status vmig_input(vmig_machine *m, uint8_t dev, const uint8_t *bytes, size_t len, size_t *kept) VMIG_CHECKED_(1, 5);
 

@@ -88,7 +88,8 @@ pub enum Error {
     /// The machine of the stream is beyond the limits.
     StreamBadShape = raw::STREAM_BAD_SHAPE,
 
-    /// The machine of the stream has other devices, images, pages of RAM or another base than the arrival names.
+    /// The machine of the stream has other devices, images or pages of RAM than the arrival names; or its RAM, from the base of the arrival
+    /// on, would pass the last address.
     StreamMismatch = raw::STREAM_MISMATCH,
 
     /// A record's tag is unknown, or not allowed at this point of the stream.
@@ -103,7 +104,8 @@ pub enum Error {
     /// The number of a round's end is not the next one.
     StreamBadRound = raw::STREAM_BAD_ROUND,
 
-    /// A device record is out of order, or the device's body is invalid.
+    /// A device record is out of order, or the device's body is invalid: so it is of most arrivals whose base is not that of the machine that
+    /// was sent.
     StreamBadDevice = raw::STREAM_BAD_DEVICE,
 
     /// The digest is not that of the bytes before it.
