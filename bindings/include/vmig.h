@@ -244,7 +244,7 @@ enum {
     VMIG_BAD_IMAGES = 15,               /* contents or images that do not fit the disks; a slot that is not VMIG_NO_IMAGE */
     VMIG_NOT_SENDING = 17,              /* the machine is not being sent */
     VMIG_SENDING = 18,                  /* the machine is being sent */
-    VMIG_SEND_FAILED = 20,              /* out of memory for what waits to be taken: vmig_send_abort, and the machine goes on */
+    VMIG_SEND_FAILED = 20,              /* out of memory for what waits to be taken: vmig_send_abort makes the machine idle again */
     VMIG_STOPPED = 21,                  /* the machine was stopped: its guest is paused, and its stream is closed */
     VMIG_NO_ROUND_LEFT = 22,            /* 4,294,967,294 rounds have ended */
     VMIG_LENT = 23,                     /* RAM is out: give it back before */
@@ -285,7 +285,7 @@ enum {
     VMIG_DROPPED = 72,                  /* a frame did not fit into the guest's buffer, and is gone */
     VMIG_NEEDS_RESET = 73,              /* the guest's chain is malformed; the device asks its driver for a reset */
     VMIG_ROUND_DONE = 76,               /* send_some: nothing is due any more in this round */
-    VMIG_ROUND_OPEN = 77,               /* send_round: something is still due, and the round goes on */
+    VMIG_ROUND_OPEN = 77,               /* send_round: something is still due, and the round stays open */
     VMIG_WORK = 78,                     /* next: the step that it names has something to do */
     VMIG_MORE = 79,                     /* stream_describe: the header is not whole; save: the stream is longer than size */
     VMIG_SYNC = 80,                     /* next: the step that it names needs its disk durable before */
@@ -604,9 +604,9 @@ vmig_status vmig_send_round(vmig_machine *m) VMIG_CHECKED_(1);
  * digested in this call, while the guest stands. SEND_FAILED. */
 vmig_status vmig_send_stop(vmig_machine *m, uint64_t *pages, uint64_t *sectors) VMIG_CHECKED_(1, 2, 3);
 
-/* The machine goes on as if it had never been sent; what waits is gone. After a stop that was done: only where nobody runs what was
- * sent, and nobody will: a target that you have not told to run it, though it may have finished, or a snapshot in a file. Once the
- * word is out only an operator who knows that the other side does not run may allow it. */
+/* The machine continues as if it had never been sent; what waits is lost. After a stop that was done: only where nobody runs what
+ * was sent, and nobody will: a target that you have not told to run it, though it may have finished, or a snapshot in a file. Once
+ * the word is out only an operator who knows that the other side does not run may allow it. */
 vmig_status vmig_send_abort(vmig_machine *m) VMIG_CHECKED_(1);
 
 /* The next bytes of the stream go to the front of buf, *got of them; 0, where size is not 0, says that none waits. After
@@ -618,7 +618,7 @@ vmig_status vmig_send_take(vmig_machine *m, uint8_t *buf, size_t size, size_t *g
 typedef struct vmig_left {
     uint64_t due_pages, due_sectors;    /* in this round */
     uint64_t dirty_pages, dirty_sectors; /* written since they were sent, or since vmig_send_begin; of lent RAM, as far as named */
-    uint64_t stop_bytes;                /* a stop now would write at most so many more bytes */
+    uint64_t stop_bytes;                /* the most bytes that a stop would still write */
     uint64_t reserved[3];               /* 0 */
 } vmig_left;
 

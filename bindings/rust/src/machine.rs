@@ -97,7 +97,7 @@ pub enum State {
     /// It is being sent, and its guest runs.
     Sending,
 
-    /// Memory was refused for what waits to be taken: [`Machine::send_abort`], and it goes on.
+    /// Memory was refused for what waits to be taken: [`Machine::send_abort`] makes it idle again.
     SendFailed,
 
     /// It was sent whole, and its guest is paused.

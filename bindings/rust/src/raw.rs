@@ -321,7 +321,7 @@ pub const BAD_IMAGES: u32 = 15;
 pub const NOT_SENDING: u32 = 17;
 /// The machine is being sent.
 pub const SENDING: u32 = 18;
-/// Out of memory for what waits to be taken: `vmig_send_abort`, and the machine goes on.
+/// Out of memory for what waits to be taken: `vmig_send_abort` makes the machine idle again.
 pub const SEND_FAILED: u32 = 20;
 /// The machine was stopped: its guest is paused, and its stream is closed.
 pub const STOPPED: u32 = 21;
@@ -391,7 +391,7 @@ pub const DROPPED: u32 = 72;
 pub const NEEDS_RESET: u32 = 73;
 /// `send_some`: nothing is due any more in this round.
 pub const ROUND_DONE: u32 = 76;
-/// `send_round`: something is still due, and the round goes on.
+/// `send_round`: something is still due, and the round stays open.
 pub const ROUND_OPEN: u32 = 77;
 /// Next: the step that it names has something to do.
 pub const WORK: u32 = 78;
@@ -457,7 +457,7 @@ unsafe extern "C" {
     pub fn vmig_send_round(machine: *mut Machine) -> u32;
     /// Copies all that is left, and closes the stream.
     pub fn vmig_send_stop(machine: *mut Machine, pages: *mut u64, sectors: *mut u64) -> u32;
-    /// The machine goes on as if it had never been sent.
+    /// The machine continues as if it had never been sent.
     pub fn vmig_send_abort(machine: *mut Machine) -> u32;
     /// The next bytes of the stream.
     pub fn vmig_send_take(machine: *mut Machine, buf: *mut u8, size: usize, got: *mut usize) -> u32;

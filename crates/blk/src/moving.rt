@@ -118,7 +118,7 @@ fn write_unit<D: Disk, L: TouchLog>(
     Advanced::Moved
 }
 
-/// Clears the sector of one unit. The zeros stand here: in `move_unit` they would be filled in before each unit, whatever its kind.
+/// Clears the sector of one unit.
 fn clear_unit<D: Disk, L: TouchLog>(
     device: u8,
     request: &mut Request,

@@ -60,7 +60,7 @@ pub(crate) fn describe(kept: &Kept) -> Description
     told
 }
 
-/// What is told of a machine that is not being sent.
+/// Describes a machine that is not being sent.
 fn told_still<D: Disk>(machine: &Machine<D>) -> Description
     ensures { result ≡ told_still machine.now }
 {
@@ -69,7 +69,7 @@ fn told_still<D: Disk>(machine: &Machine<D>) -> Description
     told_machine(machine.base(), pages, shapes)
 }
 
-/// What is told of a machine of so many pages, whose RAM begins there, with devices that were made as these.
+/// Describes a machine with this number of pages, RAM from this base on, and devices of these shapes.
 fn told_machine(base: u64, pages: u32, shapes: &[Shape]) -> Description
     requires { length shapes.now ≤ DEVICES_MAX }
     ensures { result ≡ told_machine base pages shapes.now }
@@ -112,7 +112,7 @@ fn told_lent(loan: &Loan) -> Description
     }
 }
 
-/// What is told of a machine that arrives, or of a stream that was refused.
+/// Describes a machine that arrives, or a stream that was refused.
 fn told_arriving(
     admission: &Admission,
     fed: u64,

@@ -1,4 +1,4 @@
-//! What C is told of a handle, or of a stream.
+//! The description of a handle, or of a stream.
 
 ghost use Rattle.std.specs.Prelude.{◌≡◌, ◌≤◌, ◌++◌, drop, length, map};
 ghost use Rattle.machine.specs.declared.machine.TheConstants.{DEVICES_MAX};

@@ -1,7 +1,7 @@
 //! The guest's reboot.
 //!
 //! It is no event of its own: it is what each driver does when it resets its device, and what the host does that drops what it put in. So
-//! a machine that is being sent goes on as with these calls, and nothing is said of a reset that is not said of them.
+//! a machine that is being sent is served as by these calls, and nothing is said of a reset that is not said of them.
 
 ghost use Rattle.std.specs.Prelude.{◌≡◌, ◌<◌, Some, false, length, slice_get};
 ghost use Rattle.machine.specs.Seen.{state_of};
