@@ -4,7 +4,7 @@ mod work;
 
 ghost use Rattle.machine.specs.AppliedLaws.{HonestDisksGiveTheirs, AnyDiskActsAlike, RefusedChangesNothing};
 ghost use Rattle.machine.specs.Calls.{OnlyStepsCall};
-ghost use Rattle.machine.specs.Parked.{BackIsWritten};
+ghost use Rattle.machine.specs.Parked.{BackIsWritten, ParkedFlushFails, ParkedIsApplied, ParkedIsFlushed};
 ghost use Rattle.machine.specs.EffectLaws.{UntouchedStays, TouchedExists, ShapeStays};
 ghost use Rattle.machine.specs.StepLaws.{EffectsAgree, StepsAgree, RunsAgree, StepStaysWithin, StepKeepsShape, StepStaysSound, RefusalsChangeNothing, MalformedIsContained, MalformedAsksForReset};
 
@@ -94,4 +94,19 @@ pub fn only_steps_call()
 /// What is given back by a caller that keeps its word is what the guest would have written, page by page.
 pub fn back_is_written()
     ensures { BackIsWritten }
+{}
+
+/// An event that is applied while the RAM is lent is applied to the machine as it was lent, and its RAM is lent as before.
+pub fn parked_is_applied()
+    ensures { ParkedIsApplied }
+{}
+
+/// So it is with a flush of a disk.
+pub fn parked_is_flushed()
+    ensures { ParkedIsFlushed }
+{}
+
+/// So it is with a step whose flush fails in its place.
+pub fn parked_flush_fails()
+    ensures { ParkedFlushFails }
 {}
