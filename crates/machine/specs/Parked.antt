@@ -2,7 +2,7 @@
 use Rattle.std.specs.Prelude.{◌≡◌, ℕ, ◌+◌, ◌*◌, ◌/◌, List, [], ◌∷◌, Bool, true, false, Option, Result, length, map, slice_get, slice_index}
 use Rattle.region.specs.Address.{address}
 use Rattle.region.specs.declared.region.Region.{Region}
-use Rattle.guestmem.specs.Lent.{AreBelow, IsLent, given_back, is_named}
+use Rattle.guestmem.specs.Lent.{AreBelow, IsLent, given_back, is_named, marked}
 use Rattle.guestmem.specs.declared.limits.TheConstants.{PAGE_SIZE}
 use Rattle.guestmem.specs.Memory.{IsMemory, Memory}
 use Rattle.guestmem.specs.Number.{IsBytes}
@@ -70,6 +70,26 @@ BackIsWritten = (m : Seen) (p : ParkedSeen) (before after : Region) (pages : Lis
     → address after ≡ address before → length after.content ≡ length before.content → IsBytes after.content → AreBelow (length p.versions) pages
     → ((a : ℕ) → is_named pages (a / PAGE_SIZE) ≡ false → slice_index after.content a ≡ slice_index before.content a)
     → AreWritten m pages after.content (back_with p (given_back after.content (address after) p.versions pages))
+
+-- Where it names other pages, the machine is this one but for the versions.
+pub record IsWrittenBesideVersions (m : Seen) (pages : List ℕ) (bytes : List ℕ) (back : Seen) : Type 0 where
+  pub all : Seen
+  pub are_written : AreWritten m pages bytes all
+  pub rest : back ≡ record all { memory = record all.memory { versions = back.memory.versions } }
+
+abbrev pub UnnamedIsWritten : Type 0
+UnnamedIsWritten = (m : Seen) (p : ParkedSeen) (before after : Region) (written named : List ℕ) → IsSound (state_of m) → IsMemory m.memory → IsParked m before p
+    → address after ≡ address before → length after.content ≡ length before.content → IsBytes after.content → AreBelow (length p.versions) written
+    → ((a : ℕ) → is_named written (a / PAGE_SIZE) ≡ false → slice_index after.content a ≡ slice_index before.content a)
+    → IsWrittenBesideVersions m written after.content (back_with p (given_back after.content (address after) p.versions named))
+
+-- The machine after a mark of these pages: their versions have risen, and nothing else has changed.
+abbrev pub machine_marked : Seen → List ℕ → Seen
+machine_marked m pages = record m { memory = marked m.memory pages }
+
+-- A mark of pages is the guest's writes of these pages with the bytes that lie there.
+abbrev pub MarkIsWritten : Type 0
+MarkIsWritten = (m : Seen) (pages : List ℕ) → IsSound (state_of m) → IsMemory m.memory → AreBelow (length m.memory.versions) pages → AreWritten m pages m.memory.bytes (machine_marked m pages)
 
 -- An event was applied that wrote into no page and no sector.
 pub record IsAppliedQuietly (old : Seen) (e : Event) (reply : Reply) (new : Seen) : Type 0 where

@@ -11,7 +11,7 @@ ghost use Rattle.guestmem.specs.Item.{MayPages, after_all};
 ghost use Rattle.guestmem.specs.Lent.{AreBelow, given_back, page_items};
 ghost use Rattle.guestmem.specs.declared.limits.TheConstants.{PAGE_SIZE, PAGES_MAX};
 ghost use Rattle.machine.specs.Lines.{lines_of};
-ghost use Rattle.machine.specs.Parked.{IsParked, WhateverRam, back_with, parked_states};
+ghost use Rattle.machine.specs.Parked.{IsParked, WhateverRam, back_with, machine_marked, parked_states};
 ghost use Rattle.machine.specs.Seen.{state_of};
 ghost use Rattle.machine.specs.Shapes.{made_as};
 ghost use Rattle.machine.specs.Sound.{IsSound};
@@ -78,6 +78,18 @@ impl<D: Disk> Machine<D> {
             }
             Err(ram) => Err(Machine { ram, ..self }),
         }
+    }
+
+    /// Names pages that the caller wrote while the RAM was lent, and did not name when it gave the RAM back: their versions rise, and
+    /// the log takes them in. No byte is read or written. It takes time for these pages alone, and no memory.
+    pub fn mark<L: TouchLog>(&mut self, pages: &[u32], log: &mut L)
+        requires below { AreBelow (length self.old.memory.versions) pages.now }
+        requires may { MayPages L.may log.old (length self.old.memory.bytes) }
+        ensures machine { self.new ≡ machine_marked self.old pages.now }
+        ensures log { log.new ≡ after_all L.after log.old (page_items pages.now) }
+        ensures may { MayPages L.may log.new (length self.new.memory.bytes) }
+    {
+        self.ram.mark(pages, log);
     }
 }
 
