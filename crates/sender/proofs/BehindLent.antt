@@ -5,6 +5,7 @@ use Rattle.region.specs.Address.{address}
 use Rattle.region.specs.declared.region.Region.{Region}
 use Rattle.guestmem.specs.Lent.{given_back}
 use Rattle.guestmem.specs.Memory.{IsMemory, Memory}
+use Rattle.machine.specs.Parked.{IsParked, ParkedSeen}
 use Rattle.machine.specs.Seen.{DeviceSeen}
 use Rattle.machine.specs.State.{MachineState, base_of}
 use Rattle.machine.specs.Effect.{Effect}
@@ -19,7 +20,7 @@ use Rattle.sender.specs.History.{History, guest_events, phase_of, text, then_cam
 use Rattle.sender.specs.LiveState.{HasPlaces, LiveSeen}
 use Rattle.sender.specs.Marks.{AreAmong, BehindGoesOn, IsBehind, LentIsBehind, MayCall, if_dirty}
 use Rattle.sender.specs.Parked.{BackGoesOn, IsLiveParked, KeepsWord, LiveParkedSeen, live_back, live_base, page_writes}
-use Rattle.sender.specs.ParkedCalls.{AreLentCalls, FailsLiveParked, FlushesLiveParked, IsDoneLiveLent, IsLentCall, IsServedUncalled, LentCall, LentFollows, ServesParked, TakesParked, bytes_among, bytes_in, event, events_among, events_in, failed_flush, flush, parked_base, taking}
+use Rattle.sender.specs.ParkedCalls.{AreLentCalls, FailsLiveParked, FlushesLiveParked, IsDoneLiveLent, IsLentCall, IsServedUncalled, LentCall, LentFollows, ServesParked, TakesParked, a_failed_flush, a_flush, a_taking, an_event, bytes_among, bytes_in, events_among, events_in, parked_base}
 use Rattle.sender.specs.Taking.{untaken}
 use Rattle.sender.specs.Unsynced.{FailsLiveFlush, FlushesLiveDisk}
 use Rattle.sender.specs.declared.event.LiveEvent.TheVariants.{Guest}
@@ -82,7 +83,7 @@ module _ (m : MachineState) (h : History) (out : SinkState) (taken pages : List 
   nothing_taken history after = subst (λ (t : List ℕ). IsBehind m history out pages (untaken t after)) (sym (append-nil taken))
 
   goes_on : (c : LentCall) → IsLentCall p c mid → GoesOnLent m h out taken pages l before c mid
-  goes_on (event e reply) call =
+  goes_on (an_event e reply) call =
       let one : IsDoneLiveLent l before mid (IsServedUncalled l e (r.Guest reply)) = live_parked_is_served l p mid before e (r.Guest reply) places mem lent call in
       let gone = taken_stays_behind m h out taken pages (Guest e) (r.Guest reply) l one.after b places (may_guest pages e) one.done.serves in
       let next : History = then_came h (Guest e) (r.Guest reply) gone.effect in
@@ -97,7 +98,7 @@ module _ (m : MachineState) (h : History) (out : SinkState) (taken pages : List 
         memory = one.memory;
         phase = one.phase;
       }
-  goes_on (failed_flush dev pick) call =
+  goes_on (a_failed_flush dev pick) call =
       let one : IsDoneLiveLent l before mid (FailsLiveFlush l dev pick) = live_parked_flush_fails l p mid before dev pick places mem lent call in
       let gone = failure_stays_behind m h out pages dev pick (untaken taken l) (untaken taken one.after) b (places_untaken taken l places) goes (record { failed = one.done.failed; rest = ap (untaken taken) one.done.rest }) in
       let next : History = then_came h (Guest (Step dev pick)) (r.Guest DiskFailed) gone.effect in
@@ -112,7 +113,7 @@ module _ (m : MachineState) (h : History) (out : SinkState) (taken pages : List 
         memory = one.memory;
         phase = one.phase;
       }
-  goes_on (flush dev result) call =
+  goes_on (a_flush dev result) call =
       let one : IsDoneLiveLent l before mid (FlushesLiveDisk l dev result) = live_parked_is_flushed l p mid before dev result places lent call in
       record {
         history = h;
@@ -125,7 +126,7 @@ module _ (m : MachineState) (h : History) (out : SinkState) (taken pages : List 
         memory = one.memory;
         phase = one.phase;
       }
-  goes_on (taking bytes) call =
+  goes_on (a_taking bytes) call =
       let out_is : p.out ≡ l.out = ap (λ (x : LiveParkedSeen). x.out) lent.rest in
       let digest_is : p.digest ≡ l.digest = ap (λ (x : LiveParkedSeen). x.digest) lent.rest in
       let full : LiveSeen = if_dirty b.late l in
@@ -140,7 +141,10 @@ module _ (m : MachineState) (h : History) (out : SinkState) (taken pages : List 
         };
         came = sym (append-nil (guest_events h));
         text_is = refl;
-        parked = record { parked = rw call.rest lent.parked; rest = call.rest ∙ ap (λ (x : LiveParkedSeen). record x { digest = mid.digest; out = mid.out }) lent.rest };
+        parked = record {
+          parked = subst (λ (q : ParkedSeen). IsParked l.machine before q) (sym (ap (λ (x : LiveParkedSeen). x.parked) call.rest)) lent.parked;
+          rest = ap (λ (x : LiveParkedSeen). record x { parked = mid.parked }) call.rest ∙ ap (λ (x : LiveParkedSeen). record x { parked = mid.parked; digest = mid.digest; out = mid.out }) lent.rest;
+        };
         places = record { sound = places.sound; few = places.few; due_size = places.due_size; dirty_size = places.dirty_size };
         memory = refl;
         phase = refl;

@@ -1,12 +1,12 @@
 -- What is left of a machine whose RAM is lent.
-use Rattle.std.proofs.Common.{◌≡◌, ℕ, ◌+◌, ◌*◌, ◌≤◌, List, [], length, map, replicate, take, drop, None, refl, sym, ap, subst, ◌∙◌, arith}
+use Rattle.std.proofs.Common.{◌≡◌, ℕ, ◌+◌, ◌*◌, ◌/◌, ◌≤◌, List, [], length, map, replicate, take, drop, None, refl, sym, ap, subst, ◌∙◌, arith}
 use Rattle.std.proofs.lemmas.List.{length-map, length-replicate}
 use Rattle.std.specs.Prelude.{IsTrue}
 use Rattle.blk.proofs.Zeros.{zero_bytes}
 use Rattle.dirtylog.specs.Members.{member_count}
 use Rattle.guestmem.specs.Memory.{IsMemory, Memory}
 use Rattle.guestmem.specs.declared.limits.TheConstants.{PAGES_MAX}
-use Rattle.machine.specs.Layout.{Layout, layout_of, pages_of, size_of}
+use Rattle.machine.specs.Layout.{Layout, layout_of, size_of}
 use Rattle.machine.specs.Parked.{ParkedSeen, WhateverRam, back_with, parked_states}
 use Rattle.machine.specs.Seen.{DeviceSeen, Seen, state_of}
 use Rattle.machine.specs.Sound.{AreSoundDevices, IsSound}
@@ -59,5 +59,5 @@ stop_parked p firsts at m next pages sectors b devices sets mem count sound stat
     let whole : length m.bytes ≡ 4096 * length p.parked.versions = omega (arith, mem.pages, count) in
     let same : layout_of (now l) ≡ parked_layout p.parked = layout_is l.machine p.parked whole refl in
     let places : HasPlaces l = record { sound = sound; few = sets.few; due_size = sets.due_size ∙ ap size_of (sym same); dirty_size = sets.dirty_size ∙ ap size_of (sym same) } in
-    let count_is : pages_of (now l) ≡ length p.parked.versions = omega (arith, whole) in
+    let count_is : length m.bytes / 4096 ≡ length p.parked.versions = omega (arith, whole) in
     rw count_is at (stop_short l next pages sectors b devices places states honest covers stops)

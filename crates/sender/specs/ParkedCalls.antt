@@ -98,16 +98,16 @@ LiveParkedFlushFails = (l : LiveSeen) (p next : LiveParkedSeen) (region : Region
 -- A call that was made while the RAM was lent, and not refused: an event that needs no RAM, with its reply; a flush that failed in place of
 -- its step; a flush beside all steps; a taking of these bytes.
 pub data LentCall : Type 0 where
-  event : Event → Reply → LentCall
-  failed_flush : ℕ → ℕ → LentCall
-  flush : ℕ → Result (Unit {0}) DiskFault → LentCall
-  taking : List ℕ → LentCall
+  an_event : Event → Reply → LentCall
+  a_failed_flush : ℕ → ℕ → LentCall
+  a_flush : ℕ → Result (Unit {0}) DiskFault → LentCall
+  a_taking : List ℕ → LentCall
 
 abbrev pub IsLentCall : LiveParkedSeen → LentCall → LiveParkedSeen → Type 0
-IsLentCall p (event e reply) next = ServesParked p e (r.Guest reply) next
-IsLentCall p (failed_flush dev pick) next = FailsLiveParked p dev pick next
-IsLentCall p (flush dev result) next = FlushesLiveParked p dev result next
-IsLentCall p (taking bytes) next = TakesParked p bytes next
+IsLentCall p (an_event e reply) next = ServesParked p e (r.Guest reply) next
+IsLentCall p (a_failed_flush dev pick) next = FailsLiveParked p dev pick next
+IsLentCall p (a_flush dev result) next = FlushesLiveParked p dev result next
+IsLentCall p (a_taking bytes) next = TakesParked p bytes next
 
 -- Calls, one after another.
 abbrev pub AreLentCalls : LiveParkedSeen → List LentCall → LiveParkedSeen → Type 0
@@ -116,13 +116,13 @@ AreLentCalls p (c ∷ cs) next = (mid : LiveParkedSeen) × IsLentCall p c mid ×
 
 -- The events that calls add to a history, and the bytes that they take.
 abbrev pub events_in : LentCall → List Event
-events_in (event e reply) = e ∷ []
-events_in (failed_flush dev pick) = Step dev pick ∷ []
-events_in (flush dev result) = []
-events_in (taking bytes) = []
+events_in (an_event e reply) = e ∷ []
+events_in (a_failed_flush dev pick) = Step dev pick ∷ []
+events_in (a_flush dev result) = []
+events_in (a_taking bytes) = []
 
 abbrev pub bytes_in : LentCall → List ℕ
-bytes_in (taking bytes) = bytes
+bytes_in (a_taking bytes) = bytes
 bytes_in _ = []
 
 abbrev pub events_among : List LentCall → List Event
