@@ -21,8 +21,9 @@ use wire::{
 pub fn saved_len<D: Disk>(machine: &Machine<D>) -> u64
     ensures { result ≡ length (whole (state_of machine.now)) }
 {
+    let shapes = machine.shapes();
     let parts = pages_len(machine) + sectors_len(machine) + devices_len(machine.devices());
-    header_len(machine.shapes()) + parts + COMMIT_RECORD as u64
+    header_len(shapes) + parts + COMMIT_RECORD as u64
 }
 
 /// The length of the records of all pages.
