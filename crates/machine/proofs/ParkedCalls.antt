@@ -1,22 +1,20 @@
 -- Calls of a machine whose RAM is lent.
-use Rattle.std.proofs.Common.{◌≡◌, ℕ, ◌≤◌, Bool, true, false, List, [], length, map, set, Option, refl, sym, ap, subst, ◌∙◌}
+use Rattle.std.proofs.Common.{◌≡◌, ℕ, ◌≤◌, Bool, true, false, List, length, map, set, refl, sym, ap, subst, ◌∙◌}
 use Rattle.std.specs.Prelude.{Result}
 use Rattle.region.specs.declared.region.Region.{Region}
-use Rattle.blk.specs.declared.disk.DiskFault.{DiskFault}
 use Rattle.chains.specs.declared.next.Next.TheVariants.{Empty}
-use Rattle.guestmem.specs.Memory.{IsMemory, Memory}
-use Rattle.guestmem.specs.Number.{IsBytes}
+use Rattle.guestmem.specs.Memory.{Memory}
 use Rattle.machine.specs.Applied.{FailsOnlyUnsteady, IsApplied, as_given, marks_after}
 use Rattle.machine.specs.Effect.{items_of, no_effect}
 use Rattle.machine.specs.Held.{IsHeld}
 use Rattle.machine.specs.Outcome.{outcome_of}
-use Rattle.machine.specs.Parked.{FailsParkedFlush, FailsParkedFlushIf, FlushesParked, IsAppliedParked, IsAppliedQuietly, IsAppliedUncalled, IsDoneLent, IsParked, ParkedFlushFails, ParkedIsApplied, ParkedIsFlushed, ParkedSeen, WasHeld, back_with, makes_flush_parked}
+use Rattle.machine.specs.Parked.{FailsParkedFlushIf, FlushesParked, IsAppliedParked, IsAppliedQuietly, IsParked, ParkedFlushFails, ParkedIsApplied, ParkedIsFlushed, ParkedSeen, WasHeld, back_with, makes_flush_parked}
 use Rattle.machine.specs.Rings.{AreNewRings, FitAll}
 use Rattle.machine.specs.Seen.{DeviceSeen, Seen, state_of}
 use Rattle.machine.specs.State.{DeviceState}
 use Rattle.machine.specs.Step.{IsStep, register_value_of}
 use Rattle.machine.specs.StepLaws.{Fits}
-use Rattle.machine.specs.Unsynced.{FailsFlush, FailsFlushIf, FlushesDisk, flushes, with_flush_failed}
+use Rattle.machine.specs.Unsynced.{FailsFlush, FlushesDisk, flushes, with_flush_failed}
 use Rattle.machine.specs.declared.any_ring.AnyRing.{AnyRing}
 use Rattle.machine.specs.declared.event.Event.{Event}
 use Rattle.machine.specs.declared.event.Event.TheVariants.{RegRead, Step}

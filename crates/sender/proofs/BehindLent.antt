@@ -19,8 +19,8 @@ use Rattle.sender.specs.Follows.{AgreesIn, Relates}
 use Rattle.sender.specs.History.{History, guest_events, phase_of, text, then_came}
 use Rattle.sender.specs.LiveState.{HasPlaces, LiveSeen}
 use Rattle.sender.specs.Marks.{AreAmong, BehindGoesOn, IsBehind, LentIsBehind, MayCall, if_dirty}
-use Rattle.sender.specs.Parked.{BackGoesOn, IsLiveParked, KeepsWord, LiveParkedSeen, live_back, live_base, page_writes}
-use Rattle.sender.specs.ParkedCalls.{AreLentCalls, FailsLiveParked, FlushesLiveParked, IsDoneLiveLent, IsLentCall, IsServedUncalled, LentCall, LentFollows, ServesParked, TakesParked, a_failed_flush, a_flush, a_taking, an_event, bytes_among, bytes_in, events_among, events_in, parked_base}
+use Rattle.sender.specs.Parked.{IsLiveParked, KeepsWord, LiveParkedSeen, live_back, live_base, page_writes}
+use Rattle.sender.specs.ParkedCalls.{IsDoneLiveLent, IsLentCall, IsServedUncalled, LentCall, LentFollows, a_failed_flush, a_flush, a_taking, an_event, bytes_among, bytes_in, events_among, events_in, parked_base}
 use Rattle.sender.specs.Taking.{untaken}
 use Rattle.sender.specs.Unsynced.{FailsLiveFlush, FlushesLiveDisk}
 use Rattle.sender.specs.declared.event.LiveEvent.TheVariants.{Guest}

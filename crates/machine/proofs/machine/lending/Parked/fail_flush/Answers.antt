@@ -1,7 +1,6 @@
 use Rattle.std.proofs.Common.{◌∙◌, arith, refl, sym}
 use Rattle.std.proofs.lemmas.List.{length-set}
-use Rattle.guestmem.specs.Memory.{Memory}
-use Rattle.machine.proofs.At.{IsAt, found}
+use Rattle.machine.proofs.At.{IsAt}
 use Rattle.machine.proofs.ParkedCalls.{flushes_there, parked_tried, rings_new, tried_held}
 use Rattle.machine.proofs.machine.lending.Parked.fail_flush.Goals as goal
 

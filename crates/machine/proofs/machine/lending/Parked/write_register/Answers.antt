@@ -1,4 +1,4 @@
-use Rattle.std.proofs.Common.{ap, arith, refl}
+use Rattle.std.proofs.Common.{ap, arith}
 use Rattle.std.proofs.lemmas.List.{length-set}
 use Rattle.machine.specs.Step.{out_reply, written_out}
 use Rattle.machine.specs.Seen.{DeviceSeen}
