@@ -18,7 +18,7 @@ use Rattle.wire.specs.Stream.{texts}
 use Rattle.sender.specs.Follows.{AgreesIn, Relates}
 use Rattle.sender.specs.History.{History, guest_events, phase_of, text, then_came}
 use Rattle.sender.specs.LiveState.{HasPlaces, LiveSeen}
-use Rattle.sender.specs.Marks.{AreAmong, BehindGoesOn, IsBehind, LentIsBehind, MayCall, if_dirty}
+use Rattle.sender.specs.Marks.{AreAmong, BehindGoesOn, IsBehind, LentIsBehind, MayCall, TakingStaysBehind, if_dirty}
 use Rattle.sender.specs.Parked.{IsLiveParked, KeepsWord, LiveParkedSeen, live_back, live_base, page_writes}
 use Rattle.sender.specs.ParkedCalls.{IsDoneLiveLent, IsLentCall, IsServedUncalled, LentCall, LentFollows, a_failed_flush, a_flush, a_taking, an_event, bytes_among, bytes_in, events_among, events_in, parked_base}
 use Rattle.sender.specs.Taking.{untaken}
@@ -53,6 +53,10 @@ relates_taken m h out taken more s digest writer g held count honest takes = rec
   held = λ none good. (let before = g.held none good in (subst IsTrue (sym honest) before.0, append_assoc taken more writer.held ∙ ap (λ (b : List ℕ). taken ++ b) (sym held) ∙ before.1));
   taken = λ none going. subst (Covers digest) (append-nil (text m h)) (takes (text m h) (g.taken none going));
 }
+
+pub taking_stays_behind : TakingStaysBehind
+taking_stays_behind m h out writer digest taken more pages l b held count honest takes =
+    record { late = b.late; among = b.among; relates = relates_taken m h out taken more (if_dirty b.late l) digest writer b.relates held count honest takes }
 
 -- An event of the guest may come whatever is missing.
 may_guest : (pages : List ℕ) (e : Event) → MayCall pages (Guest e)
@@ -129,16 +133,11 @@ module _ (m : MachineState) (h : History) (out : SinkState) (taken pages : List 
   goes_on (a_taking bytes) call =
       let out_is : p.out ≡ l.out = ap (λ (x : LiveParkedSeen). x.out) lent.rest in
       let digest_is : p.digest ≡ l.digest = ap (λ (x : LiveParkedSeen). x.digest) lent.rest in
-      let full : LiveSeen = if_dirty b.late l in
       record {
         history = h;
         after = record l { digest = mid.digest; out = mid.out };
-        behind = record {
-          late = b.late;
-          among = b.among;
-          relates = relates_taken m h out taken bytes full mid.digest mid.out b.relates (ap (λ (o : SinkState). o.held) (sym out_is) ∙ call.held) (call.count ∙ ap (λ (o : SinkState). o.failures) out_is) (call.honest ∙ ap (λ (o : SinkState). o.honest) out_is)
-              (subst (λ (d : Digested). Takes d [] mid.digest) digest_is call.digest);
-        };
+        behind = taking_stays_behind m h out mid.out mid.digest taken bytes pages l b (ap (λ (o : SinkState). o.held) (sym out_is) ∙ call.held) (call.count ∙ ap (λ (o : SinkState). o.failures) out_is) (call.honest ∙ ap (λ (o : SinkState). o.honest) out_is)
+            (subst (λ (d : Digested). Takes d [] mid.digest) digest_is call.digest);
         came = sym (append-nil (guest_events h));
         text_is = refl;
         parked = record {

@@ -12,7 +12,7 @@ use Rattle.machine.specs.State.{MachineState}
 use Rattle.machine.specs.declared.event.Event.{Event}
 use Rattle.machine.specs.declared.event.Event.TheVariants.{Step}
 use Rattle.machine.specs.declared.reply.Reply.TheVariants.{DiskFailed}
-use Rattle.wire.specs.Sinks.{SinkState}
+use Rattle.wire.specs.Sinks.{Digested, SinkState, Takes}
 use Rattle.sender.specs.Calls.{Serves}
 use Rattle.sender.specs.Follows.{Relates}
 use Rattle.sender.specs.History.{History, guest_events, text, then_came}
@@ -92,6 +92,11 @@ CallsStayBehind = (m : MachineState) (h : History) (out : SinkState) (pages : Li
 abbrev pub TakenStaysBehind : Type 0
 TakenStaysBehind = (m : MachineState) (h : History) (out : SinkState) (taken pages : List ℕ) (e : LiveEvent) (reply : LiveReply) (old new : LiveSeen) → IsBehind m h out pages (untaken taken old) → HasPlaces old → MayCall pages e → Serves old e reply new
     → StaysBehind m h out e reply (still_behind reply pages) (untaken taken new)
+
+-- A taking too leaves it as it is: the writer then holds what was not taken, and its digest is of the same bytes.
+abbrev pub TakingStaysBehind : Type 0
+TakingStaysBehind = (m : MachineState) (h : History) (out writer : SinkState) (digest : Digested) (taken more pages : List ℕ) (l : LiveSeen) → IsBehind m h out pages (untaken taken l) → l.out.held ≡ more ++ writer.held → writer.failures ≡ l.out.failures
+    → writer.honest ≡ l.out.honest → Takes l.digest [] digest → IsBehind m h out pages (untaken (taken ++ more) (record l { digest = digest; out = writer }))
 
 -- So does a flush that fails in place of its step.
 abbrev pub FailureStaysBehind : Type 0

@@ -2,7 +2,7 @@
 
 ghost use Rattle.sender.specs.Follows.{CallsFollow};
 ghost use Rattle.sender.specs.HistoryLaws.{AfterIsRun, FreshIsLast, OneHistory, StaleIsNotFresh, StoppedIsStream};
-ghost use Rattle.sender.specs.Marks.{BackIsBehind, BehindByNone, CallsStayBehind, FailureStaysBehind, FlushStaysBehind, LentIsBehind, MarksCatchUp, TakenStaysBehind};
+ghost use Rattle.sender.specs.Marks.{BackIsBehind, BehindByNone, CallsStayBehind, FailureStaysBehind, FlushStaysBehind, LentIsBehind, MarksCatchUp, TakenStaysBehind, TakingStaysBehind};
 ghost use Rattle.sender.specs.Parked.{LiveBackFollows, LiveBackIsServed};
 ghost use Rattle.sender.specs.ParkedCalls.{LentFollows, LiveParkedFlushFails, LiveParkedIsFlushed, LiveParkedIsServed};
 ghost use Rattle.sender.specs.Reads.{UncalledIsSame};
@@ -135,6 +135,11 @@ pub fn calls_stay_behind()
 /// The same if part of the stream was taken out before.
 pub fn taken_stays_behind()
     ensures { TakenStaysBehind }
+{}
+
+/// So it is with a taking itself.
+pub fn taking_stays_behind()
+    ensures { TakingStaysBehind }
 {}
 
 /// So it is with a flush that fails by `Live::fail_flush`.

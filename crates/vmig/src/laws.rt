@@ -28,7 +28,8 @@ pub use sender::laws::{
     live_back_follows_the_history, live_back_is_served, live_parked_flush_fails,
     live_parked_is_flushed, live_parked_is_served, marks_catch_up, replies_settle,
     stale_is_not_fresh, stopped_is_a_stream, taken_failed_flush_follows_the_history,
-    taken_follows_the_history, taken_is_whole, taken_stays_behind, uncalled_is_same,
+    taken_follows_the_history, taken_is_whole, taken_stays_behind, taking_stays_behind,
+    uncalled_is_same,
 };
 pub use traces::laws::{events_are_read_in_one_way, texts_are_read_in_one_way};
 pub use wire::laws::{
