@@ -1,7 +1,8 @@
 //! RAM.
 
+use crate::own_log::OwnLog;
 use anyhow::{Result, bail, ensure};
-use guestmem::{Ram, RamError, Touched, is_zero};
+use guestmem::{Both, Ram, RamError, Touched, is_zero};
 use std::alloc::Global;
 
 /// The first version of the pages of a RAM that is told one.
@@ -14,6 +15,7 @@ pub fn agrees(alloc: Global) -> Result<()> {
     takes_bytes(&mut ram)?;
     refuses(&mut ram)?;
     pages_agree(&ram)?;
+    named_page_is_told(Ram::new(alloc, 2)?)?;
     versions_agree(Ram::with_version(alloc, 1, START)?)
 }
 
@@ -59,6 +61,24 @@ fn pages_agree(ram: &Ram) -> Result<()> {
     ensure!(ram.page(0)[4095] == 0x11, "the first page");
     ensure!(!is_zero(ram.page(0)) && !is_zero(ram.page(1)), "zeros");
     ensure!(is_zero(&[0; 4096]), "a page of zeros");
+    Ok(())
+}
+
+/// A page that is named has a later version, and both logs take it in.
+fn named_page_is_told(mut ram: Ram) -> Result<()> {
+    ram.recall();
+    if ram.len() != 8192 {
+        bail!("another length");
+    }
+    ensure!(ram.version(1) == 0, "the first version");
+    let mut log = Both {
+        first: OwnLog::EMPTY,
+        second: OwnLog::EMPTY,
+    };
+    ram.mark(&[1], &mut log);
+    ensure!(log.first.is_touched && log.second.is_touched, "the logs");
+    ram.recall();
+    ensure!(ram.version(1) == 1, "the version");
     Ok(())
 }
 

@@ -12,6 +12,7 @@ use vmig::{
 /// Makes each call of a migration.
 pub fn agree(alloc: Global) -> Result<()> {
     rounds_are_made(alloc)?;
+    named_page_is_sent(alloc)?;
     list_is_played(alloc)?;
     writer_fails(alloc)?;
     move_is_rehearsed(alloc)
@@ -61,6 +62,28 @@ fn rounds_are_made(alloc: Global) -> Result<()> {
     ensure!(live.begin() == Err(MigError::AlreadyStopped), "after it");
     let machine = live.abort();
     ensure!(machine.lines() == 0, "the machine");
+    Ok(())
+}
+
+/// A page that is named after it was copied is sent again, by the stop.
+fn named_page_is_sent(alloc: Global) -> Result<()> {
+    let Ok(mut live) = Live::new(alloc, machine_of(alloc)?, OwnSink::new(alloc)) else {
+        bail!("out of memory");
+    };
+    ensure!(live.begin() == Ok(1), "the begin");
+    ensure!(
+        live.copy() == Ok(CopyAnswer::Copied(Item::Page(0))),
+        "a copy"
+    );
+    ensure!(live.remaining().dirty == 0, "nothing is dirty");
+    live.machine().ram().recall();
+    live.mark(&[0]);
+    ensure!(live.remaining().dirty == 1, "the page that was named");
+    let stopped = Stopped {
+        pages: 1,
+        sectors: 0,
+    };
+    ensure!(live.stop() == Ok(stopped), "the stop");
     Ok(())
 }
 

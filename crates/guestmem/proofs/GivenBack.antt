@@ -1,18 +1,19 @@
 -- What is given back is what was written, page by page, and the versions of these pages alone rise.
-use Rattle.std.proofs.Common.{◌≡◌, ◌≢◌, ℕ, suc, ◌+◌, ◌-◌, ◌*◌, ◌/◌, ◌≤◌, ◌<◌, ◌==◌, Bool, true, false, inl, inr, List, [], ◌∷◌, length, set, get_or, refl, sym, ap, ◌∙◌, arith}
+use Rattle.std.proofs.Common.{◌≡◌, ◌≢◌, ℕ, suc, ◌+◌, ◌-◌, ◌*◌, ◌/◌, ◌≤◌, ◌<◌, ◌==◌, ◌++◌, take, drop, append_assoc, Bool, true, false, inl, inr, List, [], ◌∷◌, length, set, get_or, refl, sym, ap, ◌∙◌, arith}
 use Rattle.std.specs.Prelude.{Option, Some}
 use Rattle.std.proofs.lemmas.Bool.{cases_lt}
 use Rattle.std.proofs.lemmas.Bool.Decides.{nat_tests}
 use Rattle.std.proofs.lemmas.Grind.{get_or-set_at, same_number_lists}
-use Rattle.std.proofs.lemmas.List.{places, length-set, length-take, length-drop, get_or-take, get_or-drop, get_or-set_other}
+use Rattle.std.proofs.lemmas.List.{places, drop-drop, take-append-drop, length-set, length-take, length-drop, get_or-take, get_or-drop, get_or-set_other}
 use denote.RawPtr.{Ptr}
 use Rattle.guestmem.specs.declared.limits.TheConstants.{PAGE_SIZE}
 use Rattle.guestmem.specs.Item.{page}
-use Rattle.guestmem.specs.Lent.{AreBelow, GivenBackIsWritten, given_back, is_named, page_items, pages_written, raise_each}
+use Rattle.guestmem.specs.Later.{IsLater}
+use Rattle.guestmem.specs.Lent.{AreBelow, GivenBackIsWritten, MarkedIsWritten, given_back, is_named, marked, page_items, pages_written, raise_each}
 use Rattle.guestmem.specs.Memory.{Memory}
 use Rattle.guestmem.specs.Page.{page_of}
 use Rattle.guestmem.specs.Rises.{Rises}
-use Rattle.guestmem.proofs.RisesLaws.{rises_append, same_page}
+use Rattle.guestmem.proofs.RisesLaws.{none_falls, rises_append, same_page}
 use Rattle.guestmem.specs.Write.{put_at, raise, raised, touched_of, raise_touched, written}
 use Rattle.guestmem.proofs.Later.{put_at_below, put_at_above, length-put_at}
 use Rattle.guestmem.proofs.Raising.{raise_one}
@@ -107,3 +108,46 @@ rises_given m new (n ∷ pages) below is =
     let next : Memory = record m { versions = set m.versions n (raised (get_or m.versions n 0)) } in
     let count : length next.versions ≡ length m.versions = length-set m.versions n (raised (get_or m.versions n 0)) in
     rises_append (page n ∷ []) (page_items pages) m next new (rises_one m n here) (rises_given next new pages (λ k d lt. rw count (below (suc k) d (omega (arith, lt)))) is)
+
+-- A write of the bytes that lie there.
+put_back : (old : List ℕ) (n : ℕ) → PAGE_SIZE * n + PAGE_SIZE ≤ length old → put_at old (PAGE_SIZE * n) (page_of old n) ≡ old
+put_back old n inside =
+    let size : length (page_of old n) ≡ PAGE_SIZE = whole_page old n inside in
+    rw size
+    (append_assoc (take (PAGE_SIZE * n) old) (page_of old n) (drop (PAGE_SIZE * n + PAGE_SIZE) old)
+    ∙ ap (λ (x : List ℕ). take (PAGE_SIZE * n) old ++ (page_of old n ++ x)) (sym (drop-drop PAGE_SIZE (PAGE_SIZE * n) old))
+    ∙ ap (λ (x : List ℕ). take (PAGE_SIZE * n) old ++ x) (take-append-drop PAGE_SIZE (drop (PAGE_SIZE * n) old))
+    ∙ take-append-drop (PAGE_SIZE * n) old)
+
+parts_same : (place : Option Ptr) (a b v w : List ℕ) → a ≡ b → v ≡ w → ◌≡◌ {A = Memory} (record { bytes = a; versions = v; place = place }) (record { bytes = b; versions = w; place = place })
+parts_same place a b v w e f = rw (e, f) refl
+
+marked_all : (m : Memory) (bytes pages : List ℕ) → bytes ≡ m.bytes → length m.bytes ≡ PAGE_SIZE * length m.versions → AreBelow (length m.versions) pages → marked m pages ≡ pages_written m pages bytes
+marked_all m bytes [] same whole below = refl
+marked_all m bytes (n ∷ pages) same whole below =
+    let here : n < length m.versions = below 0 0 (omega arith) in
+    let inside : PAGE_SIZE * n + PAGE_SIZE ≤ length m.bytes = omega (arith, here, whole) in
+    let next : Memory = written m (PAGE_SIZE * n) (page_of bytes n) in
+    let put : next.bytes ≡ m.bytes = rw same (put_back m.bytes n inside) in
+    let versions : next.versions ≡ set m.versions n (raised (get_or m.versions n 0)) = versions_of m bytes n here (omega (arith, inside, ap length same)) in
+    let count : length next.versions ≡ length m.versions = ap length versions ∙ length-set m.versions n (raised (get_or m.versions n 0)) in
+    let long : length next.bytes ≡ length m.bytes = ap length put in
+    parts_same m.place m.bytes next.bytes (raise_each (set m.versions n (raised (get_or m.versions n 0))) pages) (raise_each next.versions pages) (sym put) (ap (λ (v : List ℕ). raise_each v pages) (sym versions))
+    ∙ marked_all next bytes pages (same ∙ sym put) (omega (arith, whole, count, long)) (λ k d lt. rw count (below (suc k) d (omega (arith, lt))))
+
+pub marked_is_written : MarkedIsWritten
+marked_is_written m pages sound below = marked_all m m.bytes pages refl sound.pages below
+
+length-raised : (versions pages : List ℕ) → length (raise_each versions pages) ≡ length versions
+length-raised versions [] = refl
+length-raised versions (n ∷ pages) = length-raised (set versions n (raised (get_or versions n 0))) pages ∙ length-set versions n (raised (get_or versions n 0))
+
+-- So it is a later one.
+pub later_marked : (m : Memory) (pages : List ℕ) → AreBelow (length m.versions) pages → IsLater m (marked m pages)
+later_marked m pages below = record {
+  bytes = refl;
+  versions = length-raised m.versions pages;
+  place = refl;
+  rises = none_falls (page_items pages) m (marked m pages) (rises_given m (marked m pages) pages below refl);
+  stays = λ a same small. refl;
+}

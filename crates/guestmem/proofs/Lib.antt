@@ -11,3 +11,4 @@ pub mod PageLaws
 pub mod RisesLaws
 pub mod WriteLaws
 mod Logs
+pub mod BothLogs

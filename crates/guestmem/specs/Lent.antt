@@ -49,3 +49,11 @@ abbrev pub GivenBackIsWritten : Type 0
 GivenBackIsWritten = (m : Memory) (bytes : List ℕ) (place : Ptr) (pages : List ℕ) → IsMemory m → m.place ≡ Some place → length bytes ≡ length m.bytes → AreBelow (length m.versions) pages
     → ((a : ℕ) → is_named pages (a / PAGE_SIZE) ≡ false → slice_index bytes a ≡ slice_index m.bytes a)
     → given_back bytes place m.versions pages ≡ pages_written m pages bytes
+
+-- RAM after a mark of these pages: their versions have risen, and no byte has changed.
+abbrev pub marked : Memory → List ℕ → Memory
+marked m pages = record m { versions = raise_each m.versions pages }
+
+-- It is the RAM after each of these pages was written whole, one after another, with the bytes that lie there.
+abbrev pub MarkedIsWritten : Type 0
+MarkedIsWritten = (m : Memory) (pages : List ℕ) → IsMemory m → AreBelow (length m.versions) pages → marked m pages ≡ pages_written m pages m.bytes

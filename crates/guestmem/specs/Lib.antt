@@ -15,3 +15,4 @@ pub mod Storage
 pub mod Write
 pub mod Writes
 pub mod Zeros
+pub mod Both

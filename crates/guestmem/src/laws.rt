@@ -4,7 +4,7 @@
 ghost use Rattle.guestmem.specs.Address.{access_refusal};
 ghost use Rattle.guestmem.specs.Memory.{Memory};
 ghost use Rattle.guestmem.specs.Later.{IsLater};
-ghost use Rattle.guestmem.specs.Lent.{GivenBackIsWritten};
+ghost use Rattle.guestmem.specs.Lent.{GivenBackIsWritten, MarkedIsWritten};
 ghost use Rattle.guestmem.specs.Item.{Item};
 ghost use Rattle.guestmem.specs.Rises.{Rises};
 ghost use Rattle.guestmem.specs.Write.{refusal_of};
@@ -33,4 +33,9 @@ pub fn rises_in_turn()
 /// after each of these pages was written whole, one after another.
 pub fn given_back_is_written()
     ensures { GivenBackIsWritten }
+{}
+
+/// A RAM whose pages were marked is the one into which each of these pages was written whole with the bytes that lie there.
+pub fn marked_is_written()
+    ensures { MarkedIsWritten }
 {}

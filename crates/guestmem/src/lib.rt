@@ -37,14 +37,17 @@
 //! `ParkedRam::give_back` makes a RAM of them and of a region of the same length, whatever the caller wrote. The caller names the
 //! pages that it wrote: their versions rise, and the log takes them in. If it wrote into no others and gives the same memory back, the
 //! RAM is what the guest would have made of it by writing each of these pages whole (`given_back_is_written`). A page that was written
-//! and not named keeps its version, so a cache or a migration may miss what was written. Neither call reads a byte of RAM or writes
-//! one; giving back takes time for the named pages alone.
+//! and not named keeps its version, so a cache or a migration may miss what was written, until `Ram::mark` names it: that is a write of
+//! the page with the bytes that lie there (`marked_is_written`). None of these calls reads a byte of RAM or writes one; naming takes time
+//! for the named pages alone.
 //!
 //! # What a guest-physical address means
 //! A `Ram` numbers its bytes from 0, and so do pages, items and logs. A guest may have its RAM at another address: then an address of
 //! the guest means the byte that is as far behind the first one as the address is behind RAM's base (`specs/Address`). The crates
 //! above name that definition wherever they hold addresses as the guest wrote them; `is_within` is its test, and `access_refusal` says why an
 //! access is refused.
+//!
+//! Logs are told of items by the trait `TouchLog`. `NoLog` keeps none, and `Both` is two logs that take in the same items.
 //!
 //! `is_zero` tells whether a page has zeros alone (`specs/Zeros`).
 //!
@@ -61,6 +64,7 @@
 
 mod address;
 mod arriving;
+mod both;
 mod bytes;
 mod error;
 mod fresh;
@@ -75,6 +79,7 @@ mod zero_page;
 
 pub use address::{access_refusal, is_within};
 pub use arriving::ArrivingRam;
+pub use both::Both;
 pub use bytes::Bytes;
 pub use error::RamError;
 pub use limits::{ACCESS_MAX, PAGE_SIZE, PAGES_MAX};

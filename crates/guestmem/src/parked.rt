@@ -72,7 +72,7 @@ impl ParkedRam {
 }
 
 /// Raises the version of each of these pages, one after another, and reports them to the log.
-fn raise_each<L: TouchLog>(versions: &mut [u64], pages: &[u32], log: &mut L)
+pub(crate) fn raise_each<L: TouchLog>(versions: &mut [u64], pages: &[u32], log: &mut L)
     requires below { AreBelow (length versions.old) pages.now }
     requires may { MayPages L.may log.old (PAGE_SIZE * length versions.old) }
     ensures versions { versions.new ≡ raise_each versions.old pages.now }

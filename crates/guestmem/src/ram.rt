@@ -11,7 +11,7 @@ ghost use Rattle.guestmem.specs.Writes.{byte_writes, set_all, touched};
 ghost use Rattle.guestmem.specs.Memory.{Memory, IsMemory};
 ghost use Rattle.guestmem.specs.Page.{page_of};
 ghost use Rattle.guestmem.specs.Later.{IsLater};
-ghost use Rattle.guestmem.specs.Lent.{IsLent};
+ghost use Rattle.guestmem.specs.Lent.{AreBelow, IsLent, marked, page_items};
 ghost use Rattle.guestmem.specs.Rises.{Rises};
 ghost use Rattle.guestmem.specs.Write.{put_at, written, touched_of, refusal_of, unless_refused, raise, raised};
 ghost use Rattle.guestmem.specs.declared.touched.Touched.TheVariants.{Pages};
@@ -22,7 +22,7 @@ use crate::error::RamError;
 use crate::laws::refusals_at_zero;
 use crate::limits::{PAGE_SIZE, PAGES_MAX};
 use crate::log::TouchLog;
-use crate::parked::ParkedRam;
+use crate::parked::{ParkedRam, raise_each};
 use crate::storage::Storage;
 use crate::touched::Touched;
 use byteorder::{ByteOrder, LittleEndian};
@@ -257,6 +257,19 @@ impl Ram {
         self.recall();
         let page = self.store_in_page(index, bytes);
         tell_pages(log, page, page);
+    }
+
+    /// Names pages that the caller wrote while the bytes were lent, and did not name when it gave them back: the version of each rises,
+    /// once for each time that it is named, and the log takes it in. No byte is read or written.
+    pub fn mark<L: TouchLog>(&mut self, pages: &[u32], log: &mut L)
+        requires below { AreBelow (length self.old.versions) pages.now }
+        requires may { MayPages L.may log.old (length self.old.bytes) }
+        ensures ram { self.new ≡ marked self.old pages.now }
+        ensures log { log.new ≡ after_all L.after log.old (page_items pages.now) }
+        ensures may { MayPages L.may log.new (length self.new.bytes) }
+    {
+        self.recall();
+        raise_each(self.versions.as_mut_slice(), pages, log);
     }
 
     /// Sets the bytes of a page, for a RAM of which nobody has read yet: its version stays.

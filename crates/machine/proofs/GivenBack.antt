@@ -16,12 +16,12 @@ use Rattle.guestmem.specs.Address.{access_refusal, index_of}
 use Rattle.guestmem.specs.Write.{written}
 use Rattle.guestmem.specs.Writes.{byte_writes, touched}
 use Rattle.guestmem.proofs.WriteLaws.{put_at_set_all}
-use Rattle.guestmem.proofs.GivenBack.{given_back_is_written, whole_page}
+use Rattle.guestmem.proofs.GivenBack.{given_back_is_written, marked_is_written, whole_page}
 use Rattle.guestmem.proofs.Later.{later_written}
 use Rattle.guestmem.proofs.Rising.{rises_written}
 use Rattle.machine.specs.Applied.{IsApplied, IsAppliedLogged}
 use Rattle.machine.specs.Held.{IsHeld}
-use Rattle.machine.specs.Parked.{AreWritten, BackIsWritten, IsParked, ParkedSeen, back_with, page_address}
+use Rattle.machine.specs.Parked.{AreWritten, BackIsWritten, IsParked, MarkIsWritten, ParkedSeen, UnnamedIsWritten, back_with, page_address}
 use Rattle.machine.specs.Seen.{DeviceSeen, Seen, state_of}
 use Rattle.machine.specs.Shapes.{made_as}
 use Rattle.machine.specs.Sound.{IsBase, IsSound, IsSoundDevice}
@@ -112,3 +112,14 @@ back_is_written m p before after pages sound mem parked place long are below agr
     let under : AreBelow (length m.memory.versions) pages = subst (λ (v : List ℕ). AreBelow (length v) pages) lent.versions_are below in
     subst (λ (x : Seen). AreWritten m pages after.content x) (back_is m p (given_back after.content (address after) p.versions pages) (pages_written m.memory pages after.content) (memory_back m p before after pages mem parked place long below agrees) parked.devices_are)
     (all_written m after.content pages sound mem under size are)
+
+pub mark_is_written : MarkIsWritten
+mark_is_written m pages sound mem below =
+    subst (λ (x : Memory). AreWritten m pages m.memory.bytes (with_memory m x)) (sym (marked_is_written m.memory pages mem below)) (all_written m m.memory.bytes pages sound mem below refl sound.bytes)
+
+pub unnamed_is_written : UnnamedIsWritten
+unnamed_is_written m p before after written named sound mem parked place long are below agrees = record {
+  all = back_with p (given_back after.content (address after) p.versions written);
+  are_written = back_is_written m p before after written sound mem parked place long are below agrees;
+  rest = refl;
+}

@@ -31,6 +31,7 @@ mod Outstanding
 pub mod Fresh
 pub mod GivenBack
 mod Parking
+pub mod ParkedCalls
 pub mod Quiet
 pub mod Honest
 mod Keeping

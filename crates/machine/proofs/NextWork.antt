@@ -4,21 +4,21 @@ use Rattle.std.specs.Prelude.{◌||◌, ◌&&◌, IfSome, slice_get, slice_index
 use Rattle.std.specs.List.{find, range_with_len}
 use Rattle.std.specs.Option.{is_some, option_map, option_or}
 use Rattle.std.proofs.lemmas.List.Folds.{find-append}
-use Rattle.std.proofs.lemmas.Option.{slice_get-get_or, slice_get_within}
+use Rattle.std.proofs.lemmas.Option.{get_or_from_slice_get, slice_get-get_or, slice_get_within}
 use Rattle.mmio.specs.State.{first_queue}
 use Rattle.chains.specs.State.{RingState, state_of}
 use Rattle.mmio.specs.declared.queue.Queue.{Queue}
 use Rattle.machine.specs.DeviceStep.{advanced_at, advances, looked_at, looks}
 use Rattle.machine.specs.NextWork.{HaveNoWork, NoneCanWork, can_work_at, can_work_with, device_can_work, device_has_work, has_work_at, in_turn_after, next_from, next_work, next_work_with_lost, number_of, picks_from, steps_between, work_of}
 use Rattle.machine.specs.Shapes.{made_as, queues_of}
-use Rattle.machine.specs.Sound.{IsSound, IsSoundDevice}
-use Rattle.machine.specs.State.{DeviceState, MachineState}
+use Rattle.machine.specs.Seen.{DeviceSeen}
+use Rattle.machine.specs.Sound.{AreSoundDevices, IsSoundDevice}
+use Rattle.machine.specs.State.{DeviceState}
 use Rattle.machine.specs.declared.shape.Shape.{Shape}
 use Rattle.machine.specs.declared.shape.Shape.TheVariants as shapes
 use Rattle.machine.specs.declared.work.Work.{Work}
 use Rattle.machine.proofs.Rings.{positions_long}
-use Rattle.machine.proofs.At.{own_base}
-use Rattle.machine.proofs.Within.{sound_at}
+use Rattle.machine.proofs.At.{IsAt, found, own_base}
 use Rattle.machine.proofs.Stepping.{no_positions}
 
 lt_or_le : (m n : ℕ) → (m < n) ⊎ (n ≤ m)
@@ -329,6 +329,9 @@ one_more p from pick before here k above below = elim (lt_or_le k pick) as (λ _
 pub beyond : (p : ℕ → Bool) (from pick end : ℕ) → end ≤ pick → ((k : ℕ) → from ≤ k → k < pick → p k ≡ false) → ((k : ℕ) → end ≤ k → p k ≡ false) → (k : ℕ) → from ≤ k → k < from + (256 - from) → p k ≡ false
 beyond p from pick end reached before after k above below = elim (lt_or_le k pick) as (λ _. p k ≡ false) [ inl lower ↦ before k above lower | inr upper ↦ after k (omega (arith, reached, upper)) ]
 
--- A device of a sound machine, by its number.
-pub sound_of : (m : MachineState) (dev : ℕ) (d : DeviceState) → IsSound m → slice_get m.devices dev ≡ Some d → IsSoundDevice d.registers.ram_base (length m.ram) d
-sound_of m dev d sound there = own_base (length m.ram) d (sound_at m dev d there sound)
+-- A device of a machine, by its number.
+pub own_sound : (ds : List DeviceSeen) (dev : ℕ) (d : DeviceSeen) → IsAt ds dev d → (sound : AreSoundDevices (map (λ (x : DeviceSeen). x.state) ds)) → IsSoundDevice d.state.registers.ram_base sound.0 d.state
+own_sound ds dev d at sound =
+    let states = map (λ (x : DeviceSeen). x.state) ds in
+    let there : slice_get states dev ≡ Some d.state = found ds dev d at in
+    own_base sound.0 d.state (rw (get_or_from_slice_get states dev d.state d.state there) at (sound.1 dev d.state (slice_get_within states dev d.state there)))

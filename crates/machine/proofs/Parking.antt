@@ -8,7 +8,7 @@ use Rattle.guestmem.specs.declared.limits.TheConstants.{PAGES_MAX}
 use Rattle.machine.specs.Held.{IsHeld}
 use Rattle.machine.specs.Parked.{ParkedSeen, WasHeld, back_with}
 use Rattle.machine.specs.Seen.{Seen}
-use Rattle.machine.specs.Sound.{IsSoundDevice}
+use Rattle.machine.specs.Sound.{AreSoundDevices, IsSoundDevice}
 use Rattle.machine.specs.declared.machine.TheConstants.{DEVICES_MAX}
 use Rattle.machine.specs.declared.shape.Shape.{Shape}
 use Rattle.machine.specs.Shapes.{made_as}
@@ -36,6 +36,12 @@ was_held shapes m held mem n is bytes count =
 pub few_held : (shapes : List Shape) (m : Seen) → IsHeld shapes m → length m.devices ≤ DEVICES_MAX
 few_held shapes m held = rw length-map at held.sound.few_devices
 
+pub some_held : (shapes : List Shape) (m : Seen) → IsHeld shapes m → 1 ≤ length m.devices
+some_held shapes m held = rw length-map at held.sound.some_devices
+
+pub sound_held : (shapes : List Shape) (m : Seen) → IsHeld shapes m → AreSoundDevices (map (λ d. d.state) m.devices)
+sound_held shapes m held = (length m.memory.bytes, held.sound.devices)
+
 -- It is held with zeros.
 with_zeros : (shapes : List Shape) (p : ParkedSeen) → WasHeld shapes p → 1 ≤ length p.versions → length p.versions ≤ PAGES_MAX
     → IsHeld shapes (back_with p (record { bytes = replicate (4096 * length p.versions) 0; versions = p.versions; place = None }))
@@ -46,6 +52,12 @@ with_zeros shapes p held some few =
 -- So its devices are few, and were made as these.
 pub few_devices : (shapes : List Shape) (p : ParkedSeen) → WasHeld shapes p → 1 ≤ length p.versions → length p.versions ≤ PAGES_MAX → length p.devices ≤ DEVICES_MAX
 few_devices shapes p held some few = few_held shapes _ (with_zeros shapes p held some few)
+
+pub some_devices : (shapes : List Shape) (p : ParkedSeen) → WasHeld shapes p → 1 ≤ length p.versions → length p.versions ≤ PAGES_MAX → 1 ≤ length p.devices
+some_devices shapes p held some few = some_held shapes _ (with_zeros shapes p held some few)
+
+pub sound_devices : (shapes : List Shape) (p : ParkedSeen) → WasHeld shapes p → 1 ≤ length p.versions → length p.versions ≤ PAGES_MAX → AreSoundDevices (map (λ d. d.state) p.devices)
+sound_devices shapes p held some few = sound_held shapes _ (with_zeros shapes p held some few)
 
 pub are_shapes : (shapes : List Shape) (p : ParkedSeen) → WasHeld shapes p → 1 ≤ length p.versions → length p.versions ≤ PAGES_MAX → shapes ≡ map (λ d. made_as d.state.kind) p.devices
 are_shapes shapes p held some few = (with_zeros shapes p held some few).shapes_are

@@ -151,7 +151,7 @@ flush_step : {base : ℕ} (m : Memory) (ds : List DeviceSeen) (dev pick : ℕ) (
     → IsStep (seen.state_of (record { memory = m; devices = ds })) (Step dev pick) outcome.disk_failed DiskFailed (seen.state_of (record { memory = m; devices = set ds dev new }))
 flush_step m ds dev pick d new at is sound f = record { effect = changing dev [] new.state; has = flush_has m ds dev pick d new at is sound f; changed = flush_changed m ds dev pick d new at is }
 
-fails : (shapes : List Shape) (m : Memory) (ds : List DeviceSeen) (dev pick : ℕ) (d new : DeviceSeen) → IsAt ds dev d → new ≡ record d { state = with_flush_failed d.state pick } → IsHeld shapes (record { memory = m; devices = ds }) → Fits (Step dev pick) → flushes d.state pick ≡ true
+pub fails : (shapes : List Shape) (m : Memory) (ds : List DeviceSeen) (dev pick : ℕ) (d new : DeviceSeen) → IsAt ds dev d → new ≡ record d { state = with_flush_failed d.state pick } → IsHeld shapes (record { memory = m; devices = ds }) → Fits (Step dev pick) → flushes d.state pick ≡ true
     → FailsFlush (record { memory = m; devices = ds }) dev pick (record { memory = m; devices = set ds dev new })
 fails shapes m ds dev pick d new at is held fits h =
     let sound = sound_device m ds dev d at held.sound in
@@ -169,7 +169,7 @@ fails shapes m ds dev pick d new at is held fits h =
       sound = (held_step shapes (record { memory = m; devices = ds }) (record { memory = m; devices = set ds dev new }) (Step dev pick) outcome.disk_failed DiskFailed held fits (flush_step m ds dev pick d new at is sound f)).sound;
     }
 
-same_devices : (ds : List DeviceSeen) (dev pick : ℕ) (d new : DeviceSeen) → IsAt ds dev d → new ≡ record d { state = with_flush_failed d.state pick } → flushes d.state pick ≡ false → set ds dev new ≡ ds
+pub same_devices : (ds : List DeviceSeen) (dev pick : ℕ) (d new : DeviceSeen) → IsAt ds dev d → new ≡ record d { state = with_flush_failed d.state pick } → flushes d.state pick ≡ false → set ds dev new ≡ ds
 same_devices ds dev pick d new at is h = ap (set ds dev) (is ∙ ap (λ (s : DeviceState). record d { state = s }) (same_device d.state pick h)) ∙ set_found ds dev d at
 
 pub tried : (shapes : List Shape) (m : Memory) (ds : List DeviceSeen) (dev pick : ℕ) (d new : DeviceSeen) (was : Bool) → IsAt ds dev d → new ≡ record d { state = with_flush_failed d.state pick } → IsHeld shapes (record { memory = m; devices = ds }) → Fits (Step dev pick) → flushes d.state pick ≡ was

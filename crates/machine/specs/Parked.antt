@@ -1,18 +1,24 @@
 -- What contracts see of a machine whose RAM is lent.
-use Rattle.std.specs.Prelude.{◌≡◌, ℕ, ◌+◌, ◌*◌, ◌/◌, List, [], ◌∷◌, false, length, slice_index}
+use Rattle.std.specs.Prelude.{◌≡◌, ℕ, ◌+◌, ◌*◌, ◌/◌, List, [], ◌∷◌, Bool, true, false, Option, Result, length, map, slice_get, slice_index}
 use Rattle.region.specs.Address.{address}
 use Rattle.region.specs.declared.region.Region.{Region}
-use Rattle.guestmem.specs.Lent.{AreBelow, IsLent, given_back, is_named}
+use Rattle.guestmem.specs.Lent.{AreBelow, IsLent, given_back, is_named, marked}
 use Rattle.guestmem.specs.declared.limits.TheConstants.{PAGE_SIZE}
 use Rattle.guestmem.specs.Memory.{IsMemory, Memory}
 use Rattle.guestmem.specs.Number.{IsBytes}
 use Rattle.guestmem.specs.Page.{page_of}
+use Rattle.blk.specs.Sectors.{Sector}
+use Rattle.blk.specs.declared.disk.DiskFault.{DiskFault}
 use Rattle.machine.specs.Applied.{IsApplied}
+use Rattle.machine.specs.Effect.{items_of}
 use Rattle.machine.specs.Held.{IsHeld}
-use Rattle.machine.specs.Seen.{DeviceSeen, Seen, state_of}
+use Rattle.machine.specs.Seen.{DeviceSeen, Seen, all_calls, state_of}
 use Rattle.machine.specs.Sound.{IsSound}
-use Rattle.machine.specs.State.{base_of}
+use Rattle.machine.specs.State.{DeviceState, base_of}
+use Rattle.machine.specs.Unsynced.{FailsFlush, FlushesDisk, flushes_if}
+use Rattle.machine.specs.declared.event.Event.{Event}
 use Rattle.machine.specs.declared.event.Event.TheVariants.{MemWrite}
+use Rattle.machine.specs.declared.reply.Reply.{Reply}
 use Rattle.machine.specs.declared.reply.Reply.TheVariants.{Done}
 use Rattle.machine.specs.declared.shape.Shape.{Shape}
 
@@ -25,9 +31,23 @@ pub record ParkedSeen : Type 0 where
 abbrev pub back_with : ParkedSeen → Memory → Seen
 back_with p m = record { memory = m; devices = p.devices }
 
+-- The states of its devices, what the sectors of their disks hold, and how often their disks were called.
+abbrev pub parked_states : ParkedSeen → List DeviceState
+parked_states p = map (λ d. d.state) p.devices
+
+abbrev pub parked_sectors : ParkedSeen → List (List Sector)
+parked_sectors p = map (λ d. d.sectors) p.devices
+
+abbrev pub parked_calls : ParkedSeen → List (Option ℕ)
+parked_calls p = map (λ d. d.calls) p.devices
+
+-- It is so whatever its RAM holds meanwhile, which has so many pages.
+abbrev pub WhateverRam : ParkedSeen → (Memory → Type 0) → Type 0
+WhateverRam p P = (m : Memory) → IsMemory m → IsBytes m.bytes → length m.versions ≡ length p.versions → P m
+
 -- With any memory of so many pages it is a machine as the code holds it.
 abbrev pub WasHeld : List Shape → ParkedSeen → Type 0
-WasHeld shapes p = (m : Memory) → IsMemory m → IsBytes m.bytes → length m.versions ≡ length p.versions → IsHeld shapes (back_with p m)
+WasHeld shapes p = WhateverRam p (λ m. IsHeld shapes (back_with p m))
 
 -- Its RAM was lent, and all else of it is kept.
 pub record IsParked (m : Seen) (region : Region) (p : ParkedSeen) : Type 0 where
@@ -50,3 +70,82 @@ BackIsWritten = (m : Seen) (p : ParkedSeen) (before after : Region) (pages : Lis
     → address after ≡ address before → length after.content ≡ length before.content → IsBytes after.content → AreBelow (length p.versions) pages
     → ((a : ℕ) → is_named pages (a / PAGE_SIZE) ≡ false → slice_index after.content a ≡ slice_index before.content a)
     → AreWritten m pages after.content (back_with p (given_back after.content (address after) p.versions pages))
+
+-- Where it names other pages, the machine is this one but for the versions.
+pub record IsWrittenBesideVersions (m : Seen) (pages : List ℕ) (bytes : List ℕ) (back : Seen) : Type 0 where
+  pub all : Seen
+  pub are_written : AreWritten m pages bytes all
+  pub rest : back ≡ record all { memory = record all.memory { versions = back.memory.versions } }
+
+abbrev pub UnnamedIsWritten : Type 0
+UnnamedIsWritten = (m : Seen) (p : ParkedSeen) (before after : Region) (written named : List ℕ) → IsSound (state_of m) → IsMemory m.memory → IsParked m before p
+    → address after ≡ address before → length after.content ≡ length before.content → IsBytes after.content → AreBelow (length p.versions) written
+    → ((a : ℕ) → is_named written (a / PAGE_SIZE) ≡ false → slice_index after.content a ≡ slice_index before.content a)
+    → IsWrittenBesideVersions m written after.content (back_with p (given_back after.content (address after) p.versions named))
+
+-- The machine after a mark of these pages: their versions have risen, and nothing else has changed.
+abbrev pub machine_marked : Seen → List ℕ → Seen
+machine_marked m pages = record m { memory = marked m.memory pages }
+
+-- A mark of pages is the guest's writes of these pages with the bytes that lie there.
+abbrev pub MarkIsWritten : Type 0
+MarkIsWritten = (m : Seen) (pages : List ℕ) → IsSound (state_of m) → IsMemory m.memory → AreBelow (length m.memory.versions) pages → AreWritten m pages m.memory.bytes (machine_marked m pages)
+
+-- An event was applied that wrote into no page and no sector.
+pub record IsAppliedQuietly (old : Seen) (e : Event) (reply : Reply) (new : Seen) : Type 0 where
+  pub applied : IsApplied old e reply new
+  pub untouched : items_of applied.effect ≡ []
+
+-- An event that needs no RAM was applied to a machine whose RAM is lent: whatever the RAM holds meanwhile, it is that event of the
+-- machine with this RAM, which is left as it is. It called no disk.
+pub record IsAppliedParked (p : ParkedSeen) (e : Event) (reply : Reply) (next : ParkedSeen) : Type 0 where
+  pub versions : next.versions ≡ p.versions
+  pub sectors : parked_sectors next ≡ parked_sectors p
+  pub calls : parked_calls next ≡ parked_calls p
+  pub applied : WhateverRam p (λ m. IsAppliedQuietly (back_with p m) e reply (back_with next m))
+
+-- A flush of a disk beside all steps, of a machine whose RAM is lent: whatever the RAM holds meanwhile, it is that flush of the machine
+-- with this RAM.
+pub record FlushesParked {T E : Type 0} (p : ParkedSeen) (dev : ℕ) (result : Result T E) (next : ParkedSeen) : Type 0 where
+  pub versions : next.versions ≡ p.versions
+  pub flushes : (m : Memory) → FlushesDisk (back_with p m) dev result (back_with next m)
+
+-- The step of this pick flushes a disk.
+abbrev pub makes_flush_parked : ParkedSeen → ℕ → ℕ → Bool
+makes_flush_parked p dev pick = flushes_if (slice_get (parked_states p) dev) pick
+
+-- A step that flushes a disk was made as one whose disk failed, and no disk was called: whatever the RAM holds meanwhile, it is that step
+-- of the machine with this RAM, which is left as it is.
+pub record FailsParkedFlush (p : ParkedSeen) (dev pick : ℕ) (next : ParkedSeen) : Type 0 where
+  pub versions : next.versions ≡ p.versions
+  pub sectors : parked_sectors next ≡ parked_sectors p
+  pub calls : parked_calls next ≡ parked_calls p
+  pub failed : WhateverRam p (λ m. FailsFlush (back_with p m) dev pick (back_with next m))
+
+-- If that step makes no flush, nothing changed.
+abbrev pub FailsParkedFlushIf : Bool → ParkedSeen → ℕ → ℕ → ParkedSeen → Type 0
+FailsParkedFlushIf true p dev pick next = FailsParkedFlush p dev pick next
+FailsParkedFlushIf false p dev pick next = next ≡ p
+
+-- It was done to the machine that was lent, before the caller wrote anything, and its RAM is lent as before.
+pub record IsDoneLent (m : Seen) (region : Region) (next : ParkedSeen) (does : Seen → Type 0) : Type 0 where
+  pub after : Seen
+  pub done : does after
+  pub parked : IsParked after region next
+  pub memory : after.memory ≡ m.memory
+
+-- The event, which called no disk.
+pub record IsAppliedUncalled (old : Seen) (e : Event) (reply : Reply) (new : Seen) : Type 0 where
+  pub quietly : IsAppliedQuietly old e reply new
+  pub calls : all_calls new ≡ all_calls old
+
+-- So each of these calls is one of the machine that was lent.
+abbrev pub ParkedIsApplied : Type 0
+ParkedIsApplied = (m : Seen) (p next : ParkedSeen) (region : Region) (e : Event) (reply : Reply) → IsMemory m.memory → IsBytes m.memory.bytes → IsParked m region p → IsAppliedParked p e reply next
+    → IsDoneLent m region next (IsAppliedUncalled m e reply)
+
+abbrev pub ParkedIsFlushed : Type 0
+ParkedIsFlushed = (m : Seen) (p next : ParkedSeen) (region : Region) (dev : ℕ) (result : Result (Unit {0}) DiskFault) → IsParked m region p → FlushesParked p dev result next → IsDoneLent m region next (FlushesDisk m dev result)
+
+abbrev pub ParkedFlushFails : Type 0
+ParkedFlushFails = (m : Seen) (p next : ParkedSeen) (region : Region) (dev pick : ℕ) → IsMemory m.memory → IsBytes m.memory.bytes → IsParked m region p → FailsParkedFlush p dev pick next → IsDoneLent m region next (FailsFlush m dev pick)

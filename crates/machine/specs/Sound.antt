@@ -1,5 +1,5 @@
 -- What holds of every machine.
-use Rattle.std.specs.Prelude.{◌≡◌, ℕ, ◌+◌, ◌*◌, ◌/◌, ◌%◌, ◌^◌, ◌≤◌, length, map, All, IsSomeAnd}
+use Rattle.std.specs.Prelude.{◌≡◌, ℕ, ◌+◌, ◌*◌, ◌/◌, ◌%◌, ◌^◌, ◌≤◌, List, length, map, All, IsSomeAnd}
 use Rattle.guestmem.specs.Number.{IsBytes}
 use Rattle.guestmem.specs.declared.limits.TheConstants.{PAGE_SIZE, PAGES_MAX}
 use Rattle.mmio.specs.Sound.{IsSoundRegisters}
@@ -63,6 +63,10 @@ pub record IsSoundDevice (base bytes : ℕ) (d : DeviceState) : Type 0 where
   pub registers : IsSoundRegisters d.registers
   pub positions : HavePositions (is_packed_by d.registers.common) d.registers.queues d.positions
   pub kind : IsSoundKind bytes d.registers d.kind
+
+-- These are devices of a sound machine, whose RAM has some number of bytes.
+abbrev pub AreSoundDevices : List DeviceState → Type 0
+AreSoundDevices devices = (bytes : ℕ) × All (IsSoundDevice (base_of devices) bytes) devices
 
 -- A machine is sound: 1 to 16,384 whole pages of RAM, 1 to 16 devices, each of them sound and of one base, and each disk of its device's size,
 -- with sectors that are 512 bytes or bad.

@@ -4,7 +4,7 @@ mod work;
 
 ghost use Rattle.machine.specs.AppliedLaws.{HonestDisksGiveTheirs, AnyDiskActsAlike, RefusedChangesNothing};
 ghost use Rattle.machine.specs.Calls.{OnlyStepsCall};
-ghost use Rattle.machine.specs.Parked.{BackIsWritten};
+ghost use Rattle.machine.specs.Parked.{BackIsWritten, MarkIsWritten, ParkedFlushFails, ParkedIsApplied, ParkedIsFlushed, UnnamedIsWritten};
 ghost use Rattle.machine.specs.EffectLaws.{UntouchedStays, TouchedExists, ShapeStays};
 ghost use Rattle.machine.specs.StepLaws.{EffectsAgree, StepsAgree, RunsAgree, StepStaysWithin, StepKeepsShape, StepStaysSound, RefusalsChangeNothing, MalformedIsContained, MalformedAsksForReset};
 
@@ -94,4 +94,29 @@ pub fn only_steps_call()
 /// What is given back by a caller that keeps its word is what the guest would have written, page by page.
 pub fn back_is_written()
     ensures { BackIsWritten }
+{}
+
+/// Where it names other pages, the machine is that one but for the versions of its pages, which no event reads.
+pub fn unnamed_is_written()
+    ensures { UnnamedIsWritten }
+{}
+
+/// A mark of pages is the guest's writes of these pages with the bytes that lie there.
+pub fn mark_is_written()
+    ensures { MarkIsWritten }
+{}
+
+/// An event that is applied while the RAM is lent is applied to the machine as it was lent, and its RAM is lent as before.
+pub fn parked_is_applied()
+    ensures { ParkedIsApplied }
+{}
+
+/// So it is with a flush of a disk.
+pub fn parked_is_flushed()
+    ensures { ParkedIsFlushed }
+{}
+
+/// So it is with a step whose flush fails in its place.
+pub fn parked_flush_fails()
+    ensures { ParkedFlushFails }
 {}

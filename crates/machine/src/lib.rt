@@ -50,10 +50,16 @@
 //!   `restore` gives the machine of what was saved. Where the memory for that is to be had early, `Room::new` takes it, and
 //!   `restore_in` takes no more and cannot fail. Every machine is sound (`specs/Sound`), and stays so. `lines` is the
 //!   interrupt lines.
-//! - `lend` gives the region to the caller, whose guest may write there, and keeps all else as a `Parked` machine (`specs/Parked`), to
-//!   which no event is applied. `Parked::give_back` takes the region back with the pages that were written: their versions rise, and
-//!   the log takes them in. Where no other page was written, that is what writes of these whole pages by the guest are
-//!   (`laws::back_is_written`). The rings forget what they keep, so a page that was written and not named is never read as it was.
+//! - `lend` gives the region to the caller, whose guest may write there, and keeps all else as a `Parked` machine (`specs/Parked`).
+//!   `Parked::give_back` takes the region back with the pages that were written: their versions rise, and the log takes them in. Where no
+//!   other page was written, that is what writes of these whole pages by the guest are (`laws::back_is_written`). The rings forget what
+//!   they keep, so a page that was written and not named is never read as it was: then too it is what the guest's writes are, but for the
+//!   versions (`laws::unnamed_is_written`). `mark` names pages later; it is the guest's writes of these pages with the bytes that lie there
+//!   (`laws::mark_is_written`).
+//! - What needs no byte of RAM can be done while it is lent: register accesses, input, a size of a console, flushes of disks, the next
+//!   work, the lines, the states of the devices. Each is that of the machine with whatever its RAM holds meanwhile, and so of the machine
+//!   as it was lent (`laws::parked_is_applied`, `parked_is_flushed`, `parked_flush_fails`): it makes no difference whether the guest wrote
+//!   before or after. RAM accesses, steps and what hands the machine on want the RAM back.
 //! - `are_disks_of` says whether disks are those of some devices, in their order.
 //! - `laws`: what an effect does not touch stays, what it touches exists, the shape stays. Equal outcomes give equal effects,
 //!   replies and machines, whatever a guest wrote into its rings. A step of a sound machine stays within it, keeps its shape

@@ -59,17 +59,17 @@ one_told firsts s n bytes size =
 abbrev with_page : LiveSeen → List ℕ → ℕ → LiveSeen
 with_page l bytes n = record l { machine = with_memory l.machine (written l.machine.memory (4096 * n) (page_of bytes n)); dirty = set l.dirty n true }
 
-abbrev with_all : LiveSeen → List ℕ → List ℕ → LiveSeen
+abbrev pub with_all : LiveSeen → List ℕ → List ℕ → LiveSeen
 with_all l bytes pages = record l { machine = with_memory l.machine (pages_written l.machine.memory pages bytes); dirty = with_pages l.dirty pages }
 
 -- All that is known of it on the way.
-record IsReady (l : LiveSeen) (bytes pages : List ℕ) : Type 0 where
-  places : HasPlaces l
-  memory : IsMemory l.machine.memory
-  goes : l.phase ≢ phases.Stopped
-  below : AreBelow (length l.machine.memory.versions) pages
-  long : length bytes ≡ length l.machine.memory.bytes
-  are : IsBytes bytes
+pub record IsReady (l : LiveSeen) (bytes pages : List ℕ) : Type 0 where
+  pub places : HasPlaces l
+  pub memory : IsMemory l.machine.memory
+  pub goes : l.phase ≢ phases.Stopped
+  pub below : AreBelow (length l.machine.memory.versions) pages
+  pub long : length bytes ≡ length l.machine.memory.bytes
+  pub are : IsBytes bytes
 
 abbrev write_of : LiveSeen → List ℕ → ℕ → Event
 write_of l bytes n = MemWrite (page_address l.machine n) (page_of bytes n)
@@ -113,7 +113,7 @@ all_served : (l : LiveSeen) (bytes pages : List ℕ) → IsReady l bytes pages �
 all_served l bytes [] ready = refl
 all_served l bytes (n ∷ pages) ready = (with_page l bytes n, served l bytes n pages ready, all_served (with_page l bytes n) bytes pages (ready_still l bytes n pages ready))
 
-all_related : (m : MachineState) (h : History) (out : SinkState) (l : LiveSeen) (bytes pages : List ℕ) → Relates m h out l → IsReady l bytes pages → BackGoesOn m h out (page_writes (live_base l) pages bytes) (with_all l bytes pages)
+pub all_related : (m : MachineState) (h : History) (out : SinkState) (l : LiveSeen) (bytes pages : List ℕ) → Relates m h out l → IsReady l bytes pages → BackGoesOn m h out (page_writes (live_base l) pages bytes) (with_all l bytes pages)
 unfolding texts
 all_related m h out l bytes [] rel ready = record { history = h; relates = rel; came = sym (append-nil (guest_events h)); text_is = refl }
 all_related m h out l bytes (n ∷ pages) rel ready =

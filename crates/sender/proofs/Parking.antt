@@ -5,7 +5,7 @@ use Rattle.guestmem.specs.Item.{MayPages, after_all, page}
 use Rattle.guestmem.specs.Lent.{page_items}
 use Rattle.guestmem.specs.Memory.{IsMemory}
 use Rattle.machine.specs.Layout.{Layout, layout_of, size_of}
-use Rattle.machine.specs.Parked.{ParkedSeen}
+use Rattle.machine.specs.Parked.{ParkedSeen, machine_marked}
 use Rattle.machine.specs.Seen.{DeviceSeen, Seen, state_of}
 use Rattle.machine.specs.Sound.{IsSound}
 use Rattle.machine.proofs.Numbering.{number_below}
@@ -20,7 +20,7 @@ use Rattle.sender.proofs.Living.{all_noted, fit_next}
 same_parts : (a b : ℕ) (xs ys : List ℕ) → a ≡ b → xs ≡ ys → ◌≡◌ {A = Layout} (record { pages = a; disks = xs }) (record { pages = b; disks = ys })
 same_parts a b xs ys e f = rw (e, f) refl
 
-layout_is : (m : Seen) (p : ParkedSeen) → length m.memory.bytes ≡ 4096 * length p.versions → p.devices ≡ m.devices → layout_of (state_of m) ≡ parked_layout p
+pub layout_is : (m : Seen) (p : ParkedSeen) → length m.memory.bytes ≡ 4096 * length p.versions → p.devices ≡ m.devices → layout_of (state_of m) ≡ parked_layout p
 layout_is m p whole devices =
     same_parts (length m.memory.bytes / 4096) (length p.versions) _ _ (omega (arith, whole)) (ap (λ (ds : List DeviceSeen). map length (map (λ (d : DeviceSeen). d.sectors) ds)) (sym devices))
 
@@ -58,3 +58,20 @@ noted_pages d pages = all_noted d (page_items pages) ∙ ap (λ (s : List Bool).
 pub length-with_pages : (s : List Bool) (pages : List ℕ) → length (with_pages s pages) ≡ length s
 length-with_pages s [] = refl
 length-with_pages s (n ∷ pages) = length-with_pages (set s n true) pages ∙ length-set s n true
+
+-- So may that of a machine whose RAM is not lent.
+pub may_marks : (m : Seen) (phase : Phase) (due : List Bool) (d : Dirty) (at : ℕ) → IsLive m phase due d.set d.firsts.items at → MayPages may_take d (length m.memory.bytes)
+may_marks m phase due d at live n inside =
+    let within : n < length m.memory.bytes / 4096 = omega (arith, live.sound.whole_pages, inside) in
+    let below : n < size_of (layout_of (state_of m)) = number_below (layout_of (state_of m)) (page n) within in
+    record {
+      first = tt;
+      place = omega (arith, below, live.sets.dirty_size);
+      few = omega (arith, live.sets.few, live.sets.due_size, live.sets.dirty_size);
+    }
+
+pub marked_live : (m : Seen) (phase : Phase) (due dirty : List Bool) (firsts : List ℕ) (at : ℕ) (pages : List ℕ) → IsLive m phase due dirty firsts at → IsLive (machine_marked m pages) phase due (with_pages dirty pages) firsts at
+marked_live m phase due dirty firsts at pages live = record {
+  sound = live.sound;
+  sets = fit_next (layout_of (state_of m)) phase phase due due dirty (with_pages dirty pages) firsts firsts at at live.sets refl (length-with_pages dirty pages) refl live.sets.round live.sets.reached live.sets.passed;
+}

@@ -13,7 +13,7 @@ use Rattle.blk.specs.Sectors.{AreWhole, IsWhole, Sector, is_bad}
 use Rattle.machine.specs.Shapes.{made_as}
 use Rattle.machine.specs.EffectLaws.{sector_on}
 use Rattle.machine.specs.Layout.{pages_of}
-use Rattle.machine.specs.Sound.{IsSound, IsSoundDevice, IsSoundShape}
+use Rattle.machine.specs.Sound.{AreSoundDevices, IsSound, IsSoundDevice, IsSoundShape}
 use Rattle.machine.specs.State.{DeviceState, MachineState, base_of}
 use Rattle.machine.specs.Step.{disk_of, disk_or_none}
 use Rattle.machine.proofs.At.{whole_disk}
@@ -102,17 +102,17 @@ disk_told m dev sectors bad h =
     omega (arith, text, long, counted, h.all, h.are_bad, size, few_bad m dev sectors bad h)
 
 -- The devices, one by one.
-pub device_is_sound : (m : MachineState) (n : ℕ) (d : DeviceState) → IsSound m → slice_get m.devices n ≡ Some d → IsSoundDevice (base_of m.devices) (length m.ram) d
-device_is_sound m n d sound is = subst (IsSoundDevice (base_of m.devices) (length m.ram)) (get_or_from_slice_get m.devices n d d is) (sound.devices n d (slice_get_within m.devices n d is))
+pub state_sound : (states : List DeviceState) (n : ℕ) (d : DeviceState) → (sound : AreSoundDevices states) → slice_get states n ≡ Some d → IsSoundDevice (base_of states) sound.0 d
+state_sound states n d sound is = subst (IsSoundDevice (base_of states) sound.0) (get_or_from_slice_get states n d d is) (sound.1 n d (slice_get_within states n d is))
 
 pub shapes_are_sound : (m : MachineState) → IsSound m → All IsSoundShape (shapes_in m.devices)
 shapes_are_sound m sound = All-map IsSoundShape (λ (d : DeviceState). made_as d.kind) m.devices (λ k d below. (sound.devices k d below).shape)
 
-pub one_device : (m : MachineState) (n : ℕ) (d : DeviceState) → slice_get m.devices n ≡ Some d → n < length m.devices
-    → length (device_texts 0 (take (n + 1) m.devices)) ≡ length (device_texts 0 (take n m.devices)) + length (spelled_record (device n (body d)))
-one_device m n d is below =
-    let more = device_more [] m.devices (shapes_in m.devices) d n refl (omega (arith, below, length-map m.devices (λ (x : DeviceState). made_as x.kind))) is in
-    sym (ap length more) ∙ length-append (device_texts 0 (take n m.devices)) (spelled_record (device n (body d)))
+pub one_state : (states : List DeviceState) (n : ℕ) (d : DeviceState) → slice_get states n ≡ Some d → n < length states
+    → length (device_texts 0 (take (n + 1) states)) ≡ length (device_texts 0 (take n states)) + length (spelled_record (device n (body d)))
+one_state states n d is below =
+    let more = device_more [] states (shapes_in states) d n refl (omega (arith, below, length-map states (λ (x : DeviceState). made_as x.kind))) is in
+    sym (ap length more) ∙ length-append (device_texts 0 (take n states)) (spelled_record (device n (body d)))
 
 -- All parts.
 pub whole_long : (m : MachineState) (head pages sectors devices : ℕ) → head ≡ length (header (opening_of (pages_of m) (shapes_in m.devices))) → pages ≡ length (texts (records_below m (pages_of m))) → sectors ≡ length (sectors_text m) → devices ≡ length (device_texts 0 m.devices)

@@ -13,4 +13,6 @@ pub mod Ran
 pub mod Taking
 pub mod Parked
 pub mod Unsynced
+pub mod ParkedCalls
+pub mod Marks
 pub mod Guests

@@ -2,7 +2,9 @@
 
 ghost use Rattle.sender.specs.Follows.{CallsFollow};
 ghost use Rattle.sender.specs.HistoryLaws.{AfterIsRun, FreshIsLast, OneHistory, StaleIsNotFresh, StoppedIsStream};
+ghost use Rattle.sender.specs.Marks.{BackIsBehind, BehindByNone, CallsStayBehind, FailureStaysBehind, FlushStaysBehind, LentIsBehind, MarksCatchUp, TakenStaysBehind, TakingStaysBehind};
 ghost use Rattle.sender.specs.Parked.{LiveBackFollows, LiveBackIsServed};
+ghost use Rattle.sender.specs.ParkedCalls.{LentFollows, LiveParkedFlushFails, LiveParkedIsFlushed, LiveParkedIsServed};
 ghost use Rattle.sender.specs.Reads.{UncalledIsSame};
 ghost use Rattle.sender.specs.Taking.{CallsIgnoreTaken, TakenAreWhole, TakenFollow};
 ghost use Rattle.sender.specs.Told.{HonestDisksTellContents};
@@ -90,4 +92,73 @@ pub fn flush_keeps_the_history()
 /// A machine that a call leaves unchanged but for the calls of its disks is unchanged where that call made none.
 pub fn uncalled_is_same()
     ensures { UncalledIsSame }
+{}
+
+/// What is served while the RAM is lent is served to the machine as it was lent, and its RAM is lent as before.
+pub fn live_parked_is_served()
+    ensures { LiveParkedIsServed }
+{}
+
+/// So it is with a flush of a disk.
+pub fn live_parked_is_flushed()
+    ensures { LiveParkedIsFlushed }
+{}
+
+/// So it is with a flush that fails in place of its step.
+pub fn live_parked_flush_fails()
+    ensures { LiveParkedFlushFails }
+{}
+
+/// The history of a machine whose RAM was lent continues with the calls that were made meanwhile, and then with the writes of the pages that
+/// are named when the RAM is given back.
+pub fn lent_follows_the_history()
+    ensures { LentFollows }
+{}
+
+/// Where only some of the pages that were written are named, the history continues with the writes of all, and the machine is behind its
+/// history by no page but those that are still to be named.
+pub fn back_is_behind()
+    ensures { BackIsBehind }
+{}
+
+/// So it is where calls were made while the RAM was lent, and bytes taken.
+pub fn lent_is_behind()
+    ensures { LentIsBehind }
+{}
+
+/// Each call, made as a caller may, adds to the history what it would add if no page were missing, and the machine is behind by no more
+/// after it. A round is ended, and a stop made, once no page is missing.
+pub fn calls_stay_behind()
+    ensures { CallsStayBehind }
+{}
+
+/// The same if part of the stream was taken out before.
+pub fn taken_stays_behind()
+    ensures { TakenStaysBehind }
+{}
+
+/// So it is with a taking itself.
+pub fn taking_stays_behind()
+    ensures { TakingStaysBehind }
+{}
+
+/// So it is with a flush that fails by `Live::fail_flush`.
+pub fn failed_flush_stays_behind()
+    ensures { FailureStaysBehind }
+{}
+
+/// A flush by `Live::flush_disk` leaves it as it is.
+pub fn flush_stays_behind()
+    ensures { FlushStaysBehind }
+{}
+
+/// Once pages are marked, the history continues with a write of each with the bytes that lie there, and the machine is behind by those
+/// alone that are still to be named.
+pub fn marks_catch_up()
+    ensures { MarksCatchUp }
+{}
+
+/// A machine that is behind by no page is what its history makes of it, and the other way round.
+pub fn behind_by_none_is_not_behind()
+    ensures { BehindByNone }
 {}

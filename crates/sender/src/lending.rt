@@ -1,14 +1,22 @@
 //! Machines that are being migrated, and whose RAM is lent.
 
-ghost use Rattle.std.specs.Prelude.{◌≡◌, ◌*◌, ◌++◌, [], Some, drop, false, length, min, take};
+mod calls;
+
+ghost use Rattle.std.specs.Prelude.{◌≡◌, ◌+◌, ◌*◌, ◌<◌, ◌≤◌, ◌^◌, ◌++◌, [], Some, drop, false, length, min, take};
+ghost use Rattle.dirtylog.specs.Members.{member_count};
+ghost use Rattle.machine.specs.Parked.{WhateverRam};
 ghost use Rattle.wire.specs.Sinks.{Takes, over_writer};
 ghost use Rattle.region.specs.Address.{address};
 ghost use Rattle.guestmem.specs.Lent.{AreBelow, given_back};
 ghost use Rattle.guestmem.specs.declared.limits.TheConstants.{PAGE_SIZE};
+ghost use Rattle.sender.specs.Calls.{StopsWithin};
 ghost use Rattle.sender.specs.Parked.{IsLiveParked, live_back};
 
 use crate::dirty::Dirty;
+use crate::event::{Left, Remaining};
+use crate::left::{left_of, most_bytes};
 use crate::live::LiveOver;
+use crate::measuring::devices_len;
 use crate::phase::Phase;
 use dirtylog::BitSet;
 use machine::{Disk, Parked};
@@ -16,7 +24,8 @@ use region::Region;
 use std::marker::Model;
 use wire::{Digesting, Eager, Sink, Waiting};
 
-/// A machine that is being migrated, and whose RAM is lent. No call is made of it, and nothing of it is sent.
+/// A machine that is being migrated, and whose RAM is lent. What needs none of its bytes can be done to it, and what was written can be
+/// taken; nothing of it is sent.
 #[derive(Drop)]
 pub struct LiveParked<D: Disk, W: Digesting> {
     pub(crate) parked: Parked<D>,
@@ -44,6 +53,47 @@ impl<D: Disk, W: Digesting> LiveParked<D, W> {
         ensures { result ≡ length self.now.parked.versions }
     {
         self.parked.pages()
+    }
+
+    /// How far its migration has come.
+    pub fn phase(&self) -> Phase
+        ensures { result ≡ self.now.phase }
+    {
+        self.phase
+    }
+
+    /// How many items are due, and how many are dirty. It takes constant time.
+    pub fn remaining(&self) -> Remaining
+        ensures due { result.due ≡ member_count self.now.due }
+        ensures dirty { result.dirty ≡ member_count self.now.dirty }
+    {
+        Remaining {
+            due: self.due.count(),
+            dirty: self.dirty.set.count(),
+        }
+    }
+
+    /// What `remaining` counts, with pages and sectors apart. It looks at the place of each page in both sets.
+    pub fn left(&self) -> Left
+        ensures due_pages { result.due_pages ≡ member_count (take (length self.now.parked.versions) self.now.due) }
+        ensures due_sectors { result.due_sectors ≡ member_count (drop (length self.now.parked.versions) self.now.due) }
+        ensures dirty_pages { result.dirty_pages ≡ member_count (take (length self.now.parked.versions) self.now.dirty) }
+        ensures dirty_sectors { result.dirty_sectors ≡ member_count (drop (length self.now.parked.versions) self.now.dirty) }
+        ensures few_pages { result.due_pages + result.dirty_pages ≤ 32768 }
+        ensures few_sectors { result.due_sectors + result.dirty_sectors < 2 ^ 38 }
+    {
+        self.parked.recall();
+        let pages = self.parked.pages() as u64;
+        left_of(&self.due, &self.dirty.set, pages)
+    }
+
+    /// The most bytes that a stop would write, if no further page were dirty (`LiveOver::most_by_stop`).
+    pub fn most_by_stop(&self) -> u64
+        ensures { WhateverRam self.now.parked (λ m. StopsWithin (live_back self.now m []) result) }
+    {
+        self.parked.recall();
+        let items = self.left();
+        most_bytes(items, devices_len(self.parked.devices()))
     }
 
     /// The machine, whose RAM is lent.

@@ -7,6 +7,7 @@
 //! both from each item on would go over the rest of a set that has one late member for each item of the other.
 
 ghost use Rattle.std.specs.Prelude.{◌≡◌, ◌≢◌, ◌<◌, ◌^◌, ◌-◌, ◌+◌, ◌≤◌, ◌++◌, IfOk, IfErr, None, OnOk, Some, [], drop, false, length, min, take, true};
+ghost use Rattle.guestmem.specs.Lent.{AreBelow};
 ghost use Rattle.dirtylog.specs.Members.{HasNone, IsLeastFrom, member_count};
 ghost use Rattle.machine.specs.declared.event.Event.TheVariants as events;
 ghost use Rattle.machine.specs.Calls.{CallsDisk};
@@ -14,6 +15,7 @@ ghost use Rattle.machine.specs.Layout.{item_at, layout_of, pages_of, size_of};
 ghost use Rattle.wire.specs.Sinks.{Covers, Takes, over_writer};
 ghost use Rattle.sender.specs.LiveState.{HasPlaces, now, refusal_for};
 ghost use Rattle.sender.specs.Calls.{Serves, StopsWithin, begun_reply, copied_reply, ended_reply, guest_reply, stepped_result, stopped_reply};
+ghost use Rattle.sender.specs.Marks.{live_marked};
 ghost use Rattle.sender.specs.Parked.{IsLiveParked};
 ghost use Rattle.sender.specs.Reads.{CallsNone, HasLiveCalled, ReadsItem, SendCalls};
 ghost use Rattle.sender.specs.Unsynced.{FlushesLiveDisk, TriesFlush};
@@ -21,6 +23,7 @@ ghost use Rattle.sender.specs.Stopping.{ClosesStream, HasNoneUpTo, IsLive, Sends
 
 use crate::dirty::Dirty;
 use crate::event::{CopyAnswer, End, Item, Left, LiveEvent, LiveReply, Remaining, Stopped};
+use crate::left::{left_of, most_bytes};
 use crate::lending::LiveParked;
 use crate::measuring::devices_len;
 use crate::mig_error::MigError;
@@ -32,10 +35,7 @@ use machine::{Disk, DiskFault, Event, Machine, Reply, Stepped};
 use region::Region;
 use std::alloc::{AllocError, Global};
 use std::marker::Model;
-use wire::{
-    COMMIT_RECORD, Digesting, Eager, GOOD_SECTOR_RECORD, PAGE_RECORD, Sink, Waiting, encode_header,
-    encode_round,
-};
+use wire::{Digesting, Eager, Sink, Waiting, encode_header, encode_round};
 
 /// The last round that the record of a round's end can number. It can't be ended.
 const LAST_ROUND: u32 = u32::MAX;
@@ -209,15 +209,7 @@ impl<D: Disk, W: Digesting> LiveOver<D, W> {
         ensures few_sectors { result.due_sectors + result.dirty_sectors < 2 ^ 38 }
     {
         self.recall();
-        let pages = page_count(&self.machine);
-        let due_pages = self.due.count_below(pages);
-        let dirty_pages = self.dirty.set.count_below(pages);
-        Left {
-            due_pages,
-            due_sectors: self.due.count() - due_pages,
-            dirty_pages,
-            dirty_sectors: self.dirty.set.count() - dirty_pages,
-        }
+        left_of(&self.due, &self.dirty.set, page_count(&self.machine))
     }
 
     /// The most bytes that a stop would write: as if no page were of zeros, no sector bad, and no item both due and dirty. It looks at the
@@ -227,9 +219,7 @@ impl<D: Disk, W: Digesting> LiveOver<D, W> {
     {
         self.recall();
         let items = self.left();
-        let pages = PAGE_RECORD as u64 * (items.due_pages + items.dirty_pages);
-        let sectors = GOOD_SECTOR_RECORD as u64 * (items.due_sectors + items.dirty_sectors);
-        pages + sectors + devices_len(&self.machine) + COMMIT_RECORD as u64
+        most_bytes(items, devices_len(self.machine.devices()))
     }
 
     /// The machine as it is.
@@ -301,6 +291,16 @@ impl<D: Disk, W: Digesting> LiveOver<D, W> {
                 dirty,
             }),
         }
+    }
+
+    /// Names pages that the caller wrote while the RAM was lent, and did not name when it gave the RAM back: they are dirty. Each page
+    /// that was written is named by the return or by a mark before the next end of a round and before the stop; the history goes
+    /// on by a write of each page with the bytes that lie there (`laws::marks_catch_up`). No byte is read or written.
+    pub fn mark(&mut self, pages: &[u32])
+        requires { AreBelow (length self.old.machine.memory.versions) pages.now }
+        ensures { self.new ≡ live_marked self.old pages.now }
+    {
+        self.machine.mark(pages, &mut self.dirty);
     }
 
     fn refusal(&self, event: &LiveEvent) -> Option<MigError>

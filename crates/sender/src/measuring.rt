@@ -2,14 +2,16 @@
 //!
 //! Since version 2 the length depends on RAM, as pages of zeros have a short record. So each page is looked at.
 
-ghost use Rattle.std.specs.Prelude.{◌≡◌, ◌<◌, ◌≤◌, length};
+ghost use Rattle.std.specs.Prelude.{◌≡◌, ◌<◌, ◌≤◌, length, map};
 ghost use Rattle.machine.specs.Seen.{state_of};
 ghost use Rattle.machine.specs.Layout.{pages_of};
+ghost use Rattle.machine.specs.Sound.{AreSoundDevices};
+ghost use Rattle.machine.specs.declared.machine.TheConstants.{DEVICES_MAX};
 ghost use Rattle.wire.specs.Stream.{device_texts, records_below, texts, whole};
 ghost use Rattle.sender.specs.Items.{disk_text, sectors_text};
 
 use crate::numbering::{page_count, sector_count};
-use machine::{Disk, Machine};
+use machine::{Device, Disk, Machine};
 use wire::{
     BAD_SECTOR_RECORD, COMMIT_RECORD, GOOD_SECTOR_RECORD, device_len, header_len, page_len,
 };
@@ -19,8 +21,9 @@ use wire::{
 pub fn saved_len<D: Disk>(machine: &Machine<D>) -> u64
     ensures { result ≡ length (whole (state_of machine.now)) }
 {
-    let parts = pages_len(machine) + sectors_len(machine) + devices_len(machine);
-    header_len(machine.shapes()) + parts + COMMIT_RECORD as u64
+    let shapes = machine.shapes();
+    let parts = pages_len(machine) + sectors_len(machine) + devices_len(machine.devices());
+    header_len(shapes) + parts + COMMIT_RECORD as u64
 }
 
 /// The length of the records of all pages.
@@ -60,14 +63,16 @@ fn disk_len<D: Disk>(machine: &Machine<D>, dev: u8) -> u64
     GOOD_SECTOR_RECORD as u64 * good + BAD_SECTOR_RECORD as u64 * bad
 }
 
-/// The length of the records of all devices.
-pub(crate) fn devices_len<D: Disk>(machine: &Machine<D>) -> u64
-    ensures len { result ≡ length (device_texts 0 (state_of machine.now).devices) }
+/// The length of the records of all devices of a machine.
+pub(crate) fn devices_len<D: Disk>(devices: &[Device<D>]) -> u64
+    requires few { length devices.now ≤ DEVICES_MAX }
+    requires sound { AreSoundDevices (map (λ d. d.state) devices.now) }
+    ensures len { result ≡ length (device_texts 0 (map (λ d. d.state) devices.now)) }
     ensures short { result ≤ 2097248 }
 {
     let mut len = 0;
-    for number in 0..machine.shapes().len() as u8 {
-        len += device_len(machine.state(number));
+    for device in devices {
+        len += device_len(device.state());
     }
     len
 }

@@ -1,12 +1,15 @@
 //! The laws of RAM, machines, streams and traces: functions that do nothing, whose contracts are the laws.
 
-pub use guestmem::laws::{given_back_is_written, later_in_turn, refusals_at_zero, rises_in_turn};
+pub use guestmem::laws::{
+    given_back_is_written, later_in_turn, marked_is_written, refusals_at_zero, rises_in_turn,
+};
 pub use machine::laws::{
     any_disk_acts_alike, back_is_written, effects_agree, honest_disks_give_theirs,
-    idle_without_work, malformed_asks_for_reset, malformed_is_contained, only_steps_call,
+    idle_without_work, malformed_asks_for_reset, malformed_is_contained, mark_is_written,
+    only_steps_call, parked_flush_fails, parked_is_applied, parked_is_flushed,
     refusals_change_nothing, refused_changes_nothing, runs_agree, shape_stays, step_keeps_shape,
-    step_stays_sound, step_stays_within, steps_agree, touched_exists, untouched_stays,
-    work_gets_on,
+    step_stays_sound, step_stays_within, steps_agree, touched_exists, unnamed_is_written,
+    untouched_stays, work_gets_on,
 };
 pub use receiver::laws::{
     faults_stand_early, faults_stay, no_fault_in_a_stream, one_fault, rounds_of_a_stream,
@@ -18,11 +21,15 @@ pub use rehearsal::laws::{
     takings_stay_moving,
 };
 pub use sender::laws::{
-    after_is_run, calls_follow, calls_ignore_what_was_taken, failed_flush_follows_the_history,
-    flush_keeps_the_history, fresh_is_last, honest_disks_tell_contents,
-    live_back_follows_the_history, live_back_is_served, replies_settle, stale_is_not_fresh,
-    stopped_is_a_stream, taken_failed_flush_follows_the_history, taken_follows_the_history,
-    taken_is_whole, uncalled_is_same,
+    after_is_run, back_is_behind, behind_by_none_is_not_behind, calls_follow,
+    calls_ignore_what_was_taken, calls_stay_behind, failed_flush_follows_the_history,
+    failed_flush_stays_behind, flush_keeps_the_history, flush_stays_behind, fresh_is_last,
+    honest_disks_tell_contents, lent_follows_the_history, lent_is_behind,
+    live_back_follows_the_history, live_back_is_served, live_parked_flush_fails,
+    live_parked_is_flushed, live_parked_is_served, marks_catch_up, replies_settle,
+    stale_is_not_fresh, stopped_is_a_stream, taken_failed_flush_follows_the_history,
+    taken_follows_the_history, taken_is_whole, taken_stays_behind, taking_stays_behind,
+    uncalled_is_same,
 };
 pub use traces::laws::{events_are_read_in_one_way, texts_are_read_in_one_way};
 pub use wire::laws::{

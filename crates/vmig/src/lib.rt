@@ -42,7 +42,8 @@ mod words;
 
 pub use dirtylog::BitSet;
 pub use guestmem::{
-    ACCESS_MAX, NoLog, NoMemory, PAGE_SIZE, PAGES_MAX, Ram, RamError, TouchLog, Touched, is_zero,
+    ACCESS_MAX, Both, NoLog, NoMemory, PAGE_SIZE, PAGES_MAX, Ram, RamError, TouchLog, Touched,
+    is_zero,
 };
 pub use machine::{
     Board, Bytes, DEVICES_MAX, DeviceState, Disk, DiskFault, Event, FaultDisk, FileDisk, Kind,

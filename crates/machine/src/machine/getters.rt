@@ -85,6 +85,13 @@ impl<D: Disk> Machine<D> {
         }
     }
 
+    /// The devices, in order, each with its disk.
+    pub fn devices(&self) -> &[Device<D>]
+        ensures { result.now ≡ self.now.devices }
+    {
+        self.devices.as_slice()
+    }
+
     /// The devices, in order, each with its disk. The RAM is dropped.
     pub fn into_devices(self) -> Vec<Device<D>>
         ensures { result.items ≡ self.devices }

@@ -3,14 +3,18 @@
 //! What the rings keep of descriptors is emptied: a page that was written and not named keeps its version, so a kept descriptor
 //! could be wrong, and what a ring answers would be no function of RAM.
 
-ghost use Rattle.std.specs.Prelude.{◌≡◌, ◌*◌, ◌≤◌, length, map, None, IfOk, IfErr};
+mod calls;
+
+ghost use Rattle.std.specs.Prelude.{◌≡◌, ◌*◌, ◌<◌, ◌≤◌, length, map, None, Some, IfOk, IfErr, slice_get};
 ghost use Rattle.region.specs.Address.{address};
 ghost use Rattle.guestmem.specs.Item.{MayPages, after_all};
 ghost use Rattle.guestmem.specs.Lent.{AreBelow, given_back, page_items};
 ghost use Rattle.guestmem.specs.declared.limits.TheConstants.{PAGE_SIZE, PAGES_MAX};
 ghost use Rattle.machine.specs.Lines.{lines_of};
-ghost use Rattle.machine.specs.Parked.{IsParked, back_with};
+ghost use Rattle.machine.specs.Parked.{IsParked, WhateverRam, back_with, machine_marked, parked_states};
+ghost use Rattle.machine.specs.Seen.{state_of};
 ghost use Rattle.machine.specs.Shapes.{made_as};
+ghost use Rattle.machine.specs.Sound.{IsSound};
 ghost use Rattle.machine.specs.State.{base_of};
 ghost use Rattle.machine.specs.declared.machine.TheConstants.{DEVICES_MAX};
 
@@ -20,13 +24,14 @@ use crate::forgetting::forget_all;
 use crate::machine::Machine;
 use crate::machine::getters::{base_of, lines_of};
 use crate::shape::Shape;
+use crate::state::DeviceState;
 use blk::Disk;
 use guestmem::{ParkedRam, TouchLog};
 use region::Region;
 use std::alloc::Global;
 use std::marker::Model;
 
-/// A machine whose RAM is lent: all of it but the bytes of its RAM. No event is applied to it.
+/// A machine whose RAM is lent: all of it but the bytes of its RAM. What needs none of them can be done to it.
 #[derive(Drop)]
 pub struct Parked<D: Disk> {
     alloc: Global,
@@ -74,6 +79,18 @@ impl<D: Disk> Machine<D> {
             Err(ram) => Err(Machine { ram, ..self }),
         }
     }
+
+    /// Names pages that the caller wrote while the RAM was lent, and did not name when it gave the RAM back: their versions rise, and
+    /// the log takes them in. No byte is read or written. It takes time for these pages alone, and no memory.
+    pub fn mark<L: TouchLog>(&mut self, pages: &[u32], log: &mut L)
+        requires below { AreBelow (length self.old.memory.versions) pages.now }
+        requires may { MayPages L.may log.old (length self.old.memory.bytes) }
+        ensures machine { self.new ≡ machine_marked self.old pages.now }
+        ensures log { log.new ≡ after_all L.after log.old (page_items pages.now) }
+        ensures may { MayPages L.may log.new (length self.new.memory.bytes) }
+    {
+        self.ram.mark(pages, log);
+    }
 }
 
 impl<D: Disk> Parked<D> {
@@ -92,7 +109,7 @@ impl<D: Disk> Parked<D> {
         base_of(self.devices.as_slice())
     }
 
-    /// The interrupt lines, as they were when the RAM was lent (`Machine::lines`).
+    /// The interrupt lines (`Machine::lines`).
     #[tactic(auto, using(crate::proofs::Parking::few_devices))]
     pub fn lines(&self) -> u16
         ensures { result ≡ lines_of (map (λ d. d.state) self.now.devices) }
@@ -109,6 +126,31 @@ impl<D: Disk> Parked<D> {
     {
         let _pages = self.ram.pages();
         self.shapes.as_slice()
+    }
+
+    /// The devices, in order, each with its disk.
+    pub fn devices(&self) -> &[Device<D>]
+        ensures { result.now ≡ self.now.devices }
+    {
+        self.devices.as_slice()
+    }
+
+    /// The state of a device, without its disk: what a step owes (`DeviceState::must_sync`), and how much its kind holds of what the host
+    /// has put in.
+    pub fn state(&self, dev: u8) -> &DeviceState
+        requires { dev < length self.now.devices }
+        ensures { slice_get (parked_states self.now) dev ≡ Some result.now }
+    {
+        self.devices[dev as usize].state()
+    }
+
+    /// For proofs: whatever the RAM holds meanwhile, the machine is sound.
+    pub fn recall(&self)
+        ensures some { 1 ≤ length self.now.versions }
+        ensures few { length self.now.versions ≤ PAGES_MAX }
+        ensures sound { WhateverRam self.now (λ m. IsSound (state_of (back_with self.now m))) }
+    {
+        let _pages = self.ram.pages();
     }
 
     /// The machine whose RAM is given back: its bytes are those that lie there now, and these pages were written meanwhile,

@@ -4,13 +4,16 @@
 //! step then clears the flag. In turn are all picks of a device, then the next device, from the step after the last one made:
 //! so nobody is left out, and the caller keeps two bytes.
 
-ghost use Rattle.std.specs.Prelude.{◌≡◌, ◌+◌, ◌-◌, ◌*◌, ◌<◌, ◌≤◌, Bool, true, false, None, IfSome, slice_index_or};
+ghost use Rattle.std.specs.Prelude.{◌≡◌, ◌+◌, ◌-◌, ◌*◌, ◌<◌, ◌≤◌, Bool, true, false, None, IfSome, length, map, slice_index_or};
 ghost use Rattle.std.specs.List.{find};
 ghost use Rattle.machine.specs.NextWork.{HaveNoWork, NoneCanWork, can_work_at, has_work_at, in_turn_after, next_from, next_work, next_work_with_lost};
 ghost use Rattle.machine.specs.Seen.{state_of};
+ghost use Rattle.machine.specs.Sound.{AreSoundDevices};
+ghost use Rattle.machine.specs.declared.machine.TheConstants.{DEVICES_MAX};
 ghost use Rattle.machine.specs.declared.work.Work.{Work};
 
-use crate::machine::{DEVICES_MAX, Machine};
+use crate::device::Device;
+use crate::machine::Machine;
 use crate::work::Work;
 use blk::Disk;
 
@@ -38,19 +41,34 @@ impl<D: Disk> Machine<D> {
         ensures some { IfSome result (λ work. can_work_at lost.now (state_of self.now).devices work ≡ true) }
         ensures none { result ≡ None → NoneCanWork lost.now (state_of self.now).devices }
     {
-        let devices = self.shapes().len();
-        let (first, pick) = first_in_turn(last, devices);
-        let mut from = pick;
-        // Once around, and then the first device once more, for its picks up to the last one.
-        for turn in first..first + devices + 1 {
-            let dev = device_in_turn(turn, devices);
-            if let Some(pick) = self.state(dev).first_pick(from, is_lost(lost, dev)) {
-                return Some(Work { dev, pick });
-            }
-            from = 0;
-        }
-        None
+        next_in_turn(self.devices.as_slice(), last, lost)
     }
+}
+
+/// The first step in turn after the last one that has something to do and may be made, of the devices of a machine.
+pub(super) fn next_in_turn<D: Disk>(
+    devices: &[Device<D>],
+    last: Work,
+    lost: &[bool],
+) -> Option<Work>
+    requires some { 1 ≤ length devices.now }
+    requires few { length devices.now ≤ DEVICES_MAX }
+    requires sound { AreSoundDevices (map (λ d. d.state) devices.now) }
+    ensures { result ≡ next_work_with_lost (map (λ d. d.state) devices.now) lost.now last }
+{
+    let count = devices.len();
+    let (first, pick) = first_in_turn(last, count);
+    let mut from = pick;
+    // Once around, and then the first device once more, for its picks up to the last one.
+    for turn in first..first + count + 1 {
+        let dev = device_in_turn(turn, count);
+        let device = &devices[dev as usize];
+        if let Some(pick) = device.state().first_pick(from, is_lost(lost, dev)) {
+            return Some(Work { dev, pick });
+        }
+        from = 0;
+    }
+    None
 }
 
 /// The device and the pick with which the search begins: the step after the last one, or the first of all.

@@ -1,37 +1,34 @@
-use Rattle.std.proofs.Common.{[], length, ap, sym, ◌∙◌, arith}
-use Rattle.std.proofs.lemmas.List.{length-map}
-use Rattle.machine.specs.Shapes.{made_as}
-use Rattle.machine.specs.Seen.{state_of}
+use Rattle.std.proofs.Common.{◌≡◌, Some, [], length, map, ap, sym, ◌∙◌, arith}
+use Rattle.std.proofs.lemmas.List.{length-map, take_all}
+use Rattle.std.specs.Prelude.{slice_get}
+use Rattle.machine.specs.Seen.{DeviceSeen}
 use Rattle.machine.specs.State.{DeviceState, base_of}
+use Rattle.machine.proofs.At.{found}
 use Rattle.wire.proofs.Saving.{no_devices}
-use Rattle.sender.proofs.SavedLengths.{device_is_sound, one_device}
+use Rattle.sender.proofs.SavedLengths.{one_state, state_sound}
 use Rattle.sender.proofs.measuring.devices_len.Goals as goal
 
-pub loop-number-init : goal.loop-number-init
-loop-number-init g c =
-    let m = state_of c.args.machine.now in
-    let end = ap length c.shapes.ensures.shapes ∙ length-map m.devices (λ (d : DeviceState). made_as d.kind) in
-    record {
-      sound = c.shapes.ensures.sound;
-      end = end;
-      few = omega (arith, end, c.shapes.ensures.sound.few_devices);
-      low = omega arith;
-      sum = sym (ap length (no_devices []));
-    }
+pub loop-device-init : goal.loop-device-init
+loop-device-init g c = record { low = omega arith; sum = sym (ap length (no_devices [])) }
 
 pub device_len-len-requires : goal.device_len-len-requires
 device_len-len-requires g c =
-    let m = state_of c.args.machine.now in
-    record { sound = (base_of m.devices, length m.ram, device_is_sound m c.loop-number.number c.state.result.now c.loop-number.invariant.sound c.state.ensures) }
+    let states = map (λ (d : DeviceSeen). d.state) c.args.devices.now in
+    let there : slice_get states c.loop-device.device-index ≡ Some c.device-item.result.state = found c.args.devices.now c.loop-device.device-index c.device-item.result (record { below = c.loop-device-test.true; is = c.device-item.is }) in
+    rw c.state.ensures (record { sound = (base_of states, c.requires.sound.0, state_sound states c.loop-device.device-index c.device-item.result.state c.requires.sound there) })
 
-pub loop-number-preserved : goal.loop-number-preserved
-loop-number-preserved g c =
-    let m = state_of c.args.machine.now in
-    let more = one_device m c.loop-number.number c.state.result.now c.state.ensures (omega (arith, c.loop-number-test.true, c.loop-number.invariant.end)) in
+pub loop-device-preserved : goal.loop-device-preserved
+loop-device-preserved g c =
+    let states = map (λ (d : DeviceSeen). d.state) c.args.devices.now in
+    let n = c.loop-device.device-index in
+    let there : slice_get states n ≡ Some c.state.result.now = found c.args.devices.now n c.device-item.result (record { below = c.loop-device-test.true; is = c.device-item.is }) ∙ ap (λ (d : DeviceState). Some d) (sym c.state.ensures) in
+    let more = one_state states n c.state.result.now there (rw length-map c.loop-device-test.true) in
     record {
-      sound = c.loop-number.invariant.sound;
-      end = c.loop-number.invariant.end;
-      few = c.loop-number.invariant.few;
-      low = omega (arith, c.loop-number.invariant.low, c.device_len-len.ensures.short);
-      sum = omega (arith, c.loop-number.invariant.sum, c.device_len-len.ensures.len c.loop-number.number, more);
+      low = omega (arith, c.loop-device.invariant.low, c.device_len-len.ensures.short);
+      sum = omega (arith, c.loop-device.invariant.sum, c.device_len-len.ensures.len n, more);
     }
+
+pub returns-clause-len : goal.returns-clause-len
+returns-clause-len g c =
+    let states = map (λ (d : DeviceSeen). d.state) c.args.devices.now in
+    rw (take_all c.loop-device.device-index states (rw length-map c.loop-device-test.false)) at c.loop-device.invariant.sum

@@ -1,0 +1,12 @@
+use Rattle.std.proofs.Common.{length, sym, subst}
+use Rattle.guestmem.specs.Lent.{AreBelow, marked}
+use Rattle.guestmem.proofs.GivenBack.{later_marked}
+use Rattle.machine.specs.Seen.{Seen}
+use Rattle.machine.proofs.Keeping.{rings_later}
+use Rattle.machine.proofs.machine.Machine.mark.Goals as goal
+
+pub invariant_of-self : goal.invariant_of-self
+invariant_of-self g c =
+    let i = c.self.inside in
+    let below : AreBelow (length i.ram.versions) c.args.pages.now = subst (λ (m : Seen). AreBelow (length m.memory.versions) c.args.pages.now) (sym c.self.view_is) c.requires.below in
+    rw c.mark.ensures.ram (record { sound = c.self.invariant.0.sound; shapes_are = c.self.invariant.0.shapes_are }, rings_later i.rings.items i.ram (marked i.ram c.args.pages.now) _ c.self.invariant.1 (later_marked i.ram c.args.pages.now below))

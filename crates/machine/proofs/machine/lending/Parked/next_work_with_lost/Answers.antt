@@ -1,0 +1,27 @@
+use Rattle.machine.specs.NextWork.{can_work_at, in_turn_after}
+use Rattle.std.proofs.Common.{◌∙◌, length, map, sym}
+use Rattle.machine.specs.Seen.{DeviceSeen}
+use Rattle.machine.proofs.NextWork.{found_has, none_can}
+use Rattle.machine.proofs.Parking.{few_devices, some_devices, sound_devices}
+use Rattle.machine.proofs.machine.lending.Parked.next_work_with_lost.Goals as goal
+
+pub next_in_turn-requires-clause-some : goal.next_in_turn-requires-clause-some
+next_in_turn-requires-clause-some g c = rw c.as_slice.ensures.value (some_devices c.self.inside.shapes.items _ c.self.invariant.0 (rw c.pages-pages.ensures.count at c.pages-pages.ensures.some) (rw c.pages-pages.ensures.count at c.pages-pages.ensures.few))
+
+pub next_in_turn-requires-clause-few : goal.next_in_turn-requires-clause-few
+next_in_turn-requires-clause-few g c = rw c.as_slice.ensures.value (few_devices c.self.inside.shapes.items _ c.self.invariant.0 (rw c.pages-pages.ensures.count at c.pages-pages.ensures.some) (rw c.pages-pages.ensures.count at c.pages-pages.ensures.few))
+
+pub next_in_turn-requires-clause-sound : goal.next_in_turn-requires-clause-sound
+next_in_turn-requires-clause-sound g c = rw c.as_slice.ensures.value (sound_devices c.self.inside.shapes.items _ c.self.invariant.0 (rw c.pages-pages.ensures.count at c.pages-pages.ensures.some) (rw c.pages-pages.ensures.count at c.pages-pages.ensures.few))
+
+pub returns-clause-some : goal.returns-clause-some
+returns-clause-some g c =
+    let states = map (λ (d : DeviceSeen). d.state) c.self.inside.devices.items in
+    let is = rw c.as_slice.ensures.value at c.next_in_turn.ensures in
+    rw (← c.self.view_is, is) (found_has (can_work_at c.args.lost.now states) (in_turn_after c.args.last (length states)))
+
+pub returns-clause-none : goal.returns-clause-none
+returns-clause-none g c = λ none.
+    let states = map (λ (d : DeviceSeen). d.state) c.self.inside.devices.items in
+    let is = rw c.as_slice.ensures.value at c.next_in_turn.ensures in
+    rw (← c.self.view_is) (none_can states c.args.lost.now c.args.last (sym is ∙ none))

@@ -1,0 +1,63 @@
+-- What is left of a machine whose RAM is lent.
+use Rattle.std.proofs.Common.{◌≡◌, ℕ, ◌+◌, ◌*◌, ◌/◌, ◌≤◌, List, [], length, map, replicate, take, drop, None, refl, sym, ap, subst, ◌∙◌, arith}
+use Rattle.std.proofs.lemmas.List.{length-map, length-replicate}
+use Rattle.std.specs.Prelude.{IsTrue}
+use Rattle.blk.proofs.Zeros.{zero_bytes}
+use Rattle.dirtylog.specs.Members.{member_count}
+use Rattle.guestmem.specs.Memory.{IsMemory, Memory}
+use Rattle.guestmem.specs.declared.limits.TheConstants.{PAGES_MAX}
+use Rattle.machine.specs.Layout.{Layout, layout_of, size_of}
+use Rattle.machine.specs.Parked.{ParkedSeen, WhateverRam, back_with, parked_states}
+use Rattle.machine.specs.Seen.{DeviceSeen, Seen, state_of}
+use Rattle.machine.specs.Sound.{AreSoundDevices, IsSound}
+use Rattle.machine.specs.declared.machine.TheConstants.{DEVICES_MAX}
+use Rattle.machine.proofs.Numbering.{size_grows}
+use Rattle.wire.specs.Sinks.{Covers}
+use Rattle.wire.specs.Stream.{device_texts}
+use Rattle.sender.specs.Calls.{Stops}
+use Rattle.sender.specs.LiveState.{HasPlaces, LiveSeen, now}
+use Rattle.sender.specs.Parked.{LiveParkedSeen, live_back, parked_layout}
+use Rattle.sender.specs.Stopping.{SetsFit}
+use Rattle.sender.proofs.Parking.{layout_is}
+use Rattle.sender.proofs.StopLengths.{few_items, stop_short}
+
+-- The devices of a sound machine.
+pub few_devices : (m : Seen) → IsSound (state_of m) → length m.devices ≤ DEVICES_MAX
+few_devices m sound = rw length-map at sound.few_devices
+
+pub sound_devices : (m : Seen) → IsSound (state_of m) → AreSoundDevices (map (λ (d : DeviceSeen). d.state) m.devices)
+sound_devices m sound = (length m.memory.bytes, sound.devices)
+
+-- With zeros in its RAM the machine is sound.
+abbrev with_zeros : ParkedSeen → Seen
+with_zeros p = back_with p (record { bytes = replicate (4096 * length p.versions) 0; versions = p.versions; place = None })
+
+sound_zeros : (p : ParkedSeen) → 1 ≤ length p.versions → length p.versions ≤ PAGES_MAX → WhateverRam p (λ m. IsSound (state_of (back_with p m))) → IsSound (state_of (with_zeros p))
+sound_zeros p some few sound = sound (with_zeros p).memory (record { pages = length-replicate (4096 * length p.versions) 0; some = some; few = few }) (zero_bytes (4096 * length p.versions)) refl
+
+pub parked_few : (p : ParkedSeen) → 1 ≤ length p.versions → length p.versions ≤ PAGES_MAX → WhateverRam p (λ m. IsSound (state_of (back_with p m))) → length p.devices ≤ DEVICES_MAX
+parked_few p some few sound = few_devices (with_zeros p) (sound_zeros p some few sound)
+
+pub parked_sound : (p : ParkedSeen) → 1 ≤ length p.versions → length p.versions ≤ PAGES_MAX → WhateverRam p (λ m. IsSound (state_of (back_with p m))) → AreSoundDevices (map (λ (d : DeviceSeen). d.state) p.devices)
+parked_sound p some few sound = sound_devices (with_zeros p) (sound_zeros p some few sound)
+
+-- Its items.
+pub parked_pages : (p : ParkedSeen) → length p.versions ≤ size_of (parked_layout p)
+parked_pages p = size_grows (map length (map (λ (d : DeviceSeen). d.sectors) p.devices)) (length p.versions)
+
+pub parked_items : (p : ParkedSeen) → 1 ≤ length p.versions → length p.versions ≤ PAGES_MAX → WhateverRam p (λ m. IsSound (state_of (back_with p m))) → size_of (parked_layout p) ≤ 68719493104
+parked_items p some few sound =
+    subst (λ (l : Layout). size_of l ≤ 68719493104) (layout_is (with_zeros p) p (length-replicate (4096 * length p.versions) 0) refl) (few_items (state_of (with_zeros p)) (sound_zeros p some few sound))
+
+-- A stop, if no further page were dirty.
+pub stop_parked : (p : LiveParkedSeen) (firsts : List ℕ) (at : ℕ) (m : Memory) (next : LiveSeen) (pages sectors : ℕ) (b : List ℕ) (devices : ℕ) → SetsFit (parked_layout p.parked) p.phase p.due p.dirty firsts at → IsMemory m → length m.versions ≡ length p.parked.versions
+    → IsSound (state_of (back_with p.parked m)) → devices ≡ length (device_texts 0 (parked_states p.parked)) → IsTrue p.out.honest → Covers p.digest b → Stops (live_back p m []) pages sectors next
+    → length next.out.held ≤ length p.out.held + (4101 * (member_count (take (length p.parked.versions) p.due) + member_count (take (length p.parked.versions) p.dirty))
+    + 519 * (member_count (drop (length p.parked.versions) p.due) + member_count (drop (length p.parked.versions) p.dirty)) + devices + 33)
+stop_parked p firsts at m next pages sectors b devices sets mem count sound states honest covers stops =
+    let l : LiveSeen = live_back p m [] in
+    let whole : length m.bytes ≡ 4096 * length p.parked.versions = omega (arith, mem.pages, count) in
+    let same : layout_of (now l) ≡ parked_layout p.parked = layout_is l.machine p.parked whole refl in
+    let places : HasPlaces l = record { sound = sound; few = sets.few; due_size = sets.due_size ∙ ap size_of (sym same); dirty_size = sets.dirty_size ∙ ap size_of (sym same) } in
+    let count_is : length m.bytes / 4096 ≡ length p.parked.versions = omega (arith, whole) in
+    rw count_is at (stop_short l next pages sectors b devices places states honest covers stops)

@@ -1,0 +1,16 @@
+use Rattle.std.proofs.Common.{refl}
+use Rattle.machine.specs.Direct.{accepted_reply}
+use Rattle.machine.specs.declared.event.Event.TheVariants.{Input}
+use Rattle.sender.proofs.ParkedServed.{served_parked, sets_stay}
+use Rattle.sender.proofs.lending.LiveParked.input.Goals as goal
+
+pub invariant_of-self : goal.invariant_of-self
+invariant_of-self g c =
+    let i = c.self.inside in
+    let was = c.input-answer in
+    sets_stay i.parked was.new.self i.phase i.due i.dirty.set i.dirty.firsts.items i.at c.self.invariant was.ensures.versions was.ensures.sectors
+
+pub returns : goal.returns
+returns g c =
+    let still = rw (← c.self.view_is) at c.in_ok-running.ensures.open in
+    rw (← c.self.view_is, c.from_accepted.ensures) (served_parked _ _ (Input c.args.dev c.args.bytes.now) (accepted_reply c.input-answer.result) still c.input-answer.ensures refl)

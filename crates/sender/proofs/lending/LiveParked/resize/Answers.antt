@@ -1,0 +1,16 @@
+use Rattle.std.proofs.Common.{refl}
+use Rattle.machine.specs.Direct.{done_reply}
+use Rattle.machine.specs.declared.event.Event.TheVariants.{Resize}
+use Rattle.sender.proofs.ParkedServed.{served_parked, sets_stay}
+use Rattle.sender.proofs.lending.LiveParked.resize.Goals as goal
+
+pub invariant_of-self : goal.invariant_of-self
+invariant_of-self g c =
+    let i = c.self.inside in
+    let was = c.resize-answer in
+    sets_stay i.parked was.new.self i.phase i.due i.dirty.set i.dirty.firsts.items i.at c.self.invariant was.ensures.versions was.ensures.sectors
+
+pub returns : goal.returns
+returns g c =
+    let still = rw (← c.self.view_is) at c.in_ok-running.ensures.open in
+    rw (← c.self.view_is, c.from_done.ensures) (served_parked _ _ (Resize c.args.dev c.args.cols c.args.rows) (done_reply c.resize-answer.result) still c.resize-answer.ensures refl)

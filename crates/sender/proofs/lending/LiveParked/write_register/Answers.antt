@@ -1,0 +1,16 @@
+use Rattle.std.proofs.Common.{refl}
+use Rattle.machine.specs.Direct.{written_result}
+use Rattle.machine.specs.declared.event.Event.TheVariants.{RegWrite}
+use Rattle.sender.proofs.ParkedServed.{served_parked, sets_stay}
+use Rattle.sender.proofs.lending.LiveParked.write_register.Goals as goal
+
+pub invariant_of-self : goal.invariant_of-self
+invariant_of-self g c =
+    let i = c.self.inside in
+    let was = c.write_register-answer in
+    sets_stay i.parked was.new.self i.phase i.due i.dirty.set i.dirty.firsts.items i.at c.self.invariant was.ensures.versions was.ensures.sectors
+
+pub returns : goal.returns
+returns g c =
+    let still = rw (← c.self.view_is) at c.in_ok-running.ensures.open in
+    rw (← c.self.view_is, c.from_written.ensures) (served_parked _ _ (RegWrite c.args.dev c.args.offset c.args.width c.args.value) (written_result c.write_register-answer.result) still c.write_register-answer.ensures refl)

@@ -1,0 +1,146 @@
+-- What is done to a machine that is being migrated while its RAM is lent.
+use Rattle.std.specs.Prelude.{◌≡◌, ◌≢◌, ℕ, ◌++◌, List, [], ◌∷◌, length, Bool, true, false, Result, Ok, Err, MatchOption}
+use Rattle.blk.specs.declared.disk.DiskFault.{DiskFault}
+use Rattle.guestmem.specs.Lent.{given_back}
+use Rattle.guestmem.specs.Memory.{IsMemory}
+use Rattle.region.specs.Address.{address}
+use Rattle.region.specs.declared.region.Region.{Region}
+use Rattle.machine.specs.Parked.{FailsParkedFlush, FlushesParked, IsAppliedParked, makes_flush_parked, parked_states}
+use Rattle.machine.specs.State.{MachineState, base_of}
+use Rattle.machine.specs.declared.event.Event.{Event}
+use Rattle.machine.specs.declared.event.Event.TheVariants.{Step}
+use Rattle.machine.specs.declared.reply.Reply.{Reply}
+use Rattle.wire.specs.Sinks.{SinkState, Takes}
+use Rattle.sender.specs.Calls.{Serves}
+use Rattle.sender.specs.Follows.{Relates}
+use Rattle.sender.specs.History.{History}
+use Rattle.sender.specs.LiveState.{HasPlaces, LiveSeen, refusal_for}
+use Rattle.sender.specs.Parked.{BackGoesOn, IsLiveParked, KeepsWord, LiveParkedSeen, live_back, page_writes}
+use Rattle.sender.specs.Reads.{CallsNone}
+use Rattle.sender.specs.Taking.{untaken}
+use Rattle.sender.specs.Unsynced.{FailsLiveFlush, FlushesLiveDisk}
+use Rattle.sender.specs.declared.event.LiveEvent.TheVariants.{Guest}
+use Rattle.sender.specs.declared.event.LiveReply.{LiveReply}
+use Rattle.sender.specs.declared.event.LiveReply.TheVariants as r
+use Rattle.sender.specs.declared.mig_error.MigError.{MigError}
+use Rattle.sender.specs.declared.phase.Phase.TheVariants as phases
+
+-- An event that needs no RAM was applied to the machine. It wrote no item, so none became dirty, and nothing else changed.
+pub record AfterParked (p : LiveParkedSeen) (e : Event) (reply : Reply) (next : LiveParkedSeen) : Type 0 where
+  pub applied : IsAppliedParked p.parked e reply next.parked
+  pub rest : next ≡ record p { parked = next.parked }
+
+abbrev pub GuestsParked : LiveParkedSeen → Event → LiveReply → LiveParkedSeen → Type 0
+GuestsParked p e (r.Guest reply) next = AfterParked p e reply next
+GuestsParked p e _ next = ⊥
+
+-- The call: the phase refuses it as it refuses the event, and nothing changes, or it is done.
+abbrev pub ServesParked : LiveParkedSeen → Event → LiveReply → LiveParkedSeen → Type 0
+ServesParked p e reply next = MatchOption (refusal_for p.phase (Guest e)) (GuestsParked p e reply next) (λ x. (reply ≡ r.Mig x) × (next ≡ p))
+
+-- One flush of the disk of a device, beside all steps, in each phase.
+pub record FlushesLiveParked {T E : Type 0} (p : LiveParkedSeen) (dev : ℕ) (result : Result T E) (next : LiveParkedSeen) : Type 0 where
+  pub flushes : FlushesParked p.parked dev result next.parked
+  pub rest : next ≡ record p { parked = next.parked }
+
+-- A flush failed in place of its step.
+pub record FailsLiveParked (p : LiveParkedSeen) (dev pick : ℕ) (next : LiveParkedSeen) : Type 0 where
+  pub failed : FailsParkedFlush p.parked dev pick next.parked
+  pub rest : next ≡ record p { parked = next.parked }
+
+abbrev pub FailsLiveParkedIf : Bool → LiveParkedSeen → ℕ → ℕ → LiveParkedSeen → Type 0
+FailsLiveParkedIf true p dev pick next = FailsLiveParked p dev pick next
+FailsLiveParkedIf false p dev pick next = next ≡ p
+
+abbrev pub AnswersParkedFlush : LiveParkedSeen → ℕ → ℕ → Result Bool MigError → LiveParkedSeen → Type 0
+AnswersParkedFlush p dev pick (Ok was) next = (was ≡ makes_flush_parked p.parked dev pick) × FailsLiveParkedIf was p dev pick next
+AnswersParkedFlush p dev pick (Err e) next = ⊥
+
+-- The call: the phase refuses it as it refuses the step, and nothing changes, or it is answered.
+abbrev pub TriesParkedFlush : LiveParkedSeen → ℕ → ℕ → Result Bool MigError → LiveParkedSeen → Type 0
+TriesParkedFlush p dev pick result next = MatchOption (refusal_for p.phase (Guest (Step dev pick))) (AnswersParkedFlush p dev pick result next) (λ x. (result ≡ Err x) × (next ≡ p))
+
+-- These bytes were taken out of the writer, the first of those that it held. Its digest is of the same bytes as before.
+pub record TakesParked (p : LiveParkedSeen) (taken : List ℕ) (next : LiveParkedSeen) : Type 0 where
+  pub held : p.out.held ≡ taken ++ next.out.held
+  pub count : next.out.failures ≡ p.out.failures
+  pub honest : next.out.honest ≡ p.out.honest
+  pub digest : Takes p.digest [] next.digest
+  pub rest : next ≡ record p { digest = next.digest; out = next.out }
+
+-- It was done to the machine that was lent, before the caller wrote anything, and its RAM is lent as before.
+pub record IsDoneLiveLent (l : LiveSeen) (region : Region) (next : LiveParkedSeen) (does : LiveSeen → Type 0) : Type 0 where
+  pub after : LiveSeen
+  pub done : does after
+  pub parked : IsLiveParked after region next
+  pub places : HasPlaces after
+  pub memory : after.machine.memory ≡ l.machine.memory
+  pub phase : after.phase ≡ l.phase
+
+-- The call, which called no disk.
+pub record IsServedUncalled (old : LiveSeen) (e : Event) (reply : LiveReply) (new : LiveSeen) : Type 0 where
+  pub serves : Serves old (Guest e) reply new
+  pub calls : CallsNone old.machine new.machine
+
+-- So each of these calls is one of the machine that was lent.
+abbrev pub LiveParkedIsServed : Type 0
+LiveParkedIsServed = (l : LiveSeen) (p next : LiveParkedSeen) (region : Region) (e : Event) (reply : LiveReply) → HasPlaces l → IsMemory l.machine.memory → IsLiveParked l region p → ServesParked p e reply next
+    → IsDoneLiveLent l region next (IsServedUncalled l e reply)
+
+abbrev pub LiveParkedIsFlushed : Type 0
+LiveParkedIsFlushed = (l : LiveSeen) (p next : LiveParkedSeen) (region : Region) (dev : ℕ) (result : Result (Unit {0}) DiskFault) → HasPlaces l → IsLiveParked l region p → FlushesLiveParked p dev result next
+    → IsDoneLiveLent l region next (FlushesLiveDisk l dev result)
+
+abbrev pub LiveParkedFlushFails : Type 0
+LiveParkedFlushFails = (l : LiveSeen) (p next : LiveParkedSeen) (region : Region) (dev pick : ℕ) → HasPlaces l → IsMemory l.machine.memory → IsLiveParked l region p → FailsLiveParked p dev pick next
+    → IsDoneLiveLent l region next (FailsLiveFlush l dev pick)
+
+-- A call that was made while the RAM was lent, and not refused: an event that needs no RAM, with its reply; a flush that failed in place of
+-- its step; a flush beside all steps; a taking of these bytes.
+pub data LentCall : Type 0 where
+  an_event : Event → Reply → LentCall
+  a_failed_flush : ℕ → ℕ → LentCall
+  a_flush : ℕ → Result (Unit {0}) DiskFault → LentCall
+  a_taking : List ℕ → LentCall
+
+abbrev pub IsLentCall : LiveParkedSeen → LentCall → LiveParkedSeen → Type 0
+IsLentCall p (an_event e reply) next = ServesParked p e (r.Guest reply) next
+IsLentCall p (a_failed_flush dev pick) next = FailsLiveParked p dev pick next
+IsLentCall p (a_flush dev result) next = FlushesLiveParked p dev result next
+IsLentCall p (a_taking bytes) next = TakesParked p bytes next
+
+-- Calls, one after another.
+abbrev pub AreLentCalls : LiveParkedSeen → List LentCall → LiveParkedSeen → Type 0
+AreLentCalls p [] next = next ≡ p
+AreLentCalls p (c ∷ cs) next = (mid : LiveParkedSeen) × IsLentCall p c mid × AreLentCalls mid cs next
+
+-- The events that calls add to a history, and the bytes that they take.
+abbrev pub events_in : LentCall → List Event
+events_in (an_event e reply) = e ∷ []
+events_in (a_failed_flush dev pick) = Step dev pick ∷ []
+events_in (a_flush dev result) = []
+events_in (a_taking bytes) = []
+
+abbrev pub bytes_in : LentCall → List ℕ
+bytes_in (a_taking bytes) = bytes
+bytes_in _ = []
+
+abbrev pub events_among : List LentCall → List Event
+events_among [] = []
+events_among (c ∷ cs) = events_in c ++ events_among cs
+
+abbrev pub bytes_among : List LentCall → List ℕ
+bytes_among [] = []
+bytes_among (c ∷ cs) = bytes_in c ++ bytes_among cs
+
+-- The address at which its RAM begins.
+abbrev pub parked_base : LiveParkedSeen → ℕ
+parked_base p = base_of (parked_states p.parked)
+
+-- The history goes on by the events of the calls that were made while the RAM was lent, and then by the guest's writes of the pages that are
+-- named, in whatever order the guest made them: the events need no RAM, and the writes no device. Bytes may have been taken before, and
+-- meanwhile.
+abbrev pub LentFollows : Type 0
+LentFollows = (m : MachineState) (h : History) (out : SinkState) (taken : List ℕ) (l : LiveSeen) (p next : LiveParkedSeen) (before after : Region) (calls : List LentCall) (pages : List ℕ) → Relates m h out (untaken taken l) → HasPlaces l → IsMemory l.machine.memory
+    → l.phase ≢ phases.Stopped → IsLiveParked l before p → AreLentCalls p calls next → KeepsWord before after (length p.parked.versions) pages
+    → BackGoesOn m h out (events_among calls ++ page_writes (parked_base next) pages after.content) (untaken (taken ++ bytes_among calls) (live_back next (given_back after.content (address after) next.parked.versions pages) pages))
