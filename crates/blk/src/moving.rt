@@ -1,6 +1,6 @@
 //! One unit of a request.
 
-ghost use Rattle.std.specs.Prelude.{◌≡◌, ◌≤◌, ◌<◌, ◌+◌, ◌^◌, ◌*◌, IsTrue, length, not, replicate, true};
+ghost use Rattle.std.specs.Prelude.{◌≡◌, ◌≤◌, ◌<◌, ◌+◌, ◌^◌, ◌*◌, IsTrue, length, not, true};
 ghost use Rattle.guestmem.specs.Item.{MayPages, sector};
 ghost use Rattle.guestmem.specs.Memory.{Memory};
 ghost use Rattle.chains.specs.Frame.{HasServed};
@@ -118,27 +118,6 @@ fn write_unit<D: Disk, L: TouchLog>(
     Advanced::Moved
 }
 
-/// Clears the sector of one unit.
-fn clear_unit<D: Disk, L: TouchLog>(
-    device: u8,
-    request: &mut Request,
-    sectors: &mut Sectors<D>,
-    log: &mut L,
-) -> Advanced
-    requires sector { request.old.first + request.old.done < length sectors.old.content }
-    requires open { request.old.done < request.old.units }
-    requires small { length sectors.old.content < 2 ^ 64 }
-    requires whole { AreWhole sectors.old.content }
-    requires may_sectors { MaySectors L.may log.old device (length sectors.old.content) }
-    ensures moved { (ram : Memory) → HasMoved L.after device (unit_scene ram log.old sectors.old request.old) (unit_scene ram log.new sectors.new request.new) (λ given. write_unit (replicate SECTOR_SIZE 0)) result }
-    ensures request { request.new ≡ after_unit request.old result }
-    ensures kept { IsKept sectors.old (is_disk_failed result) sectors.new }
-    ensures calls { Calls D.called true sectors.old sectors.new }
-    ensures log { log.new ≡ L.after log.old (sector device (next_sector request.old)) }
-{
-    write_unit(device, &[0; SECTOR_SIZE], request, sectors, log)
-}
-
 /// Flushes the disk. A flush that is done has left the disk flushed.
 fn move_flush<D: Disk>(request: &mut Request, sectors: &mut Sectors<D>) -> Advanced
     requires open { request.old.done < request.old.units }
@@ -195,7 +174,10 @@ pub(crate) fn move_unit<D: Disk, L: TouchLog>(
             request.done += 1;
             Advanced::Moved
         }
-        Kind::Zero => clear_unit(job.device, request, sectors, log),
+        Kind::Zero => {
+            let bytes = [0; SECTOR_SIZE];
+            write_unit(job.device, &bytes, request, sectors, log)
+        }
         Kind::Refused => Advanced::Idle,
     }
 }

@@ -14,7 +14,7 @@ use crate::block::Block;
 use crate::request::{HEADER_SIZE, Request, SEGMENT_SIZE, TYPE_WRITE_ZEROES};
 use crate::shape::Limits;
 use crate::task::{Task, task_of, type_of};
-use chains::{Chain, Done, Ring, Served, Site, Unserved, Wanted, copy_out_with_base, look};
+use chains::{Chain, Done, Ring, Segs, Served, Site, Unserved, Wanted, copy_out_with_base, look};
 use guestmem::{Ram, TouchLog};
 
 impl Block {
@@ -37,7 +37,13 @@ impl Block {
         ensures sound { AreSound (length ram.new.bytes) (R.state ring.new) (limits_of self.new features) self.new.requests }
         ensures after { HasLooked L.may ram.old ram.new (R.decoder ring.new) log.new }
     {
-        let mut chain = Chain::new(site.alloc);
+        // Written out, and not by `Chain::new`: so it is known to be empty where the ring empties it.
+        let mut chain = Chain {
+            id: 0,
+            slots: 1,
+            readable: Segs::new(site.alloc),
+            writable: Segs::new(site.alloc),
+        };
         look(
             ring,
             Wanted::Request(HEADER_SIZE as u32),
@@ -87,12 +93,23 @@ fn segment_for(
     requires inside { AreSegmentsInside base (length ram.now.bytes) chain.now.readable }
     ensures { number_at header.now 0 4 ≡ TYPE_WRITE_ZEROES → length (places chain.now.readable) ≡ HEADER_SIZE + SEGMENT_SIZE → result ≡ segment_of base ram.now.bytes chain.now }
 {
-    let mut segment = [0; SEGMENT_SIZE];
     if type_of(header) != TYPE_WRITE_ZEROES
         || chain.readable.total_len() != (HEADER_SIZE + SEGMENT_SIZE) as u64
     {
-        return segment;
+        return [0; SEGMENT_SIZE];
     }
+    read_segment(base, ram, chain)
+}
+
+/// The segment of a chain that asks for a range to be cleared, and has one. It is a call of its own, which other requests do not carry
+/// along.
+#[inline(never)]
+fn read_segment(base: u64, ram: &Ram, chain: &Chain) -> [u8; SEGMENT_SIZE]
+    requires inside { AreSegmentsInside base (length ram.now.bytes) chain.now.readable }
+    requires len { length (places chain.now.readable) ≡ HEADER_SIZE + SEGMENT_SIZE }
+    ensures { result ≡ segment_of base ram.now.bytes chain.now }
+{
+    let mut segment = [0; SEGMENT_SIZE];
     copy_out_with_base(
         ram,
         base,
@@ -104,6 +121,7 @@ fn segment_for(
 }
 
 /// The request of a chain, which keeps its segments.
+#[inline(always)]
 fn request_for(chain: Chain, task: Task) -> Request
     ensures request { result ≡ request_for chain task }
     ensures fits { result.id < 2 ^ 16 }

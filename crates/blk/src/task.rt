@@ -122,6 +122,7 @@ fn sector_of(header: &[u8; HEADER_SIZE]) -> u64
 /// What a request asks for, by its header, the segment that may follow it, the numbers of its readable and writable
 /// bytes, and what its driver may ask for.
 #[tactic(auto, unfolding(crate::specs::Task::task_of))]
+#[inline(always)]
 pub fn task_of(
     header: &[u8; HEADER_SIZE],
     segment: &[u8; SEGMENT_SIZE],
