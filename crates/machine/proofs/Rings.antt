@@ -1,5 +1,5 @@
 -- The ring of a queue that is looked at: what holds of it before and after the step.
-use Rattle.std.proofs.Common.{◌≡◌, ℕ, zero, suc, ◌+◌, ◌-◌, ◌*◌, ◌%◌, ◌^◌, ◌<◌, ◌≤◌, Bool, true, false, cond, ltb, List, [], ◌∷◌, length, set, Some, refl, ap, subst, sym, arith}
+use Rattle.std.proofs.Common.{◌≡◌, ℕ, zero, suc, ◌+◌, ◌-◌, ◌*◌, ◌%◌, ◌^◌, ◌<◌, ◌≤◌, Bool, true, false, cond, ltb, List, [], ◌∷◌, length, set, Some, refl, ap, subst, arith}
 use Rattle.std.specs.Prelude.{not}
 use Rattle.std.specs.Bool.{MatchBool}
 use Rattle.std.specs.List.{slice_get}
@@ -9,9 +9,6 @@ use Rattle.guestmem.specs.Address.{index_of}
 use Rattle.mmio.specs.Areas.{driver_alignment, driver_bytes, device_bytes}
 use Rattle.mmio.specs.QueueReady.{IsInside, MayBeReady}
 use Rattle.mmio.specs.declared.common.Common.{Common}
-use Rattle.mmio.specs.declared.constants.TheConstants.{RING_PACKED}
-use Rattle.chains.specs.RingCore.{core_state}
-use Rattle.chains.specs.declared.ring_core.RingCore.{RingCore}
 use Rattle.mmio.specs.declared.queue.Queue.{Queue}
 use Rattle.mmio.proofs.StayingSound.{queue_sound}
 use Rattle.chains.specs.State.{RingState, state_of, AreAbove, MayRing, HasAreas, IsArea}
@@ -22,10 +19,6 @@ use Rattle.machine.specs.Looked.{IsLookedAt}
 use Rattle.machine.specs.QueuePositions.{HavePositions, HasPositions, ArePlaced, is_packed_by, first_positions}
 use Rattle.machine.specs.Sound.{IsSoundDevice}
 use Rattle.machine.specs.State.{DeviceState}
-
--- What a core means, by the features that it was made with.
-pub ring_of_core : (core : RingCore) (features : ℕ) (q : RingState) → core.features ≡ features → core_state (has features RING_PACKED) core ≡ q → core_state (has core.features RING_PACKED) core ≡ q
-ring_of_core core features q same is = subst (λ (f : ℕ). core_state (has f RING_PACKED) core ≡ q) (sym same) is
 
 -- How far a ring has come, where each place fits.
 pub record IsPlacedRing (s : RingState) : Type 0 where

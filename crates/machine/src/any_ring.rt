@@ -3,31 +3,21 @@
 //! The layout is named by feature bit 34, which is fixed while a queue is ready; devices are generic over `Ring` and see
 //! neither. This type keeps the ring of a queue and is no `Ring` itself: each of its calls would tell the layout apart again.
 
-ghost use Rattle.std.specs.Prelude.{◌≡◌, ◌<◌, not, true, false};
+ghost use Rattle.std.specs.Prelude.{◌≡◌, ◌<◌, true, false};
 ghost use Rattle.chains.specs.RingCore.{core_state};
 ghost use Rattle.guestmem.specs.Memory.{Memory};
 ghost use Rattle.chains.specs.Decoder.{Fits};
-ghost use Rattle.chains.specs.State.{MayRing};
+ghost use Rattle.chains.specs.State.{AreAbove, MayRing, state_of};
 ghost use Rattle.mmio.specs.Bits.{has};
 ghost use Rattle.mmio.specs.declared.constants.TheConstants.{RING_PACKED};
 ghost use Rattle.machine.specs.Rings.{emptied};
 ghost use Rattle.machine.specs.AnyRing.{ring_in, decoder_in, is_packed_in};
 
-use chains::{Positions, RingCore};
+use chains::{Positions, RingCore, Site};
 use mmio::{Queue, RING_PACKED};
 use packedring::PackedRing;
 use splitring::SplitRing;
 use std::alloc::Global;
-
-/// A queue that is not ready.
-const NO_QUEUE: Queue = Queue {
-    size: 1,
-    descriptors: 0,
-    driver: 0,
-    device: 0,
-    is_ready: false,
-    is_notified: false,
-};
 
 /// A ring of either layout.
 #[derive(Drop)]
@@ -39,54 +29,55 @@ pub(crate) enum AnyRing {
 impl AnyRing {
     /// A ring of no queue yet, which keeps nothing. It takes no memory.
     pub fn new(alloc: Global) -> AnyRing
-        ensures layout { is_packed_in result ≡ false }
-        ensures fits { (ram : Memory) → Fits (decoder_in result) ram }
+        ensures { (ram : Memory) → Fits (decoder_in result) ram }
     {
-        AnyRing::Split(SplitRing::new(alloc, &NO_QUEUE, 0, Positions::FIRST))
+        let queue = Queue {
+            size: 1,
+            descriptors: 0,
+            driver: 0,
+            device: 0,
+            is_ready: false,
+            is_notified: false,
+        };
+        AnyRing::Split(SplitRing::new(alloc, &queue, 0, Positions::FIRST))
     }
 
-    /// Makes it the ring of this core, in the layout that its features name: RING_PACKED names the packed one (VIRTIO 1.2, 6). What it keeps
-    /// of descriptors stays, unless the layout is another one.
+    /// Makes it the ring of a queue at these positions, in the layout that the features name: RING_PACKED names the packed one (VIRTIO 1.2, 6).
+    /// What it keeps of descriptors stays, unless the layout is another one. The core is made where its layout is known: made before that,
+    /// it would be kept in memory for `turn`.
     #[inline(always)]
-    pub fn renew(&mut self, core: RingCore)
-        requires { MayRing (core_state (has core.features RING_PACKED) core) }
-        ensures ring { ring_in self.new ≡ core_state (has core.features RING_PACKED) core }
-        ensures kept { is_packed_in self.old ≡ has core.features RING_PACKED → decoder_in self.new ≡ decoder_in self.old }
+    pub fn renew(&mut self, site: Site, queue: &Queue, features: u64, positions: Positions)
+        requires may { MayRing (state_of queue.now features site.base positions) }
+        requires above { AreAbove site.base queue.now }
+        ensures ring { ring_in self.new ≡ state_of queue.now features site.base positions }
+        ensures kept { is_packed_in self.old ≡ has features RING_PACKED → decoder_in self.new ≡ decoder_in self.old }
         ensures fits { (ram : Memory) → Fits (decoder_in self.old) ram → Fits (decoder_in self.new) ram }
     {
-        let is_packed = core.features & RING_PACKED == RING_PACKED;
-        if self.is_packed() != is_packed {
-            self.turn(core.alloc);
-        }
+        let is_packed = features & RING_PACKED == RING_PACKED;
         match self {
-            AnyRing::Split(ring) => ring.renew(core),
-            AnyRing::Packed(ring) => ring.renew(core),
+            AnyRing::Split(ring) if !is_packed => ring.renew(RingCore::new(
+                site.alloc, queue, features, site.base, positions,
+            )),
+            AnyRing::Packed(ring) if is_packed => ring.renew(RingCore::new(
+                site.alloc, queue, features, site.base, positions,
+            )),
+            _ => self.turn(RingCore::new(site.alloc, queue, features, site.base, positions)),
         }
     }
 
-    /// Makes it a ring of the other layout, of no queue yet, which keeps nothing. That is seldom: a driver chooses its layout once.
+    /// Makes it a ring that keeps nothing, of the layout that the features name. That is seldom: a driver chooses its layout once.
     #[cold]
     #[inline(never)]
-    fn turn(&mut self, alloc: Global)
-        ensures layout { is_packed_in self.new ≡ not (is_packed_in self.old) }
+    fn turn(&mut self, core: RingCore)
+        requires { MayRing (core_state (has core.features RING_PACKED) core) }
+        ensures ring { ring_in self.new ≡ core_state (has core.features RING_PACKED) core }
         ensures fits { (ram : Memory) → Fits (decoder_in self.new) ram }
     {
-        if self.is_packed() {
-            *self = AnyRing::new(alloc);
+        if core.features & RING_PACKED == RING_PACKED {
+            *self = AnyRing::Packed(PackedRing::of(core));
         } else {
-            *self = AnyRing::Packed(PackedRing::new(
-                alloc,
-                &NO_QUEUE,
-                RING_PACKED,
-                Positions::FIRST,
-            ));
+            *self = AnyRing::Split(SplitRing::of(core));
         }
-    }
-
-    fn is_packed(&self) -> bool
-        ensures { result ≡ is_packed_in self.now }
-    {
-        matches!(self, AnyRing::Packed(_))
     }
 
     /// Keeps no descriptor any more.

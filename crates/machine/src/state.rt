@@ -24,7 +24,7 @@ use crate::shape::Shape;
 use crate::stepped::Stepped;
 use crate::work::Work;
 use blk::{Advanced, Disk, Job, Sectors};
-use chains::{Positions, Ring, RingCore, Served, Site, Unserved};
+use chains::{Positions, Ring, Served, Site, Unserved};
 use console::{ConsoleSize, entropy};
 use guestmem::{NoMemory, Ram, TouchLog};
 use mmio::{Common, Effect, QUEUE_COUNT_MAX, Queue, Regs};
@@ -291,7 +291,7 @@ impl DeviceState {
         };
         let features = self.registers.features();
         let base = self.registers.ram_base();
-        ring.renew(RingCore::new(alloc, queue, features, base, self.positions[0]));
+        ring.renew(Site { alloc, base }, queue, features, self.positions[0]);
         true
     }
 
@@ -322,7 +322,12 @@ impl DeviceState {
         }
         let features = self.registers.features();
         let base = self.registers.ram_base();
-        ring.renew(RingCore::new(alloc, queue, features, base, self.positions[number]));
+        ring.renew(
+            Site { alloc, base },
+            queue,
+            features,
+            self.positions[number],
+        );
         true
     }
 

@@ -12,5 +12,5 @@ loop-device-preserved c =
       each = rw (length-append, length-append) (omega (arith, i.each));
       fit = λ ram.
           All-push (λ (r : AnyRing). Fits (decoder_in r) ram) _ _
-          (All-push (λ (r : AnyRing). Fits (decoder_in r) ram) _ _ (i.fit ram) (c.new.ensures.fits ram)) (c.new-in-loop-device.ensures.fits ram);
+          (All-push (λ (r : AnyRing). Fits (decoder_in r) ram) _ _ (i.fit ram) (c.new.ensures ram)) (c.new-in-loop-device.ensures ram);
     })
