@@ -81,6 +81,7 @@ pub mod laws;
 mod left;
 mod lending;
 mod live;
+mod logged;
 mod measuring;
 mod mig_error;
 mod numbering;
