@@ -2,7 +2,7 @@
 //!
 //! It hands out numbers, and no bits: a step writes into few pages, and a host that asks after each step is not to look through all.
 
-ghost use Rattle.std.specs.Prelude.{◌≡◌, ◌<◌, ◌≤◌, ◌^◌, IfOk, OnSome, false, length, replicate};
+ghost use Rattle.std.specs.Prelude.{◌≡◌, ◌<◌, ◌≤◌, ◌^◌, IfOk, IfSome, false, length, replicate};
 ghost use Rattle.machine.specs.PageLog.{HandsOut, TakesLeast, may_note, may_stay_noted, noted, notes_any_order, notes_once};
 
 use dirtylog::BitSet;
@@ -62,7 +62,7 @@ fn take_out(set: &mut BitSet, out: &mut [u32]) -> usize
 /// Takes the least member out.
 fn take_least(set: &mut BitSet) -> Option<u64>
     ensures taken { TakesLeast set.old result set.new }
-    ensures below { OnSome result (λ n. n < length set.old) }
+    ensures below { IfSome result (λ n. n < length set.old) }
     ensures length { length set.new ≡ length set.old }
 {
     let Some(n) = set.first_from(0) else {
