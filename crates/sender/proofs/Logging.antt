@@ -41,6 +41,7 @@ module _ {L : Type 0} (after : L → Item → L) (old new : Seen) (d : Dirty) (l
 
   pub logged_served : (phase : Phase) (due : List Bool) (at : ℕ) (digest : Digested) (out : SinkState) → IsLive old phase due d.set d.firsts.items at → phase ≢ phases.Stopped
       → ServesLogged after (record { machine = old; phase = phase; due = due; dirty = d.set; digest = digest; out = out }) log e (r.Guest reply) (record { machine = new; phase = phase; due = due; dirty = told.first.set; digest = digest; out = out }) told.second
+  unfolding first_told
   logged_served phase due at digest out live open_still = rw (guest_free phase e open_still) (record {
     guest = record {
       is_applied = h.is_applied;
@@ -68,7 +69,7 @@ module _ {L : Type 0} (after : L → Item → L) (old : LiveSeen) (log : L) (e :
 
   served_of : (reply : LiveReply) (o : Option MigError) → MatchOption o (GuestsLogged after old log e reply new new_log) (λ x. (reply ≡ r.Mig x) × (new ≡ old) × (new_log ≡ log)) → MatchOption o (Does old (Guest e) reply new) (λ x. (reply ≡ r.Mig x) × (new ≡ old))
   served_of reply None h = guests_of reply h
-  served_of reply (Some x) h = (h.0, h.1.0)
+  served_of reply (Some x) h = (h.0, h.1)
 
-pub logged_is_served : LoggedIsServed
+pub logged_is_served : {L : Type 0} (after : L → Item → L) → LoggedIsServed after
 logged_is_served after old log e reply new new_log h = served_of after old log e new new_log reply (refusal_for old.phase (Guest e)) h

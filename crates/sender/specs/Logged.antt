@@ -24,5 +24,5 @@ abbrev pub ServesLogged : {L : Type 0} → (L → Item → L) → LiveSeen → L
 ServesLogged taking old log e reply new new_log = MatchOption (refusal_for old.phase (Guest e)) (GuestsLogged taking old log e reply new new_log) (λ x. (reply ≡ r.Mig x) × (new ≡ old) × (new_log ≡ log))
 
 -- What is served with a log is served without one too.
-abbrev pub LoggedIsServed : Type 1
-LoggedIsServed = {L : Type 0} (taking : L → Item → L) (old : LiveSeen) (log : L) (e : Event) (reply : LiveReply) (new : LiveSeen) (new_log : L) → ServesLogged taking old log e reply new new_log → Serves old (Guest e) reply new
+abbrev pub LoggedIsServed : {L : Type 0} → (L → Item → L) → Type 0
+LoggedIsServed {L} taking = (old : LiveSeen) (log : L) (e : Event) (reply : LiveReply) (new : LiveSeen) (new_log : L) → ServesLogged taking old log e reply new new_log → Serves old (Guest e) reply new

@@ -11,6 +11,8 @@ ghost use Rattle.sender.specs.Taking.{CallsIgnoreTaken, TakenAreWhole, TakenFoll
 ghost use Rattle.sender.specs.Told.{HonestDisksTellContents};
 ghost use Rattle.sender.specs.Unsynced.{FailureFollows, FlushFollows, TakenFailureFollows};
 
+use guestmem::TouchLog;
+
 /// Where the disks are honest, the records that a call writes, which are those of what the disks returned, are those of the machine.
 pub fn honest_disks_tell_contents()
     ensures { HonestDisksTellContents }
@@ -96,8 +98,8 @@ pub fn uncalled_is_same()
 {}
 
 /// An event that is served with a log of the caller's is served as without one.
-pub fn logged_is_served()
-    ensures { LoggedIsServed }
+pub fn logged_is_served<L: TouchLog>()
+    ensures { LoggedIsServed L.after }
 {}
 
 /// What is served while the RAM is lent is served to the machine as it was lent, and its RAM is lent as before.

@@ -33,8 +33,9 @@ impl<D: Disk, W: Digesting> LiveOver<D, W> {
         ensures served { ServesLogged L.after self.old log event.now (guest_reply result.0) self.new result.1 }
         ensures calls { HasLiveCalled D.called self.old (LiveEvent.Guest event.now) (guest_reply result.0) self.new }
     {
-        if let Err(error) = self.running() {
-            return (Err(error), log);
+        match self.running() {
+            Ok(()) => {}
+            Err(error) => return (Err(error), log),
         }
         let mut both = beside(&mut self.dirty, log);
         let reply = self.machine.apply_logged(event, &mut both);
@@ -56,8 +57,9 @@ impl<D: Disk, W: Digesting> LiveOver<D, W> {
         ensures served { ServesLogged L.after self.old log (events.Step dev pick) (guest_reply (stepped_result result.0 sent.new.items)) self.new result.1 }
         ensures calls { HasLiveCalled D.called self.old (LiveEvent.Guest (events.Step dev pick)) (guest_reply (stepped_result result.0 sent.new.items)) self.new }
     {
-        if let Err(error) = self.running() {
-            return (Err(error), log);
+        match self.running() {
+            Ok(()) => {}
+            Err(error) => return (Err(error), log),
         }
         let mut both = beside(&mut self.dirty, log);
         let stepped = self.machine.step_into_logged(dev, pick, sent, &mut both);
@@ -78,8 +80,9 @@ impl<D: Disk, W: Digesting> LiveOver<D, W> {
         ensures served { ServesLogged L.after self.old log (events.MemWrite addr bytes.now) (guest_reply result.0) self.new result.1 }
         ensures calls { HasLiveCalled D.called self.old (LiveEvent.Guest (events.MemWrite addr bytes.now)) (guest_reply result.0) self.new }
     {
-        if let Err(error) = self.running() {
-            return (Err(error), log);
+        match self.running() {
+            Ok(()) => {}
+            Err(error) => return (Err(error), log),
         }
         let mut both = beside(&mut self.dirty, log);
         let answer = self.machine.write_ram_logged(addr, bytes, &mut both);

@@ -19,7 +19,7 @@ invariant_of-self g c =
 pub returns-clause-served : goal.returns-clause-served
 returns-clause-served g c =
     let i = c.self.inside in
-    let still = rw (← c.self.view_is) at c.in_ok-running.ensures.open in
+    let still = rw (← c.self.view_is) at (rw c.in-Ok.is at c.running.ensures.open) in
     let was = c.write_ram_logged-answer in
     rw (← c.self.view_is, c.from_done.ensures)
     (logged_served g.L.TouchLog.after i.machine was.new.self i.dirty c.args.log c.beside-both.result was.new.log (MemWrite c.args.addr c.args.bytes.now) (done_reply was.result) c.beside-both.ensures was.ensures.applied i.phase i.due i.at (g.W.Sink.sum i.writer) (g.W.Sink.state i.writer) c.self.invariant still)
