@@ -1,6 +1,6 @@
 //! A set of numbers.
 
-ghost use Rattle.std.specs.Prelude.{◌≡◌, ◌<◌, ◌≤◌, ◌↔◌, ◌+◌, ◌*◌, ◌/◌, ◌^◌, IsTrue, drop, length, replicate, slice_set, take, true, false, IfOk};
+ghost use Rattle.std.specs.Prelude.{◌≡◌, ◌<◌, ◌≤◌, ◌↔◌, ◌+◌, ◌*◌, ◌/◌, ◌^◌, [], IsTrue, drop, length, replicate, slice_set, take, true, false, IfOk};
 ghost use Rattle.dirtylog.specs.Members.{has, HasNone, IsLeastFrom, LooksThrough, member_count};
 ghost use Rattle.dirtylog.specs.Words.{HasRoomFor};
 
@@ -47,6 +47,18 @@ impl BitSet {
             marks,
             members: 0,
         })
+    }
+
+    /// A set of no numbers. It takes no memory.
+    pub fn none(alloc: Global) -> BitSet
+        ensures { result ≡ [] }
+    {
+        BitSet {
+            len: 0,
+            words: Vec::new(alloc),
+            marks: Vec::new(alloc),
+            members: 0,
+        }
     }
 
     /// The length: members are below it.

@@ -38,3 +38,4 @@ mod Keeping
 mod Alike
 mod Unsynced
 mod OfShapes
+mod Handing

@@ -17,6 +17,7 @@ pub mod NextWork
 pub mod Looked
 pub mod NextBad
 pub mod Outcome
+pub mod PageLog
 pub mod Parked
 pub mod QueuePositions
 pub mod Refusal

@@ -4,6 +4,7 @@ mod work;
 
 ghost use Rattle.machine.specs.AppliedLaws.{HonestDisksGiveTheirs, AnyDiskActsAlike, RefusedChangesNothing};
 ghost use Rattle.machine.specs.Calls.{OnlyStepsCall};
+ghost use Rattle.machine.specs.PageLog.{NotedAreThese};
 ghost use Rattle.machine.specs.Parked.{BackIsWritten, MarkIsWritten, ParkedFlushFails, ParkedIsApplied, ParkedIsFlushed, UnnamedIsWritten};
 ghost use Rattle.machine.specs.EffectLaws.{UntouchedStays, TouchedExists, ShapeStays};
 ghost use Rattle.machine.specs.StepLaws.{EffectsAgree, StepsAgree, RunsAgree, StepStaysWithin, StepKeepsShape, StepStaysSound, RefusalsChangeNothing, MalformedIsContained, MalformedAsksForReset};
@@ -119,4 +120,9 @@ pub fn parked_is_flushed()
 /// So it is with a step whose flush fails in its place.
 pub fn parked_flush_fails()
     ensures { ParkedFlushFails }
+{}
+
+/// A log of pages has the pages that it had and those that were written, and no other.
+pub fn noted_are_these()
+    ensures { NotedAreThese }
 {}

@@ -19,6 +19,8 @@
 //!   of other devices as they were; and after the step of a driver's flush, where it answered `Moved`, the disk is flushed.
 //! - `apply_logged(event, log)` is the same step, and the log is then what the items of the step's effect make of it: exactly
 //!   the pages and sectors that the step writes into.
+//! - `PageLog` is a log for a host that asks which pages were written: `hand_out` gives their numbers, each once, ascending, and forgets them
+//!   (`specs/PageLog`, `laws::noted_are_these`). It takes memory as it is made, and no more.
 //! - `read_register`, `write_register`, `read_ram`, `write_ram`, `input`, `resize` and `step` are the steps of their events,
 //!   with no event to be made.
 //! - `flush_disk(dev)` is one flush of the disk of a device, beside all steps (`specs/Unsynced`): the machine stays equal, and after an Ok the
@@ -81,6 +83,7 @@ mod kind;
 pub mod laws;
 mod machine;
 mod new_error;
+mod page_log;
 mod reply;
 mod shape;
 mod state;
@@ -96,6 +99,7 @@ pub use guestmem::Bytes;
 pub use kind::Kind;
 pub use machine::{DEVICES_MAX, Machine, Parked, Room, is_base};
 pub use new_error::NewError;
+pub use page_log::PageLog;
 pub use reply::{Refusal, Reply};
 pub use shape::Shape;
 pub use state::{DeviceState, offered};

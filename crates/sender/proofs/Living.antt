@@ -170,10 +170,13 @@ module _ (machine next : Seen) (d new : Dirty) (phase : Phase) (due : List Bool)
         sets = fit_next (layout_of (state_of next)) phase phase due due d.set new.set d.firsts.items new.firsts.items at at same.sets refl long (ap (λ (x : Dirty). x.firsts.items) noted) same.sets.round same.sets.reached same.sets.passed;
       }
 
+  pub dirty_noted : new.set ≡ with_items (firsts_of (layout_of (state_of machine))) d.set (items_of h.is_applied.effect)
+  dirty_noted = ap (λ (x : Dirty). x.set) noted ∙ ap (λ (fs : List ℕ). with_items fs d.set (items_of h.is_applied.effect)) live.sets.firsts_are
+
   pub guest_served : phase ≢ phases.Stopped → Serves (record { machine = machine; phase = phase; due = due; dirty = d.set; digest = digest; out = out }) (Guest e) (r.Guest reply) (record { machine = next; phase = phase; due = due; dirty = new.set; digest = digest; out = out })
   guest_served open_still = rw (guest_free phase e open_still) (record {
     is_applied = h.is_applied;
-    dirty = ap (λ (x : Dirty). x.set) noted ∙ ap (λ (fs : List ℕ). with_items fs d.set (items_of h.is_applied.effect)) live.sets.firsts_are;
+    dirty = dirty_noted;
     rest = refl;
   })
 

@@ -4,6 +4,7 @@ pub mod Dirty
 pub mod LiveState
 pub mod Told
 pub mod Calls
+pub mod Logged
 pub mod Reads
 pub mod Stopping
 pub mod History

@@ -2,12 +2,23 @@
 
 use dirtylog::BitSet;
 use guestmem::TouchLog;
+use std::alloc::Global;
 
 /// The dirty items by their numbers, and the item number of the first sector of each device's disk.
 #[derive(Drop)]
 pub(crate) struct Dirty {
     pub(crate) set: BitSet,
     pub(crate) firsts: Vec<u64>,
+}
+
+impl Dirty {
+    /// One that names no item. It takes no memory.
+    pub(crate) fn none(alloc: Global) -> Dirty {
+        Dirty {
+            set: BitSet::none(alloc),
+            firsts: Vec::new(alloc),
+        }
+    }
 }
 
 impl TouchLog for Dirty {

@@ -2,6 +2,7 @@
 
 ghost use Rattle.sender.specs.Follows.{CallsFollow};
 ghost use Rattle.sender.specs.HistoryLaws.{AfterIsRun, FreshIsLast, OneHistory, StaleIsNotFresh, StoppedIsStream};
+ghost use Rattle.sender.specs.Logged.{LoggedIsServed};
 ghost use Rattle.sender.specs.Marks.{BackIsBehind, BehindByNone, CallsStayBehind, FailureStaysBehind, FlushStaysBehind, LentIsBehind, MarksCatchUp, TakenStaysBehind, TakingStaysBehind};
 ghost use Rattle.sender.specs.Parked.{LiveBackFollows, LiveBackIsServed};
 ghost use Rattle.sender.specs.ParkedCalls.{LentFollows, LiveParkedFlushFails, LiveParkedIsFlushed, LiveParkedIsServed};
@@ -9,6 +10,8 @@ ghost use Rattle.sender.specs.Reads.{UncalledIsSame};
 ghost use Rattle.sender.specs.Taking.{CallsIgnoreTaken, TakenAreWhole, TakenFollow};
 ghost use Rattle.sender.specs.Told.{HonestDisksTellContents};
 ghost use Rattle.sender.specs.Unsynced.{FailureFollows, FlushFollows, TakenFailureFollows};
+
+use guestmem::TouchLog;
 
 /// Where the disks are honest, the records that a call writes, which are those of what the disks returned, are those of the machine.
 pub fn honest_disks_tell_contents()
@@ -92,6 +95,11 @@ pub fn flush_keeps_the_history()
 /// A machine that a call leaves unchanged but for the calls of its disks is unchanged where that call made none.
 pub fn uncalled_is_same()
     ensures { UncalledIsSame }
+{}
+
+/// An event that is served with a log of the caller's is served as without one.
+pub fn logged_is_served<L: TouchLog>()
+    ensures { LoggedIsServed L.after }
 {}
 
 /// What is served while the RAM is lent is served to the machine as it was lent, and its RAM is lent as before.

@@ -326,7 +326,7 @@ impl<D: Disk, W: Digesting> LiveOver<D, W> {
     }
 
     /// Whether the guest still runs: a stop that closed the stream has paused it.
-    fn running(&self) -> Result<(), MigError>
+    pub(crate) fn running(&self) -> Result<(), MigError>
         ensures open { OnOk result (self.now.phase ≢ Phase.Stopped) }
         ensures closed { IfErr result (λ e. (e ≡ MigError.AlreadyStopped) × (self.now.phase ≡ Phase.Stopped)) }
     {

@@ -6,7 +6,7 @@ pub use guestmem::laws::{
 pub use machine::laws::{
     any_disk_acts_alike, back_is_written, effects_agree, honest_disks_give_theirs,
     idle_without_work, malformed_asks_for_reset, malformed_is_contained, mark_is_written,
-    only_steps_call, parked_flush_fails, parked_is_applied, parked_is_flushed,
+    noted_are_these, only_steps_call, parked_flush_fails, parked_is_applied, parked_is_flushed,
     refusals_change_nothing, refused_changes_nothing, runs_agree, shape_stays, step_keeps_shape,
     step_stays_sound, step_stays_within, steps_agree, touched_exists, unnamed_is_written,
     untouched_stays, work_gets_on,
@@ -26,10 +26,10 @@ pub use sender::laws::{
     failed_flush_stays_behind, flush_keeps_the_history, flush_stays_behind, fresh_is_last,
     honest_disks_tell_contents, lent_follows_the_history, lent_is_behind,
     live_back_follows_the_history, live_back_is_served, live_parked_flush_fails,
-    live_parked_is_flushed, live_parked_is_served, marks_catch_up, replies_settle,
-    stale_is_not_fresh, stopped_is_a_stream, taken_failed_flush_follows_the_history,
-    taken_follows_the_history, taken_is_whole, taken_stays_behind, taking_stays_behind,
-    uncalled_is_same,
+    live_parked_is_flushed, live_parked_is_served, logged_is_served, marks_catch_up,
+    replies_settle, stale_is_not_fresh, stopped_is_a_stream,
+    taken_failed_flush_follows_the_history, taken_follows_the_history, taken_is_whole,
+    taken_stays_behind, taking_stays_behind, uncalled_is_same,
 };
 pub use traces::laws::{events_are_read_in_one_way, texts_are_read_in_one_way};
 pub use wire::laws::{
