@@ -38,13 +38,17 @@ fn live_machine(alloc: Global) -> Result<Live<MemDisk, OwnSink>> {
 /// A round, a second one, and the stop.
 fn rounds_are_made(alloc: Global) -> Result<()> {
     let mut live = live_machine(alloc)?;
-    begins(&mut live)?;
-    is_left(&live)?;
-    round_is_sent(&mut live)?;
-    stops(&mut live)?;
+    rounds_are_sent(&mut live)?;
     let machine = live.abort();
     ensure!(machine.lines() == 0, "the machine");
     Ok(())
+}
+
+fn rounds_are_sent(live: &mut Live<MemDisk, OwnSink>) -> Result<()> {
+    begins(live)?;
+    is_left(live)?;
+    round_is_sent(live)?;
+    stops(live)
 }
 
 fn begins(live: &mut Live<MemDisk, OwnSink>) -> Result<()> {
@@ -102,10 +106,14 @@ fn stop_sends(live: &mut Live<MemDisk, OwnSink>, pages: u64) -> Result<()> {
 /// A page that is named after it was copied is sent again, by the stop.
 fn named_page_is_sent(alloc: Global) -> Result<()> {
     let mut live = live_machine(alloc)?;
-    ensure!(live.begin() == Ok(1), "the begin");
-    page_is_copied(&mut live)?;
-    page_is_named(&mut live)?;
-    stop_sends(&mut live, 1)
+    names_a_page(&mut live)
+}
+
+fn names_a_page(live: &mut Live<MemDisk, OwnSink>) -> Result<()> {
+    begins(live)?;
+    page_is_copied(live)?;
+    page_is_named(live)?;
+    stop_sends(live, 1)
 }
 
 fn page_is_named(live: &mut Live<MemDisk, OwnSink>) -> Result<()> {
