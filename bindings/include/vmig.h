@@ -27,6 +27,8 @@
  *       return value == 0x74726976 && kept == 6 ? 0 : 1;
  *   }
  *
+ * In C++ begin a shape by `vmig_shape shape = {}; shape.kind = VMIG_ENTROPY;`: some compilers warn where fields are left out.
+ *
  * RULES, which nothing checks:
  * - A vmig_machine is VMIG_NONE (all zeros) before its first use, and only these calls write it. It may be moved, as by memcpy, but
  *   a copy must not be used beside it.
@@ -109,7 +111,8 @@
  *     }
  *
  * It ends whatever the guest and the disks do, and no device keeps the others from their work, as the next turn begins after the
- * last step that was named. Do a console's steps before the register write returns to the guest: Linux waits for them with
+ * last step that was named. A step raises lines and lowers none, so one look at them after the turn, before the guest runs, is as
+ * good as one after each step. Do a console's steps before the register write returns to the guest: Linux waits for them with
  * interrupts off.
  *
  * DISKS IN YOUR MEMORY, as in a file that you mapped: a vmig_image says where the sectors of a disk are. What the guest writes is
@@ -396,7 +399,8 @@ typedef struct vmig_arrival {
     uint32_t version;                   /* of this struct: 1 */
     uint32_t most_pages;                /* of RAM, 4,096 bytes each, in memory of the library. RAM of yours is its own limit: 0 here
                                          * then, else VMIG_BAD_RAM */
-    uint64_t most_sectors;              /* of all disks in memory of the library together. Images are their own limit */
+    uint64_t most_sectors;              /* of all disks in memory of the library together. Images are their own limit: beside them
+                                         * this is not looked at */
     const vmig_shape *shapes;           /* exactly these devices, else VMIG_STREAM_MISMATCH; or count is 0: any within the limits */
     size_t count;
     vmig_image *images;                 /* the disks, in memory of yours: one for each block device of the stream, in their order,
@@ -422,7 +426,7 @@ typedef struct vmig_arrival {
 typedef struct vmig_description {
     uint32_t state;                     /* VMIG_IS_NONE and the others below */
     uint32_t lent;                      /* 1: RAM is out */
-    uint32_t pages;                     /* of RAM; of what arrives from its header on */
+    uint32_t pages;                     /* of RAM; of what arrives from its header on, and 0 once it has failed */
     uint32_t count;                     /* of devices; likewise */
     uint64_t base;                      /* of RAM; of a stream 0, which does not say it */
     uint32_t flags;                     /* 0 */
@@ -476,13 +480,16 @@ void vmig_describe(const vmig_machine *m, vmig_description *out) VMIG_NONNULL_(1
 
 /* ---- what the guest and the host do: none of it touches RAM ------------------------------------------------------------------ */
 
-/* The driver reads a register: 1, 2 or 4 bytes (width) at an offset in the device's window, which has 0x200 bytes; the device's
- * configuration begins at 0x100. Each offset and width has an answer: an offset without a register reads 0. NO_DEVICE. */
+/* The driver reads a register: 1, 2 or 4 bytes (width) at an offset in the device's window, which has 0x200 bytes. The registers
+ * are those of VIRTIO 1.2, 4.2.2, 4 bytes each, and from 0x100 on lies the device's configuration (docs/host-loop.md has a table).
+ * Each offset and width has an answer: an offset without a register, and a register by another width, reads 0. An access of 8 bytes
+ * is two of 4. NO_DEVICE. */
 vmig_status vmig_reg_read(const vmig_machine *m, uint8_t dev, uint32_t off, uint8_t width, uint32_t *value) VMIG_CHECKED_(1, 5);
 
-/* The driver writes a register. The status does not show whether the device takes the value. *byte becomes the byte that a console
- * gives out where its driver writes its emergency register (VIRTIO 1.2, 5.3.5): print it. Else it becomes VMIG_NO_BYTE. After a
- * write at 0x050 (QueueNotify) the device may have work. NO_DEVICE. */
+/* The driver writes a register. The status does not show whether the device takes the value: where there is no register, or one of
+ * another width, a write is VMIG_OK and does nothing. *byte becomes the byte that a console gives out where its driver writes its
+ * emergency register (VIRTIO 1.2, 5.3.5): print it. Else it becomes VMIG_NO_BYTE. After a write at 0x050 (QueueNotify) the device
+ * may have work. NO_DEVICE. */
 vmig_status vmig_reg_write(vmig_machine *m, uint8_t dev, uint32_t off, uint8_t width, uint32_t value, uint32_t *byte)
     VMIG_CHECKED_(1, 6);
 
@@ -520,9 +527,10 @@ vmig_status vmig_reset(vmig_machine *m) VMIG_CHECKED_(1);
  * next device, and after the last device the first again.
  * VMIG_WORK. VMIG_SYNC, where the guest takes what it wrote to this disk for durable by that step: it makes a flush, or it ends a
  * write whose driver did not accept the feature FLUSH (VIRTIO 1.2, 5.2.6.2). Bring the image to its file before you make the step,
- * or call vmig_sync_failed in its place; a disk in memory of the library has no file, but the same answer. VMIG_IDLE, where no step
- * of any device has anything to do: both are as they were. The step that is named is not VMIG_IDLE, or it finds a queue empty, and
- * then that queue has nothing to do until its driver notifies the device anew. It reads no RAM. */
+ * or call vmig_sync_failed in its place. Of a disk in memory of the library, and of an image behind which no file lies, the answer
+ * is the same, and nothing is to be brought: make the step. VMIG_IDLE, where no step of any device has anything to do: both are as
+ * they were. The step that is named is not VMIG_IDLE, or it finds a queue empty, and then that queue has nothing to do until its
+ * driver notifies the device anew. It reads no RAM. */
 vmig_status vmig_next(const vmig_machine *m, uint8_t *dev, uint8_t *pick) VMIG_CHECKED_(1, 2, 3);
 
 /* A device does one piece of its work, which the pick names. A block device: pick 0 takes the next request (none while 8 are
@@ -651,7 +659,9 @@ vmig_status vmig_finish(vmig_machine *m) VMIG_CHECKED_(1);
 
 /* What a stream announces that begins with these bytes, before any memory is taken for it: VMIG_OK says that its header is whole
  * and within the limits of any machine, and nothing of what follows it. VMIG_MORE: hand in more of its first bytes; 496 always
- * tell, often 17 do, and *out is as it was. STREAM_BAD_MAGIC, STREAM_BAD_VERSION, STREAM_BAD_SHAPE, NO_MEMORY. */
+ * tell, often 17 do, and *out is as it was. An arrival that has failed describes no pages and no devices: a host that will say what
+ * machine it refused, as after STREAM_TOO_LARGE or STREAM_BAD_DEVICE, keeps the first 496 bytes for this call.
+ * STREAM_BAD_MAGIC, STREAM_BAD_VERSION, STREAM_BAD_SHAPE, NO_MEMORY. */
 vmig_status vmig_stream_describe(const uint8_t *bytes, size_t len, vmig_description *out) VMIG_CHECKED_(3);
 
 static inline const char *vmig_status_name(vmig_status status)

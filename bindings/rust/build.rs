@@ -1,4 +1,4 @@
-//! Links libvmig.a as `install` leaves it: from the folder that `VMIG_LIB` names, or that pkg-config knows. `VMIG_HEADER` becomes the
+//! Links libvmig.a as `install` leaves it: from the folder that `VMIG_LIB` names from its root on, or that pkg-config knows. `VMIG_HEADER` becomes the
 //! header beside it, or in the repository, which the tests compare with the declarations of this crate.
 
 use std::path::{Path, PathBuf};
@@ -20,6 +20,10 @@ fn main() {
         println!("cargo:warning=libvmig.a is not found: install it, and set VMIG_LIB or PKG_CONFIG_PATH");
         return;
     };
+    if !folder.join("libvmig.a").exists() {
+        let hint = if folder.is_relative() { ": a name without / in front is taken from the folder of this crate" } else { "" };
+        println!("cargo:warning=VMIG_LIB or pkg-config names {}, where there is no libvmig.a{hint}", folder.display());
+    }
     println!("cargo:rustc-link-search=native={}", folder.display());
     println!("cargo:rerun-if-changed={}", folder.join("libvmig.a").display());
     let beside = folder.join("../include/vmig.h");

@@ -58,12 +58,13 @@ pub struct ArrivalBuilder {
 }
 
 impl ArrivalBuilder {
-    /// The most pages of RAM, in memory of the library. A [`Memory`] is its own limit, and this is not said beside it.
+    /// The most pages of RAM, in memory of the library. A [`Memory`] is its own limit: beside one this is
+    /// refused, as `BadRam`.
     pub fn most_pages(self, most_pages: u32) -> ArrivalBuilder {
         ArrivalBuilder { most_pages, ..self }
     }
 
-    /// The most sectors of all disks together, in memory of the library. Images are their own limit.
+    /// The most sectors of all disks together, in memory of the library. Images are their own limit, and this is not looked at beside them.
     pub fn most_sectors(self, most_sectors: u64) -> ArrivalBuilder {
         ArrivalBuilder { most_sectors, ..self }
     }
@@ -155,7 +156,8 @@ impl Arrival {
         Ok(status == raw::WHOLE)
     }
 
-    /// What the stream announced, once its header has come.
+    /// What the stream announced, once its header has come. `None` before, and once it was refused: keep its first 496 bytes for [`announced`]
+    /// to say what machine was refused.
     pub fn announced(&self) -> Result<Option<Announced>, Error> {
         let found = self.machine.describe();
         let devices = devices_of(&found)?;

@@ -30,22 +30,19 @@ s 0 1
 
 /// Where the disk flushes, the write ends after its flush; where that fails, the write does not end.
 pub fn ends_after_its_flush(alloc: Global) -> Result<()> {
-    let mut machine = machine_with(alloc, false)?;
-    drive(alloc, &mut machine)?;
-    ensure!(status_of(&machine)? == 0, "a write that ended");
-    let calls = calls_of(machine)?;
-    ensure!(
-        calls.as_slice() == [Called::Write(3), Called::Flush].as_slice(),
-        "the calls of the disk"
-    );
+    leaves(alloc, false, 0, &[Called::Write(3), Called::Flush])?;
+    leaves(alloc, true, 9, &[Called::Write(3)])
+}
 
-    let mut machine = machine_with(alloc, true)?;
+/// Fails unless the write leaves this status byte, and these were the calls of its disk.
+fn leaves(alloc: Global, flush_fails: bool, status: u8, called: &[Called]) -> Result<()> {
+    let mut machine = machine_with(alloc, flush_fails)?;
     drive(alloc, &mut machine)?;
-    ensure!(status_of(&machine)? == 9, "a write that was lost");
+    has_status(&machine, status)?;
     let calls = calls_of(machine)?;
     ensure!(
-        calls.as_slice() == [Called::Write(3)].as_slice(),
-        "the calls of a disk that is lost"
+        calls.as_slice() == called,
+        "the calls of a disk whose flush fails: {flush_fails}"
     );
     Ok(())
 }
@@ -67,14 +64,15 @@ fn drive(alloc: Global, machine: &mut Machine<OwnDisk>) -> Result<()> {
     Ok(())
 }
 
-/// The status byte of the write.
-fn status_of(machine: &Machine<OwnDisk>) -> Result<u8> {
+/// Fails unless the status byte of the write is this one.
+fn has_status(machine: &Machine<OwnDisk>, expected: u8) -> Result<()> {
     let mut status = [0];
     ensure!(
         machine.read_ram(0x900, &mut status).is_ok(),
         "RAM is too short"
     );
-    Ok(status[0])
+    ensure!(status == [expected], "the status byte is not {expected}");
+    Ok(())
 }
 
 /// The calls that were made of the disk.

@@ -22,6 +22,10 @@ fn events_answer(alloc: Global) -> Result<()> {
     magic_is_read(&mut machine)?;
     ram_is_written(alloc, &mut machine)?;
     list_is_played(alloc, &mut machine)?;
+    is_as_made(&machine)
+}
+
+fn is_as_made(machine: &Machine<MemDisk>) -> Result<()> {
     ensure!(
         machine.lines() == 0 && machine.shapes() == [Shape::Entropy].as_slice(),
         "the machine"
@@ -53,35 +57,40 @@ fn ram_is_written(alloc: Global, machine: &mut Machine<MemDisk>) -> Result<()> {
 
 /// A list of events, each with its reply.
 fn list_is_played(alloc: Global, machine: &mut Machine<MemDisk>) -> Result<()> {
-    let events = Vec::from_array(
-        alloc,
-        [
-            register(0x008),
-            Event::MemRead {
-                addr: 0xfff,
-                len: 1,
-            },
-            Event::Step { dev: 0, pick: 0 },
-            Event::Resize {
-                dev: 0,
-                cols: 80,
-                rows: 25,
-            },
-            Event::Drop { dev: 0 },
-        ],
-    )?;
+    let events = events(alloc)?;
     let replies = machine.play(events.as_slice())?;
+    are_expected(alloc, replies.as_slice())
+}
+
+fn events(alloc: Global) -> Result<Vec<Event>> {
+    let events = [
+        register(0x008),
+        Event::MemRead {
+            addr: 0xfff,
+            len: 1,
+        },
+        Event::Step { dev: 0, pick: 0 },
+        Event::Resize {
+            dev: 0,
+            cols: 80,
+            rows: 25,
+        },
+        Event::Drop { dev: 0 },
+    ];
+    Ok(Vec::from_array(alloc, events)?)
+}
+
+fn are_expected(alloc: Global, replies: &[Reply]) -> Result<()> {
     let read = Vec::from_array(alloc, [0x69])?;
+    let expected = [
+        Reply::Value(4),
+        Reply::Bytes(Bytes::from_vec(read)),
+        Reply::Idle,
+        Reply::Refused(vmig::Refusal::WrongKind),
+        Reply::Done,
+    ];
     ensure!(
-        replies.as_slice()
-            == [
-                Reply::Value(4),
-                Reply::Bytes(Bytes::from_vec(read)),
-                Reply::Idle,
-                Reply::Refused(vmig::Refusal::WrongKind),
-                Reply::Done
-            ]
-            .as_slice(),
+        replies == expected.as_slice(),
         "the replies are {replies:?}"
     );
     Ok(())
@@ -132,6 +141,12 @@ fn sectors_are_read(alloc: Global) -> Result<()> {
         id: ID,
     };
     let mut machine = Machine::new(alloc, 1, &[block], disks)?;
+    sector_is_read(&mut machine)?;
+    ensure!(machine.ram().len() == 4096, "RAM");
+    Ok(())
+}
+
+fn sector_is_read(machine: &mut Machine<OwnDisk>) -> Result<()> {
     let mut sector = [1; 512];
     ensure!(!machine.has_sector(0, 8), "a sector past the end");
     if !machine.has_sector(0, 7) {
@@ -140,6 +155,5 @@ fn sectors_are_read(alloc: Global) -> Result<()> {
     ensure!(machine.read_sector(0, 7, &mut sector)?, "a bad sector");
     ensure!(sector == [0; 512], "a sector of zeros");
     ensure!(machine.bad_sectors(0) == 0, "no bad sector");
-    ensure!(machine.ram().len() == 4096, "RAM");
     Ok(())
 }

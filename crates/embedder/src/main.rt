@@ -1,18 +1,14 @@
-//! A host that knows the library by its public calls alone, with a ring, a disk, a log and a sink of its own. It makes each call, in the
-//! plainest form that there is, and compares what comes back with what the standard says. The first that differs ends the program.
+//! A host that knows the library by the public calls of `vmig` alone, with a disk, a log and a sink of its own. It makes each call, in
+//! the plainest form that there is, and compares what comes back with what the standard says. The first that differs ends the program.
+//! The parts of a machine are called by `embedder_parts`.
 #![tactic(auto)]
 
-mod bits;
 mod durable;
 mod machines;
-mod memory;
 mod moves;
 mod own_disk;
 mod own_log;
-mod own_ring;
 mod own_sink;
-mod registers;
-mod rings;
 mod streams;
 mod takings;
 mod texts;
@@ -24,19 +20,6 @@ use std::io::Write;
 fn say(rt: &HostRuntime, compared: &str) -> Result<()> {
     println!(rt; "{compared}")?;
     Ok(())
-}
-
-/// What a machine is made of.
-fn parts_agree(rt: &HostRuntime) -> Result<()> {
-    let alloc = rt.alloc();
-    bits::agree(alloc)?;
-    say(rt, "sets of numbers")?;
-    memory::agrees(alloc)?;
-    say(rt, "RAM")?;
-    registers::agree()?;
-    say(rt, "registers")?;
-    rings::agree(alloc)?;
-    say(rt, "rings of both layouts, and one of our own")
 }
 
 /// A machine, and what its disk is asked for.
@@ -60,7 +43,6 @@ fn moves_agree(rt: &HostRuntime) -> Result<()> {
 }
 
 fn main(rt: HostRuntime) -> Result<()> {
-    parts_agree(&rt)?;
     machines_agree(&rt)?;
     moves_agree(&rt)?;
     texts::agree(&rt)?;

@@ -2,7 +2,7 @@
 
 ghost use Rattle.std.specs.Prelude.{true, refl};
 
-use guestmem::TouchLog;
+use vmig::TouchLog;
 
 /// Whether a page or a sector was written since it was made.
 #[derive(Clone, Copy, Debug)]

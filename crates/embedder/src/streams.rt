@@ -4,9 +4,9 @@ use crate::own_sink::OwnSink;
 use anyhow::{Context, Result, bail, ensure};
 use std::alloc::Global;
 use vmig::{
-    Machine, MemDisk, Receiver, Record, RecvError, Shape, Sink, WriteSink, decode_device,
-    decode_header, decode_record, encode_commit, encode_device, encode_header, encode_page,
-    encode_round, encode_sector, encode_zero_page, receive, save,
+    Machine, MemDisk, Receiver, Record, Shape, Sink, WriteSink, decode_device, decode_header,
+    decode_record, encode_commit, encode_device, encode_header, encode_page, encode_round,
+    encode_sector, encode_zero_page, receive, save,
 };
 
 /// The stream of a machine of one page of zeros and an entropy device, up to its device's record: the header, and a page of zeros.
@@ -39,43 +39,74 @@ pub fn machine_of(alloc: Global) -> Result<Machine<MemDisk>> {
 /// The whole stream of such a machine, by a sink of our own and by one over a writer.
 fn stream_of(alloc: Global) -> Result<Vec<u8>> {
     let mut machine = machine_of(alloc)?;
+    let stream = saved(alloc, &mut machine)?;
+    let other = written(alloc, &mut machine)?;
+    ensure!(
+        other.as_slice() == stream.as_slice(),
+        "two streams of one machine"
+    );
+    Ok(stream)
+}
+
+/// The stream that a sink of our own holds.
+fn saved(alloc: Global, machine: &mut Machine<MemDisk>) -> Result<Vec<u8>> {
     let mut sink = OwnSink::new(alloc);
-    save(&mut machine, &mut sink)?;
+    save(machine, &mut sink)?;
     ensure!(
         sink.is_flushed && sink.failures == 0,
         "the end of the stream"
     );
-    let mut other = WriteSink::new(Vec::new(alloc));
-    save(&mut machine, &mut other)?;
-    ensure!(
-        other.into_inner().as_slice() == sink.bytes.as_slice(),
-        "two streams of one machine"
-    );
     Ok(sink.bytes)
+}
+
+/// The stream that a writer gets.
+fn written(alloc: Global, machine: &mut Machine<MemDisk>) -> Result<Vec<u8>> {
+    let mut sink = WriteSink::new(Vec::new(alloc));
+    save(machine, &mut sink)?;
+    Ok(sink.into_inner())
 }
 
 /// The parts of a stream, each in its own bytes.
 fn parts_are_encoded(alloc: Global) -> Result<()> {
     let mut sink = OwnSink::new(alloc);
-    encode_header(1, &[Shape::Entropy], &mut sink)?;
-    encode_zero_page(0, &mut sink)?;
+    front_is_encoded(&mut sink)?;
+    round_is_encoded(&mut sink)?;
+    bad_sector_is_encoded(&mut sink)?;
+    rest_is_encoded(&mut sink)
+}
+
+fn front_is_encoded(sink: &mut OwnSink) -> Result<()> {
+    encode_header(1, &[Shape::Entropy], sink)?;
+    encode_zero_page(0, sink)?;
     ensure!(sink.bytes.as_slice() == FRONT.as_slice(), "the front");
+    Ok(())
+}
+
+fn round_is_encoded(sink: &mut OwnSink) -> Result<()> {
     sink.bytes.clear();
-    encode_round(1, &mut sink)?;
+    encode_round(1, sink)?;
     ensure!(
         sink.bytes.as_slice() == [3, 1, 0, 0, 0].as_slice(),
         "a round"
     );
+    Ok(())
+}
+
+fn bad_sector_is_encoded(sink: &mut OwnSink) -> Result<()> {
     sink.bytes.clear();
-    encode_sector(0, 2, None, &mut sink)?;
+    encode_sector(0, 2, None, sink)?;
     ensure!(
         sink.bytes.as_slice() == [2, 0, 2, 0, 0, 0, 0].as_slice(),
         "a bad sector"
     );
+    Ok(())
+}
+
+fn rest_is_encoded(sink: &mut OwnSink) -> Result<()> {
     sink.bytes.clear();
-    encode_page(0, &[1; 4096], &mut sink)?;
+    encode_page(0, &[1; 4096], sink)?;
     ensure!(sink.bytes.len() == 4101, "a page");
-    encode_commit(&[7; 32], &mut sink)?;
+    encode_commit(&[7; 32], sink)?;
     ensure!(sink.bytes.len() == 4134, "a digest");
     sink.flush()?;
     Ok(())
@@ -83,6 +114,13 @@ fn parts_are_encoded(alloc: Global) -> Result<()> {
 
 /// What the bytes say.
 fn parts_are_read(alloc: Global, stream: &[u8]) -> Result<()> {
+    header_is_read(alloc, stream)?;
+    page_is_read(stream.get(17..).context("no page")?)?;
+    let body = body_of(stream.get(22..).context("no device")?)?;
+    device_is_read(alloc, body, stream.get(22..92).context("no record")?)
+}
+
+fn header_is_read(alloc: Global, stream: &[u8]) -> Result<()> {
     let header = decode_header(alloc, stream)?.context("no header")?;
     ensure!(
         header.version == 2 && header.pages == 1 && header.len == 17,
@@ -92,52 +130,72 @@ fn parts_are_read(alloc: Global, stream: &[u8]) -> Result<()> {
         header.shapes.as_slice() == [Shape::Entropy].as_slice(),
         "the devices"
     );
-    let (_, records) = stream.split_at(17);
+    Ok(())
+}
+
+fn page_is_read(records: &[u8]) -> Result<()> {
     let (record, len) = decode_record(2, records).context("no record")?;
     ensure!(record == Record::ZeroPage(0) && len == 5, "the page");
-    let (_, records) = stream.split_at(22);
+    Ok(())
+}
+
+/// The body of the device, of which the records begin with that of the device.
+fn body_of(records: &[u8]) -> Result<&[u8]> {
     let (record, len) = decode_record(2, records).context("no record")?;
     let Record::Device { number, body } = record else {
         bail!("no device");
     };
     ensure!(number == 0 && len == 70 && body.len() == 64, "the device");
+    Ok(body)
+}
+
+/// The device is read, and is encoded as the same record.
+fn device_is_read(alloc: Global, body: &[u8], record: &[u8]) -> Result<()> {
     let device = decode_device(alloc, 2, Shape::Entropy, 4096, body)?;
     let mut sink = OwnSink::new(alloc);
     encode_device(0, &device, &mut sink)?;
-    ensure!(sink.bytes.as_slice() == &stream[22..92], "the device again");
+    ensure!(sink.bytes.as_slice() == record, "the device again");
     Ok(())
 }
 
 /// The machine arrives; a stream without its last byte is refused.
 fn machine_arrives(alloc: Global, stream: &[u8]) -> Result<()> {
-    let none: Vec<MemDisk> = Vec::new(alloc);
-    let (machine, rounds) = receive(alloc, stream, none)?;
+    let (machine, rounds) = receive(alloc, stream, no_disks(alloc))?;
     ensure!(rounds == 0 && machine.ram().len() == 4096, "what arrived");
-    let none: Vec<MemDisk> = Vec::new(alloc);
     let cut = stream.get(..LEN - 1).context("no beginning")?;
-    let short = receive(alloc, cut, none);
-    ensure!(code_of(short) == 13, "a stream without its last byte");
+    ensure!(
+        refusal_of(alloc, cut) == 13,
+        "a stream without its last byte"
+    );
     Ok(())
+}
+
+fn no_disks(alloc: Global) -> Vec<MemDisk> {
+    Vec::new(alloc)
+}
+
+/// The number of a stream's refusal, or 0.
+fn refusal_of(alloc: Global, stream: &[u8]) -> u8 {
+    match receive(alloc, stream, no_disks(alloc)) {
+        Ok(_) => 0,
+        Err(error) => error.code(),
+    }
 }
 
 /// The machine arrives in two pieces.
 fn pieces_arrive(alloc: Global, stream: &[u8]) -> Result<()> {
-    let none: Vec<MemDisk> = Vec::new(alloc);
-    let mut receiver = Receiver::new(alloc, none);
+    let mut receiver = Receiver::new(alloc, no_disks(alloc));
+    takes_pieces(&mut receiver, stream)?;
+    let _machine = receiver.finish()?;
+    Ok(())
+}
+
+fn takes_pieces(receiver: &mut Receiver<MemDisk>, stream: &[u8]) -> Result<()> {
     receiver.feed(stream.get(..BODY).context("no front")?)?;
     ensure!(
         receiver.held() == 6 && receiver.rounds() == 0,
         "what is held"
     );
     receiver.feed(stream.get(BODY..).context("no rest")?)?;
-    let _machine = receiver.finish()?;
     Ok(())
-}
-
-/// The number of a refusal, or 0.
-fn code_of(received: Result<(Machine<MemDisk>, u32), RecvError>) -> u8 {
-    match received {
-        Ok(_) => 0,
-        Err(error) => error.code(),
-    }
 }

@@ -27,6 +27,22 @@ fn next_draw(draw: u32) -> u32 {
     draw.wrapping_mul(1_664_525).wrapping_add(1_013_904_223)
 }
 
+/// A machine that is moved to memory, which was written and taken from before.
+fn lagging(alloc: Global) -> Result<LiveWaiting<MemDisk>> {
+    let Ok(lagging) = LiveWaiting::new(alloc, machine_of(alloc)?, used_memory(alloc)?) else {
+        bail!("out of memory");
+    };
+    Ok(lagging)
+}
+
+fn used_memory(alloc: Global) -> Result<Waiting> {
+    let mut writer = Waiting::new(alloc);
+    encode_round(1, &mut writer)?;
+    let mut round = [0; 5];
+    ensure!(writer.take(&mut round) == 5, "what was written before");
+    Ok(writer)
+}
+
 /// One machine that is moved twice: to a sink, and to memory from which bytes are taken.
 #[derive(Drop)]
 struct Twins {
@@ -36,21 +52,14 @@ struct Twins {
 }
 
 impl Twins {
-    /// Nothing is sent yet. The memory was written and taken from before.
+    /// Nothing is sent yet.
     fn new(alloc: Global) -> Result<Twins> {
         let Ok(eager) = Live::new(alloc, machine_of(alloc)?, OwnSink::new(alloc)) else {
             bail!("out of memory");
         };
-        let mut writer = Waiting::new(alloc);
-        encode_round(1, &mut writer)?;
-        let mut round = [0; 5];
-        ensure!(writer.take(&mut round) == 5, "what was written before");
-        let Ok(lagging) = LiveWaiting::new(alloc, machine_of(alloc)?, writer) else {
-            bail!("out of memory");
-        };
         Ok(Twins {
             eager,
-            lagging,
+            lagging: lagging(alloc)?,
             taken: Vec::new(alloc),
         })
     }
@@ -68,6 +77,23 @@ impl Twins {
         Ok(())
     }
 
+    /// The calls that a seed draws, each followed by a taking, and all that is left.
+    fn move_by(&mut self, seed: u32) -> Result<()> {
+        ensure!(self.eager.begin() == self.lagging.begin(), "the begin");
+        let mut draw = next_draw(seed);
+        for _ in 0..60 {
+            self.call(draw)?;
+            draw = next_draw(draw);
+            self.take(((draw >> 16) % 16384) as usize)?;
+            draw = next_draw(draw);
+        }
+        ensure!(self.eager.stop() == self.lagging.stop(), "the stop");
+        for _ in 0..60 {
+            self.take(TAKE_MAX)?;
+        }
+        Ok(())
+    }
+
     /// Takes the first of the bytes that wait.
     fn take(&mut self, most: usize) -> Result<()> {
         let mut buf = [0; TAKE_MAX];
@@ -81,30 +107,25 @@ impl Twins {
 /// A move of which the seed draws the calls, and how many bytes are taken after each.
 fn move_agrees(alloc: Global, seed: u32) -> Result<()> {
     let mut twins = Twins::new(alloc)?;
-    let mut draw = next_draw(seed);
-    ensure!(twins.eager.begin() == twins.lagging.begin(), "the begin");
-    for _ in 0..60 {
-        twins.call(draw)?;
-        draw = next_draw(draw);
-        twins.take(((draw >> 16) % 16384) as usize)?;
-        draw = next_draw(draw);
-    }
-    ensure!(twins.eager.stop() == twins.lagging.stop(), "the stop");
-    for _ in 0..60 {
-        twins.take(TAKE_MAX)?;
-    }
+    twins.move_by(seed)?;
     let Twins {
         eager,
         lagging: _,
         taken,
     } = twins;
     let (_machine, sink) = eager.into_parts();
-    ensure!(
-        taken.as_slice() == sink.bytes.as_slice(),
-        "the bytes that were taken"
-    );
+    is_same(taken.as_slice(), sink.bytes.as_slice())?;
+    machine_arrives(alloc, taken.as_slice())
+}
+
+fn is_same(taken: &[u8], sent: &[u8]) -> Result<()> {
+    ensure!(taken == sent, "the bytes that were taken");
+    Ok(())
+}
+
+fn machine_arrives(alloc: Global, stream: &[u8]) -> Result<()> {
     let none: Vec<MemDisk> = Vec::new(alloc);
-    let (machine, _rounds) = receive(alloc, taken.as_slice(), none)?;
+    let (machine, _rounds) = receive(alloc, stream, none)?;
     ensure!(machine.ram().len() == 28_672, "what arrived");
     Ok(())
 }

@@ -10,14 +10,13 @@ mod moving;
 
 use cpu::{Cpu, Exit, WINDOW, WINDOWS};
 use moving::Sending;
-use std::error::Error;
 use std::fs::File;
 use std::io::Write;
 use std::net::TcpStream;
 use std::path::Path;
 use vmig::{Device, Image, Machine, Memory, Next, Pages, Pick, SENT_MAX, Step};
 
-type Failure = Box<dyn Error>;
+type Failure = Box<dyn std::error::Error>;
 
 const DEVICES: [Device; 2] = [Device::disk(guest::SECTORS as u64), Device::Console];
 
@@ -34,8 +33,7 @@ struct Host {
     cpu: Cpu,
     last: Pick,
     message: Vec<u8>,
-    /// How many messages its console sent.
-    sent: usize,
+    messages_sent: usize,
 }
 
 impl Host {
@@ -81,7 +79,7 @@ impl Host {
             };
             if let Step::Sent(text) = machine.step(self.last, &mut self.message)? {
                 std::io::stdout().write_all(text)?;
-                self.sent += 1;
+                self.messages_sent += 1;
             }
         }
         Ok(())
@@ -96,9 +94,11 @@ impl Host {
             let (back, has_ended) = self.run_a_while(machine)?;
             machine = back;
             if has_ended {
-                return Ok(machine.sync_all()?);
+                machine.sync_all()?;
+                println!("\nhost: the guest has ended, and its disk is in its file");
+                return Ok(());
             }
-            if let Some(line) = line.take_if(|_| self.sent == 64) {
+            if let Some(line) = line.take_if(|_| self.messages_sent == 64) {
                 machine.send_begin()?;
                 sending = Some(Sending { line, rounds: 0 });
             }
@@ -137,5 +137,5 @@ fn main() -> Result<(), Failure> {
         [disk, "--listen", address] => moving::receive(disk.as_ref(), address).map(|(machine, cpu)| (machine, cpu, None))?,
         _ => return Err("usage: host DISK [--listen ADDRESS | --connect ADDRESS]".into()),
     };
-    Host { cpu, last: Pick::default(), message: vec![0; SENT_MAX], sent: 0 }.run(machine, line)
+    Host { cpu, last: Pick::default(), message: vec![0; SENT_MAX], messages_sent: 0 }.run(machine, line)
 }

@@ -33,8 +33,9 @@ impl Sending {
         self.line.set_read_timeout(Some(std::time::Duration::from_secs(10)))?;
         self.line.read_exact(&mut [0])?;
         // From the first of these bytes on the guest may run there, so an error of this write is none for the source.
-        if let Err(error) = self.line.write_all(&cpu.to_bytes()) {
-            eprintln!("host: {error}: whether the guest runs at the target is not known, so it is not run here");
+        match self.line.write_all(&cpu.to_bytes()) {
+            Ok(()) => println!("\nhost: the guest has moved"),
+            Err(error) => eprintln!("host: {error}: whether the guest runs at the target is not known, so it is not run here"),
         }
         Ok(true)
     }
@@ -50,8 +51,7 @@ impl Sending {
 
 /// A machine and its processor come to an address, which is printed, into RAM and a disk of this host.
 pub fn receive(disk: &Path, address: &str) -> Result<(Machine, Cpu), Failure> {
-    let builder = Arrival::builder().devices(&DEVICES).base(RAM.into());
-    let mut arrival = builder.memory(Memory::zeros(PAGES)?).image(new_disk(disk)?).begin()?;
+    let mut arrival = Arrival::builder().devices(&DEVICES).base(RAM.into()).memory(Memory::zeros(PAGES)?).image(new_disk(disk)?).begin()?;
     let listener = TcpListener::bind(address)?;
     println!("{}", listener.local_addr()?);
     let mut line = listener.accept()?.0;
