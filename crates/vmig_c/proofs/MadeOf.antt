@@ -1,6 +1,7 @@
 -- The machine that a setup asks for.
 use Rattle.std.proofs.Common.{◌≡◌, ℕ, Bool, true, false, List, refl, sym, ap, ◌∙◌, subst, map}
 use Rattle.std.specs.Prelude.{Option, Some, None, length, not, ◌==◌, if◌then◌else◌}
+use denote.RawPtr.{Ptr}
 use Rattle.region.specs.Address.{address}
 use Rattle.region.specs.Empty.{empty_slot}
 use Rattle.region.specs.Slot.{region_of, slot_of}
@@ -48,19 +49,17 @@ pub own_contents : (contents : List ℕ) (shapes : List Shape) (disks : List (Li
 own_contents contents shapes disks some are = rw some are
 
 -- By whether RAM is memory of the caller.
-pub no_ram : (base pages : ℕ) (ram : Slot) (shapes : List Shape) (sectors : List (List Sector)) (m : Seen) → (length ram.content == 0) ≡ true → state_of m ≡ made_machine base (zero_pages pages) shapes sectors
-    → state_of m ≡ made_machine base (first_ram pages ram) shapes sectors
-no_ram base pages ram shapes sectors m none first = rw none first
+pub zero_bytes : (pages : ℕ) (ram : Slot) → (length ram.content == 0) ≡ true → zero_pages pages ≡ first_ram pages ram
+zero_bytes pages ram none = rw none refl
 
-pub over_ram : (base pages : ℕ) (ram : Slot) (region : Region) (shapes : List Shape) (sectors : List (List Sector)) (m : Seen) → (length ram.content == 0) ≡ false → region ≡ region_of ram → state_of m ≡ made_machine base region.content shapes sectors
-    → state_of m ≡ made_machine base (first_ram pages ram) shapes sectors
-over_ram base pages ram region shapes sectors m some is first = rw some (first ∙ ap (λ (r : Region). made_machine base r.content shapes sectors) is)
+pub own_bytes : (pages : ℕ) (ram : Slot) (region : Region) → (length ram.content == 0) ≡ false → region ≡ region_of ram → region.content ≡ first_ram pages ram
+own_bytes pages ram region some is = rw some (ap (λ (r : Region). r.content) is)
 
-pub no_place : (ram : Slot) (m : Seen) → (length ram.content == 0) ≡ true → m.memory.place ≡ None → m.memory.place ≡ first_place ram
-no_place ram m none place = rw none place
+pub no_place : (ram : Slot) → (length ram.content == 0) ≡ true → ◌≡◌ {A = Option Ptr} None (first_place ram)
+no_place ram none = rw none refl
 
-pub over_place : (ram : Slot) (region : Region) (m : Seen) → (length ram.content == 0) ≡ false → region ≡ region_of ram → m.memory.place ≡ Some (address region) → m.memory.place ≡ first_place ram
-over_place ram region m some is place = rw some (place ∙ ap (λ (r : Region). Some (address r)) is)
+pub over_place : (ram : Slot) (region : Region) → (length ram.content == 0) ≡ false → region ≡ region_of ram → ◌≡◌ {A = Option Ptr} (Some (address region)) (first_place ram)
+over_place ram region some is = rw some (ap (λ (r : Region). Some (address r)) is)
 
 pub none_left : (ram after : Slot) → (length ram.content == 0) ≡ true → after ≡ ram → after ≡ ram_left (has_bytes ram) ram
 none_left ram after none same = rw none same

@@ -88,10 +88,6 @@ Ends r status (Arriving next) = HasNotFinished r status next
 Ends r status (Moving l) = ⊥
 Ends r status (Lent x) = ⊥
 
-abbrev pub is_arriving : State → Bool
-is_arriving (Arriving r) = true
-is_arriving _ = false
-
 abbrev pub FinishesState : State → ℕ → State → Type 0
 FinishesState (Arriving r) status next = Ends r status next
 FinishesState _ status next = ⊥

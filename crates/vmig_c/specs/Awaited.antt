@@ -15,8 +15,11 @@ use Rattle.wire.specs.Stream.{IsStream}
 use Rattle.vmig_c.specs.ArrivalSeen.{ArrivalSeen, AtHead, AtBody, Refused, Over}
 use Rattle.vmig_c.specs.Headed.{AreFitting, HasHeader, HasNoHeader}
 use Rattle.vmig_c.specs.Plain.{ArePlain}
+use Rattle.vmig_c.specs.declared.arrival.Arrived.{Arrived}
+use Rattle.vmig_c.specs.declared.arrival.Arrived.TheVariants as arrived
 use Rattle.vmig_c.specs.declared.arrival.Progress.{Progress}
 use Rattle.vmig_c.specs.declared.arrival.Progress.TheVariants.{Head, Body, Failed}
+use Rattle.vmig_c.specs.declared.arrival.Progress.TheVariants as progress
 
 -- What is told of RAM: the address at which it will begin, and the length of the RAM that is handed in, if one is.
 abbrev pub terms_for : ℕ → Option Memory → RamTerms
@@ -40,7 +43,17 @@ refused_for_good = Refused
 abbrev pub awaited_by : Progress → ArrivalSeen
 awaited_by (Head base ram held) = AtHead (terms_for base ram) (place_for ram) held.items
 awaited_by (Body r) = AtBody r
+awaited_by (progress.Over r) = Over r
 awaited_by Failed = Refused
+
+-- The machine that has arrived, and whether its disks are images of the caller.
+abbrev pub arrived_by : Arrived → Seen
+arrived_by (arrived.Own m) = m
+arrived_by (arrived.Mapped m) = m
+
+abbrev pub are_images : Arrived → Bool
+are_images (arrived.Own m) = false
+are_images (arrived.Mapped m) = true
 
 -- The header is incomplete.
 abbrev pub IsAtHead : ArrivalSeen → Type 0
@@ -100,12 +113,13 @@ pub record IsFedTo (ram : RamTerms) (place : Option Ptr) (sizes bytes : List ℕ
 abbrev pub IsComing : Progress → Type 0
 IsComing (Head base ram held) = HasNoHeader held.items
 IsComing (Body r) = AreSteady r
+IsComing (progress.Over r) = AreSteady r
 IsComing Failed = Unit {0}
 
 -- The disks are images of the caller.
-abbrev pub IsOver : ArrivalSeen → Type 0
-IsOver (Over r) = Unit {0}
-IsOver a = ⊥
+abbrev pub is_over : ArrivalSeen → Bool
+is_over (Over r) = true
+is_over _ = false
 
 -- Disks of the library are of the sizes that the header says. That images are of these sizes is known once the header is whole: another
 -- header is a fault.

@@ -1,13 +1,16 @@
 -- One making: why what a setup asks for is refused, and the machine that it asks for.
-use Rattle.std.specs.Prelude.{◌≡◌, ◌⊎◌, ℕ, ◌*◌, ◌/◌, ◌%◌, ◌==◌, ◌&&◌, ◌||◌, not, nat_lt, if◌then◌else◌, Bool, true, false, List, length, map, Option, Some, None}
+use Rattle.std.specs.Prelude.{◌≡◌, ◌⊎◌, ℕ, ◌*◌, ◌/◌, ◌%◌, ◌==◌, ◌&&◌, ◌||◌, not, nat_lt, if◌then◌else◌, Bool, true, false, List, [], length, map, Option, Some, None}
 use denote.RawPtr.{Ptr}
 use Rattle.region.specs.Empty.{empty_slot}
+use Rattle.region.specs.Slot.{slot_of}
 use Rattle.region.specs.declared.slot.Slot.{Slot}
 use Rattle.guestmem.specs.declared.limits.TheConstants.{PAGE_SIZE, PAGES_MAX}
 use Rattle.machine.specs.First.{are_same, is_base, made_machine, zero_pages}
 use Rattle.machine.specs.Seen.{Seen, state_of}
 use Rattle.machine.specs.Shapes.{disk_sizes}
 use Rattle.machine.specs.Sound.{IsSound}
+use Rattle.machine.specs.declared.board.RamOf.{RamOf}
+use Rattle.machine.specs.declared.board.RamOf.TheVariants.{Pages, Region}
 use Rattle.machine.specs.declared.shape.Shape.{Shape}
 use Rattle.vmig_c.specs.Images.{AreImages, image_size}
 use Rattle.vmig_c.specs.Kept.{IsNew, KeptSeen, Still}
@@ -92,6 +95,15 @@ first_place ram = place_if (has_bytes ram) ram
 abbrev pub ram_left : Bool → Slot → Slot
 ram_left true ram = empty_slot
 ram_left false ram = ram
+
+-- The slot is free for what RAM is made of, if that lay in it; and what the slot is once that was put back.
+abbrev pub IsFreeFor : RamOf → Slot → Type 0
+IsFreeFor (Pages pages) ram = Unit {0}
+IsFreeFor (Region region) ram = ram.content ≡ []
+
+abbrev pub slot_after : RamOf → Slot → Slot
+slot_after (Pages pages) ram = ram
+slot_after (Region region) ram = slot_of region
 
 -- The disks in memory of the library: they hold the contents, one after another, or zeros.
 abbrev pub AreOwn : Bool → List ℕ → List Shape → List (List (List ℕ)) → Type 0

@@ -11,16 +11,17 @@ ghost use Rattle.machine.specs.Sound.{IsSound};
 ghost use Rattle.vmig_c.specs.Made.{AreOwnDisks, IsMachineOf, IsUntaken, Makes, fit_contents, first_place, first_ram, has_bytes, has_ram, ram_left, setup_refusal_of};
 ghost use Rattle.vmig_c.specs.Mapping.{AreTaken};
 
+use crate::arrival::Arrival;
 use crate::handle::Handle;
 use crate::images::image_disks;
-use crate::kept::{Contents, Kept};
-use crate::making::{shapes_of, zero_disks, zeroed_machine};
+use crate::kept::{Contents, Held, Kept};
+use crate::making::{shapes_of, zero_disks};
 use crate::mapping::{give_back, mapped_disks};
-use crate::over_ram::{filled, machine_over_region, put_back, stand_in, taken_ram};
+use crate::over_ram::{ram_back, ram_for};
 use crate::setup::{Setup, is_none, setup_refusal};
 use crate::status::{DONE, IN_USE, NO_MEMORY};
 use guestmem::NoMemory;
-use machine::{Disk, Machine, MemDisk, Shape};
+use machine::{Board, Disk, Machine, MemDisk, Shape, Unmade};
 use region::Slot;
 use std::alloc::Global;
 use std::mem;
@@ -62,13 +63,16 @@ fn made(alloc: Global, setup: &mut Setup) -> Result<Box<Kept>, NoMemory>
     if is_none(setup.images) {
         let disks = own_disks(alloc, &shapes, setup.contents)?;
         return match machine_on(alloc, base, pages, &mut setup.ram, &shapes, disks) {
-            Ok(machine) => Ok(filled(boxed, Kept::new(alloc, Contents::Still(machine)))),
+            Ok(machine) => Ok(filled(boxed, Kept::new(alloc, Held::Own(Contents::Still(machine))))),
             Err(_disks) => Err(NoMemory),
         };
     }
     let disks = mapped_disks(alloc, setup.images)?;
     match machine_on(alloc, base, pages, &mut setup.ram, &shapes, disks) {
-        Ok(machine) => Ok(filled(boxed, Kept::new(alloc, Contents::StillMapped(machine)))),
+        Ok(machine) => Ok(filled(
+            boxed,
+            Kept::new(alloc, Held::Mapped(Contents::Still(machine))),
+        )),
         Err(disks) => {
             give_back(disks, setup.images);
             Err(NoMemory)
@@ -92,7 +96,6 @@ fn own_disks(alloc: Global, shapes: &[Shape], contents: &[u8]) -> Result<Vec<Mem
 
 /// A machine of these devices and disks, whose RAM is the memory in the slot, which is taken; or zeros, where there is none. Where memory is
 /// refused, the slot is as it was, and the disks come back.
-#[tactic(auto, using(crate::proofs::MadeOf::no_ram, crate::proofs::MadeOf::over_ram, crate::proofs::MadeOf::no_place, crate::proofs::MadeOf::over_place, crate::proofs::MadeOf::none_left, crate::proofs::MadeOf::all_left, crate::proofs::MadeOf::back_again))]
 fn machine_on<D: Disk + Drop>(
     alloc: Global,
     base: u64,
@@ -109,17 +112,40 @@ fn machine_on<D: Disk + Drop>(
     ensures disks { IfErr result (λ back. back.items ≡ disks.items) }
     ensures same { IfErr result (λ back. ram.new ≡ ram.old) }
 {
-    if ram.is_none() {
-        return match zeroed_machine(alloc, base, pages, shapes, disks) {
-            Ok(machine) => Ok(machine),
-            Err(disks) => Err(disks),
-        };
-    }
-    match machine_over_region(alloc, base, taken_ram(ram), shapes, disks) {
+    let made_of = ram_for(pages, ram);
+    match Machine::make(
+        alloc,
+        Board {
+            base,
+            ram: made_of,
+            shapes,
+            disks,
+        },
+    ) {
         Ok(machine) => Ok(machine),
-        Err((disks, region)) => {
-            put_back(region, ram);
+        Err(unmade) => {
+            let Unmade {
+                error: _,
+                ram: left,
+                disks,
+            } = unmade;
+            ram_back(left, ram);
             Err(disks)
         }
     }
+}
+
+/// A box in which the contents of a handle will lie.
+pub(crate) fn stand_in(alloc: Global) -> Result<Box<Kept>, NoMemory> {
+    let boxed = Box::new(alloc, Kept::new(alloc, Held::Arriving(Arrival::failed())))?;
+    Ok(boxed)
+}
+
+/// The box with these contents.
+pub(crate) fn filled(boxed: Box<Kept>, kept: Kept) -> Box<Kept>
+    ensures { result.value ≡ kept }
+{
+    let mut boxed = boxed;
+    *boxed = kept;
+    boxed
 }

@@ -11,12 +11,12 @@ ghost use Rattle.vmig_c.specs.Mapping.{AreTaken};
 
 use crate::admission::{Admission, Limits};
 use crate::arrival::Arrival;
+use crate::creating::{filled, stand_in};
 use crate::handle::Handle;
-use crate::kept::{Contents, Kept};
-use crate::landing::Landing;
+use crate::kept::{Held, Kept};
 use crate::making::shapes_of;
 use crate::mapping::{give_back, mapped_disks};
-use crate::over_ram::{filled, ram_from, stand_in};
+use crate::over_ram::ram_from;
 use crate::setup::{Expected, arrival_refusal, is_none};
 use crate::status::{DONE, IN_USE, NO_MEMORY};
 use guestmem::{NoMemory, PAGES_MAX};
@@ -59,14 +59,14 @@ pub(crate) fn awaited(alloc: Global, expected: &mut Expected) -> Result<Box<Kept
     let base = expected.base;
     if is_none(expected.images) {
         let ram = ram_from(alloc, &mut expected.ram)?;
-        let arrival = Contents::Arriving(Arrival::new(alloc, base, ram));
+        let arrival = Held::Arriving(Arrival::new(alloc, base, ram));
         return Ok(filled(boxed, Kept::within(alloc, arrival, admission)));
     }
     let disks = mapped_disks(alloc, expected.images)?;
     match ram_from(alloc, &mut expected.ram) {
         Ok(ram) => {
-            let landing = Contents::ArrivingMapped(Landing::new(alloc, base, disks, ram));
-            Ok(filled(boxed, Kept::within(alloc, landing, admission)))
+            let arrival = Held::Arriving(Arrival::over(alloc, base, disks, ram));
+            Ok(filled(boxed, Kept::within(alloc, arrival, admission)))
         }
         Err(_) => {
             give_back(disks, expected.images);

@@ -105,7 +105,7 @@ pub(crate) fn read_sector(kept: &mut Kept, dev: u8, sector: u64, buf: &mut [u8; 
     if let Some(status) = sector_refusal(kept, dev, sector) {
         return status;
     }
-    by_state!(&mut kept.contents;
+    by_state!(&mut kept.held;
         still(machine) => read_out(machine, dev, sector, buf),
         moving(_) => SENDING,
     )
@@ -115,11 +115,11 @@ pub(crate) fn read_sector(kept: &mut Kept, dev: u8, sector: u64, buf: &mut [u8; 
 fn sector_refusal(kept: &Kept, dev: u8, sector: u64) -> Option<u32>
     ensures { result ≡ sector_refusal kept.now.state dev sector }
 {
-    by_state!(&kept.contents;
+    by_state!(&kept.held;
         still(machine) => device_refusal(machine, dev, sector),
         moving(_) => Some(SENDING),
         lent(_) => Some(LENT),
-        arriving => Some(NO_MACHINE),
+        arriving(_) => Some(NO_MACHINE),
     )
 }
 

@@ -1,15 +1,12 @@
 //! Machines that C asks for.
 
-ghost use Rattle.std.specs.Prelude.{◌≡◌, map, replicate, None, Some, IfErr, IfOk};
-ghost use Rattle.machine.specs.First.{dealt_marks, made_machine, marks_in, zero_pages};
-ghost use Rattle.machine.specs.Seen.{all_marks, state_of};
-ghost use Rattle.machine.specs.Sound.{IsSound};
+ghost use Rattle.std.specs.Prelude.{◌≡◌, map, replicate, IfOk};
 ghost use Rattle.machine.specs.Shapes.{disk_sizes};
 ghost use Rattle.vmig_c.specs.Making.{are_bad_shapes, are_plain, shapes_of};
 
 use crate::device_shape::DeviceShape;
 use guestmem::NoMemory;
-use machine::{Board, DEVICES_MAX, Disk, Machine, MemDisk, RamOf, Shape, Unmade};
+use machine::{DEVICES_MAX, MemDisk, Shape};
 use std::alloc::Global;
 
 /// Whether no machine can have these devices.
@@ -29,43 +26,6 @@ pub(crate) fn are_plain(shapes: &[DeviceShape]) -> bool
         }
     }
     true
-}
-
-/// A machine of `pages` pages of zeros from the address `base` on. Where it is not made, the disks come back.
-pub(crate) fn zeroed_machine<D: Disk + Drop>(
-    alloc: Global,
-    base: u64,
-    pages: u32,
-    shapes: &[Shape],
-    disks: Vec<D>,
-) -> Result<Machine<D>, Vec<D>>
-    ensures made { IfOk result (λ m. state_of m ≡ made_machine base (zero_pages pages) shapes.now (map (λ d. map Some (D.state d).sectors) disks.items)) }
-    ensures marks { IfOk result (λ m. all_marks m ≡ dealt_marks shapes.now (map (λ d. marks_in (D.state d)) disks.items)) }
-    ensures sound { IfOk result (λ m. IsSound (state_of m)) }
-    ensures place { IfOk result (λ m. m.memory.place ≡ None) }
-    ensures disks { IfErr result (λ back. back.items ≡ disks.items) }
-{
-    let ram = RamOf::Pages(pages);
-    match Machine::make(
-        alloc,
-        Board {
-            base,
-            ram,
-            shapes,
-            disks,
-        },
-    ) {
-        Ok(machine) => Ok(machine),
-        Err(unmade) => {
-            let Unmade {
-                error: _,
-                ram,
-                disks,
-            } = unmade;
-            ram.gone();
-            Err(disks)
-        }
-    }
 }
 
 /// The shapes of the machine's devices.

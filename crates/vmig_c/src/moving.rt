@@ -24,7 +24,7 @@ pub(crate) fn save_kept(alloc: Global, kept: &mut Kept, buf: &mut [u8], len: &mu
     ensures saves { SavesKept kept.old.state result len.new len.old buf.old buf.new kept.new.state }
     ensures kind { kept.new ≡ record kept.old { state = kept.new.state } }
 {
-    by_state!(&mut kept.contents;
+    by_state!(&mut kept.held;
         still(machine) => save_status(alloc, machine, buf, len),
         moving(_) => SENDING,
     )

@@ -1,19 +1,14 @@
 //! RAM that lies in memory of the caller.
 
-ghost use Rattle.std.specs.Prelude.{◌≡◌, [], map, IfErr, IfOk, None, Some};
-ghost use Rattle.machine.specs.First.{dealt_marks, made_machine, marks_in};
-ghost use Rattle.machine.specs.Seen.{all_marks, state_of};
-ghost use Rattle.machine.specs.Sound.{IsSound};
-ghost use Rattle.region.specs.Address.{address};
+ghost use Rattle.std.specs.Prelude.{◌≡◌, [], IfErr, IfOk};
+ghost use Rattle.machine.specs.Board.{ram_bytes, ram_place};
 ghost use Rattle.region.specs.Empty.{empty_slot};
 ghost use Rattle.region.specs.Slot.{region_of, slot_of};
 ghost use Rattle.vmig_c.specs.Expected.{IsGiven, IsNoneOrRam};
-ghost use Rattle.vmig_c.specs.Made.{has_bytes, is_ram, ram_left};
+ghost use Rattle.vmig_c.specs.Made.{IsFreeFor, first_place, first_ram, has_bytes, is_ram, ram_left, slot_after};
 
-use crate::arrival::Arrival;
-use crate::kept::{Contents, Kept};
 use guestmem::{NoMemory, PAGE_SIZE, PAGES_MAX, Ram};
-use machine::{Board, Disk, Machine, RamOf, Shape, Unmade};
+use machine::RamOf;
 use region::{Region, Slot};
 use std::alloc::Global;
 use std::mem;
@@ -26,43 +21,28 @@ pub(crate) fn is_ram(bytes: u64) -> bool
     bytes % PAGE_SIZE as u64 == 0 && pages != 0 && pages <= PAGES_MAX as u64
 }
 
-/// A machine whose RAM is the bytes of a region. Where it is not made, the disks and the region come back.
-pub(crate) fn machine_over_region<D: Disk + Drop>(
-    alloc: Global,
-    base: u64,
-    region: Region,
-    shapes: &[Shape],
-    disks: Vec<D>,
-) -> Result<Machine<D>, (Vec<D>, Region)>
-    ensures made { IfOk result (λ m. state_of m ≡ made_machine base region.content shapes.now (map (λ d. map Some (D.state d).sectors) disks.items)) }
-    ensures place { IfOk result (λ m. m.memory.place ≡ Some (address region)) }
-    ensures marks { IfOk result (λ m. all_marks m ≡ dealt_marks shapes.now (map (λ d. marks_in (D.state d)) disks.items)) }
-    ensures sound { IfOk result (λ m. IsSound (state_of m)) }
-    ensures disks { IfErr result (λ back. back.0.items ≡ disks.items) }
-    ensures region { IfErr result (λ back. back.1 ≡ region) }
+/// What the RAM of a machine is made of: the memory in the slot, which is taken; or so many pages of zeros, where there is none.
+#[tactic(auto, using(crate::proofs::MadeOf::zero_bytes, crate::proofs::MadeOf::no_place, crate::proofs::MadeOf::none_left, crate::proofs::MadeOf::own_bytes, crate::proofs::MadeOf::over_place, crate::proofs::MadeOf::all_left))]
+pub(crate) fn ram_for(pages: u32, ram: &mut Slot) -> RamOf
+    ensures bytes { ram_bytes result ≡ first_ram pages ram.old }
+    ensures place { ram_place result ≡ first_place ram.old }
+    ensures left { ram.new ≡ ram_left (has_bytes ram.old) ram.old }
+    ensures free { IsFreeFor result ram.new }
+    ensures back { slot_after result ram.new ≡ ram.old }
 {
-    let ram = RamOf::Region(region);
-    match Machine::make(
-        alloc,
-        Board {
-            base,
-            ram,
-            shapes,
-            disks,
-        },
-    ) {
-        Ok(machine) => Ok(machine),
-        Err(unmade) => {
-            let Unmade {
-                error: _,
-                ram,
-                disks,
-            } = unmade;
-            let Some(region) = ram.into_region() else {
-                unreachable!()
-            };
-            Err((disks, region))
-        }
+    if ram.is_none() {
+        return RamOf::Pages(pages);
+    }
+    RamOf::Region(taken_ram(ram))
+}
+
+/// Puts the memory back into the slot from which it was taken for RAM, if it was.
+pub(crate) fn ram_back(made_of: RamOf, ram: &mut Slot)
+    requires { IsFreeFor made_of ram.old }
+    ensures { ram.new ≡ slot_after made_of ram.old }
+{
+    if let Some(region) = made_of.into_region() {
+        put_back(region, ram);
     }
 }
 
@@ -84,24 +64,6 @@ pub(crate) fn ram_from(alloc: Global, ram: &mut Slot) -> Result<Option<Ram>, NoM
             Err(NoMemory)
         }
     }
-}
-
-/// A box in which the contents of a handle will lie.
-pub(crate) fn stand_in(alloc: Global) -> Result<Box<Kept>, NoMemory> {
-    let boxed = Box::new(
-        alloc,
-        Kept::new(alloc, Contents::Arriving(Arrival::new(alloc, 0, None))),
-    )?;
-    Ok(boxed)
-}
-
-/// The box with these contents.
-pub(crate) fn filled(boxed: Box<Kept>, kept: Kept) -> Box<Kept>
-    ensures { result.value ≡ kept }
-{
-    let mut boxed = boxed;
-    *boxed = kept;
-    boxed
 }
 
 /// What lay in the slot, which is free then.

@@ -24,7 +24,7 @@ pub(crate) fn reset(kept: &mut Kept) -> u32
     ensures resets { ResetsKept kept.old.state result kept.new.state }
     ensures kind { kept.new ≡ record kept.old { state = kept.new.state } }
 {
-    by_state!(&mut kept.contents;
+    by_state!(&mut kept.held;
         still(machine) => reset_still(machine),
         moving(live) => reset_moving(live),
     )

@@ -14,7 +14,7 @@ use net::INBOX_MAX;
 pub(crate) fn room(kept: &Kept, dev: u8, room: &mut usize) -> u32
     ensures { RoomsKept kept.now.state dev result room.new room.old }
 {
-    by_state!(&kept.contents;
+    by_state!(&kept.held;
         still(machine) => room_status(machine, dev, room),
         moving(live) => room_status(live.machine(), dev, room),
     )

@@ -20,7 +20,7 @@ pub(crate) fn read_register(kept: &mut Kept, dev: u8, off: u32, width: u8, value
     ensures told { Tells kept.old.state (events.RegRead dev off width) result value.new value.old kept.new.state }
     ensures kind { kept.new ≡ record kept.old { state = kept.new.state } }
 {
-    by_state!(&mut kept.contents;
+    by_state!(&mut kept.held;
         still(machine) => answer_status(machine.read_register(dev, off, width), value),
         moving(live) => value_status(live, dev, off, width, value),
     )
@@ -60,7 +60,7 @@ fn written(kept: &mut Kept, dev: u8, off: u32, width: u8, value: u32, out: &mut 
     ensures told { Tells kept.old.state (events.RegWrite dev off width value) result out.new out.old kept.new.state }
     ensures kind { kept.new ≡ record kept.old { state = kept.new.state } }
 {
-    by_state!(&mut kept.contents;
+    by_state!(&mut kept.held;
         still(machine) => written_status(machine.write_register(dev, off, width, value), out),
         moving(live) => out_status(live, dev, off, width, value, out),
     )
@@ -86,7 +86,7 @@ fn out_status<D: Disk>(
 pub(crate) fn read_ram(kept: &Kept, addr: u64, buf: &mut [u8]) -> u32
     ensures { ReadsKept kept.now.state addr result buf.old buf.new }
 {
-    by_state!(&kept.contents;
+    by_state!(&kept.held;
         still(machine) => done_status(machine.read_ram(addr, buf)),
         moving(live) => done_status(live.machine().read_ram(addr, buf)),
     )
@@ -96,11 +96,11 @@ pub(crate) fn read_ram(kept: &Kept, addr: u64, buf: &mut [u8]) -> u32
 pub(crate) fn lines(kept: &Kept) -> u16
     ensures { result ≡ lines_in kept.now.state }
 {
-    by_state!(&kept.contents;
+    by_state!(&kept.held;
         still(machine) => machine.lines(),
         moving(live) => live.machine().lines(),
-        lent(loan) => loan.lines(),
-        arriving => 0,
+        lent(loan) => loan.parked().lines(),
+        arriving(_) => 0,
     )
 }
 
@@ -110,7 +110,7 @@ pub(crate) fn write_ram(kept: &mut Kept, addr: u64, bytes: &[u8]) -> u32
     ensures told { TellsSo kept.old.state (events.MemWrite addr bytes.now) result kept.new.state }
     ensures kind { kept.new ≡ record kept.old { state = kept.new.state } }
 {
-    by_state!(&mut kept.contents;
+    by_state!(&mut kept.held;
         still(machine) => done_status(machine.write_ram(addr, bytes)),
         moving(live) => write_status(live, addr, bytes),
     )
@@ -144,7 +144,7 @@ fn put_in(kept: &mut Kept, dev: u8, bytes: &[u8], accepted: &mut u32) -> u32
     ensures told { Tells kept.old.state (events.Input dev bytes.now) result accepted.new accepted.old kept.new.state }
     ensures kind { kept.new ≡ record kept.old { state = kept.new.state } }
 {
-    by_state!(&mut kept.contents;
+    by_state!(&mut kept.held;
         still(machine) => answer_status(machine.input(dev, bytes), accepted),
         moving(live) => input_status(live, dev, bytes, accepted),
     )
@@ -165,7 +165,7 @@ pub(crate) fn resize(kept: &mut Kept, dev: u8, cols: u16, rows: u16) -> u32
     ensures told { TellsSo kept.old.state (events.Resize dev cols rows) result kept.new.state }
     ensures kind { kept.new ≡ record kept.old { state = kept.new.state } }
 {
-    by_state!(&mut kept.contents;
+    by_state!(&mut kept.held;
         still(machine) => done_status(machine.resize(dev, cols, rows)),
         moving(live) => resize_status(live, dev, cols, rows),
     )
@@ -187,7 +187,7 @@ pub(crate) fn drop_input(kept: &mut Kept, dev: u8) -> u32
     ensures told { TellsSo kept.old.state (events.Drop dev) result kept.new.state }
     ensures kind { kept.new ≡ record kept.old { state = kept.new.state } }
 {
-    by_state!(&mut kept.contents;
+    by_state!(&mut kept.held;
         still(machine) => done_status(machine.drop_input(dev)),
         moving(live) => drop_status(live, dev),
     )

@@ -21,7 +21,7 @@ pub(crate) fn next(kept: &Kept, dev: &mut u8, pick: &mut u8) -> u32
     ensures { FindsWork kept.now result dev.new dev.old pick.new pick.old }
 {
     let lost = kept.lost();
-    by_state!(&kept.contents;
+    by_state!(&kept.held;
         still(machine) => found_status(machine, lost, dev, pick),
         moving(live) => live_found_status(live, lost, dev, pick),
     )
