@@ -30,10 +30,10 @@ use Rattle.vmig_c.specs.declared.arrival.Progress.{Progress}
 use Rattle.vmig_c.specs.declared.arrival.Progress.TheVariants.{Head, Body, Failed}
 use Rattle.vmig_c.specs.declared.arrival.Progress.TheVariants as progress
 use Rattle.vmig_c.specs.Headed.{AreFitting, HasHeader, HasNoHeader}
-use Rattle.vmig_c.specs.Plain.{mem_state}
-use Rattle.vmig_c.proofs.Plain.{as_many}
+use Rattle.c_machine.specs.Plain.{mem_state}
+use Rattle.c_machine.proofs.Plain.{as_many}
 use Rattle.vmig_c.proofs.Streams.{of_found}
-use Rattle.vmig_c.proofs.Zeros.{alike}
+use Rattle.c_machine.proofs.Zeros.{alike}
 
 -- A header stays at the beginning of more bytes.
 longer : (bytes piece sizes : List ℕ) → HasHeader bytes sizes → HasHeader (bytes ++ piece) sizes

@@ -19,7 +19,7 @@ use Rattle.mapped_disk.specs.declared.image.Image.{Image}
 use Rattle.vmig_c.specs.ArrivalSeen.{ArrivalSeen, AtHead, AtBody, Refused, Over}
 use Rattle.vmig_c.specs.Awaited.{AreSteady, HasArrived, IsClosed, IsFed, TellsOf, awaited_sizes, is_over}
 use Rattle.vmig_c.specs.Landing.{AreDisksOf, IsAwaitedAt, image_state}
-use Rattle.vmig_c.specs.Mapping.{AreTaken, contents}
+use Rattle.c_machine.specs.Mapping.{AreTaken, contents}
 use Rattle.vmig_c.specs.Kept.{Arriving}
 use Rattle.vmig_c.specs.Unmapping.{HasReleasedFrom, images_of, slots_refusal}
 use Rattle.vmig_c.proofs.Awaited.{arrived, honest_marks, more_steady, never_failed, one_error}
@@ -147,8 +147,8 @@ pub given_up_steady : (r next : Received) → AreSteady r → IsGivenUp r next �
 given_up_steady r next steady h = more_steady r next steady h.sizes h.marks
 
 -- The images go back.
-pub images_of : (r : Received) (disks : List Image) → map image_state disks ≡ r.disks → map (λ (d : DiskState). d.sectors) r.disks ≡ contents disks
-images_of r disks are = ap (map (λ (d : DiskState). d.sectors)) (sym are) ∙ sectors_are disks
+pub sectors_back : (r : Received) (disks : List Image) → map image_state disks ≡ r.disks → map (λ (d : DiskState). d.sectors) r.disks ≡ contents disks
+sectors_back r disks are = ap (map (λ (d : DiskState). d.sectors)) (sym are) ∙ sectors_are disks
 
 counted : (disks : List Image) → length disks ≡ length (sizes_of image_state disks)
 counted [] = refl

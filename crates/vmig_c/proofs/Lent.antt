@@ -7,11 +7,11 @@ use Rattle.sender.specs.LiveState.{LiveSeen}
 use Rattle.vmig_c.specs.Kept.{LoanSeen, State, Still, Moving, Arriving, Lent, parked_in}
 use Rattle.vmig_c.specs.Lent.{ComesBack, HasComeBack, IsReturnable, back_refusal_of, lend_refusal_of, lent_pages}
 use Rattle.vmig_c.specs.Mirror.{is_closed}
-use Rattle.vmig_c.specs.Named.{are_pages, is_known_pages, named_pages, needs_list, pages_refusal}
-use Rattle.vmig_c.specs.declared.pages.Pages.{Pages}
-use Rattle.vmig_c.proofs.Imaging.{eq_of}
-use Rattle.vmig_c.proofs.NamedPages.{listed, named_are, there}
-use Rattle.vmig_c.proofs.Mirrored.{both_left, both_right, is_page}
+use Rattle.c_machine.specs.Named.{are_pages, is_known_pages, named_pages, needs_list, pages_refusal}
+use Rattle.c_machine.specs.declared.pages.Pages.{Pages}
+use Rattle.c_machine.proofs.Imaging.{eq_of}
+use Rattle.c_machine.proofs.NamedPages.{listed, named_are, there}
+use Rattle.c_machine.proofs.PageNumbers.{both_left, both_right, is_page}
 
 -- The pages are below the count.
 pub below : (count : ℕ) (pages : List ℕ) → are_pages count pages ≡ true → All (λ (n : ℕ). n < count) pages

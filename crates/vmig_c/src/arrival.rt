@@ -8,14 +8,14 @@
 //! disks is reported at the header's end, by the receiver (36). That no sector is written before is tested, and no clause says it: of a piece
 //! that is refused `feed` promises the sizes and the marks of the disks, and nothing of their sectors.
 
-ghost use Rattle.std.specs.Prelude.{◌≡◌, ◌++◌, ◌≤◌, [], IfErr, IfOk, length};
+ghost use Rattle.std.specs.Prelude.{◌≡◌, ◌++◌, ◌≤◌, [], IfErr, IfOk, false, length};
 ghost use Rattle.machine.specs.Shapes.{disk_sizes};
 ghost use Rattle.receiver.specs.Calls.{IsNew};
 ghost use Rattle.vmig_c.specs.ArrivalSeen.{AtBody};
-ghost use Rattle.vmig_c.specs.Awaited.{AreSteady, GoesOnWith, IsComing, IsFed, IsFedTo, TellsOf, TellsWhy, awaited_by, awaited_place, awaited_ram, place_for, terms_for};
+ghost use Rattle.vmig_c.specs.Awaited.{AreSteady, GoesOnWith, IsComing, IsFed, IsFedTo, TellsOf, TellsWhy, awaited_by, awaited_place, awaited_ram, is_over, place_for, terms_for};
 ghost use Rattle.vmig_c.specs.Headed.{AreFitting, HasNoHeader};
 
-use crate::making::zero_disks;
+use c_machine::zero_disks;
 use guestmem::Ram;
 use machine::{DEVICES_MAX, Disk, Machine, MemDisk, Shape};
 use mapped_disk::MappedDisk;
@@ -78,7 +78,7 @@ impl Arrival {
     ghost use Rattle.std.specs.Prelude.{◌≡◌, IfErr, IfOk, MatchOption, false, length, true};
     ghost use Rattle.vmig_c.specs.Awaited.{CountsRounds, HasArrived, HasSameDisks, IsAtHead, IsClosed, IsFed, TellsEnd, TellsOf, TellsWhole, arrived_by, are_images, awaited_base, awaited_sizes, is_over, nothing_fed, place_for, refused_for_good, terms_for};
     ghost use Rattle.vmig_c.specs.Landing.{AreDisksOf, IsAwaitedAt};
-    ghost use Rattle.vmig_c.specs.Mapping.{contents};
+    ghost use Rattle.c_machine.specs.Mapping.{contents};
 
     /// An arrival over disks of the library that was fed nothing yet, of a machine whose RAM will begin at the address `base`: this RAM, or
     /// one in memory of the library. It takes no memory.
@@ -135,7 +135,7 @@ impl Arrival {
         }
     }
 
-    /// Takes the next piece while the header is incomplete. It is a function of its own, so that a piece behind the header pays nothing for it.
+    /// Takes the next piece while the header is incomplete. It is a function of its own, so that a piece after the header costs nothing more.
     #[inline(never)]
     fn feed_head(&mut self, alloc: Global, piece: &[u8]) -> Result<(), RecvError>
         requires { IsAtHead self.old }
@@ -241,10 +241,11 @@ impl Arrival {
     }
 }
 
-/// Takes the rest of a piece behind the header.
+/// Takes the rest of a piece after the header.
 fn take_body(receiver: Receiver<MemDisk>, piece: &[u8]) -> Result<Progress, RecvError>
     requires { AreSteady receiver }
     ensures coming { IfOk result (λ next. IsComing next) }
+    ensures own { IfOk result (λ next. is_over (awaited_by next) ≡ false) }
     ensures fed { IfOk result (λ next. IsFed (AtBody receiver) piece.now (awaited_by next)) }
     ensures refused { IfErr result (λ e. TellsOf (AtBody receiver) piece.now e) }
 {
@@ -265,6 +266,7 @@ fn take_head(
     piece: &[u8],
 ) -> Result<Progress, RecvError>
     ensures coming { IfOk result (λ next. IsComing next) }
+    ensures own { IfOk result (λ next. is_over (awaited_by next) ≡ false) }
     ensures ram { IfOk result (λ next. awaited_ram (awaited_by next) ≡ terms_for base ram) }
     ensures place { IfOk result (λ next. awaited_place (awaited_by next) ≡ place_for ram) }
     ensures goes_on { IfOk result (λ next. GoesOnWith (held.items ++ piece.now) (awaited_by next)) }
@@ -288,7 +290,7 @@ fn take_head(
     }
 }
 
-/// Goes on behind bytes that begin with no header, if nothing is wrong with them. More of the piece is left only where something is, since
+/// Continues after bytes that begin with no header, if they have no fault. More of the piece is left only where they have one, since
 /// as many bytes would hold a header.
 fn go_on_headless(
     alloc: Global,
@@ -300,6 +302,7 @@ fn go_on_headless(
     requires none { HasNoHeader held.items }
     requires all { length held.items ≤ 495 → rest.now ≡ [] }
     ensures coming { IfOk result (λ next. IsComing next) }
+    ensures own { IfOk result (λ next. is_over (awaited_by next) ≡ false) }
     ensures ram { IfOk result (λ next. awaited_ram (awaited_by next) ≡ terms_for base ram) }
     ensures place { IfOk result (λ next. awaited_place (awaited_by next) ≡ place_for ram) }
     ensures goes_on { IfOk result (λ next. GoesOnWith (held.items ++ rest.now) (awaited_by next)) }

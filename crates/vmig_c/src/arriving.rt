@@ -13,7 +13,8 @@ ghost use Rattle.vmig_c.specs.Kept.{admission_of, are_mapped, held_state};
 use crate::admission::Admission;
 use crate::arrival::{Arrival, Arrived};
 use crate::kept::{Contents, Held, Kept, by_state};
-use crate::status::{DONE, IN_USE, STREAM_FAILED, WHOLE, stream_status};
+use crate::status::stream_status;
+use c_machine::status::{DONE, IN_USE, STREAM_FAILED, WHOLE};
 use std::alloc::Global;
 use std::mem;
 

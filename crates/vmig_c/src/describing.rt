@@ -9,11 +9,11 @@ ghost use Rattle.vmig_c.specs.Described.{IsDescribed, IsToldState, lost_bits, nu
 ghost use Rattle.vmig_c.specs.Kept.{admission_of, loan_of};
 
 use crate::admission::Admission;
-use crate::description::{Description, message_of};
 use crate::kept::{Kept, by_state};
 use crate::loan::Loan;
-use crate::status::SEND_FAILED;
 use crate::unmapping::image_count;
+use c_machine::status::SEND_FAILED;
+use c_machine::{Description, message_of};
 use guestmem::PAGE_SIZE;
 use machine::{DEVICES_MAX, Disk, Machine, Shape};
 use sender::Phase;
@@ -98,7 +98,7 @@ fn sent_as(told: Description, phase: Phase) -> Description
 }
 
 /// As above, where its RAM is lent.
-#[tactic(auto, using(crate::proofs::ToldShapes::lent_still, crate::proofs::ToldShapes::lent_moving))]
+#[tactic(auto, using(crate::proofs::ToldStates::lent_still, crate::proofs::ToldStates::lent_moving))]
 fn told_lent<D: Disk>(loan: &Loan<D>) -> Description
     ensures { result ≡ told_lent (loan_of loan.now) }
 {
@@ -165,7 +165,7 @@ fn told_coming(told: Description, base: u64, rounds: u32, whole: bool) -> Descri
 }
 
 /// Bit d for device d, whose disk was lost.
-#[tactic(auto, using(crate::proofs::ToldShapes::one_bit, crate::proofs::ToldShapes::no_bit))]
+#[tactic(auto, using(crate::proofs::ToldStates::one_bit, crate::proofs::ToldStates::no_bit))]
 fn lost_bits(lost: &[bool]) -> u32
     requires { length lost.now ≤ DEVICES_MAX }
     ensures { result ≡ lost_bits lost.now }

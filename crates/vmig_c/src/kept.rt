@@ -66,10 +66,10 @@ macro_rules! on_disks {
 /// lent, which is a status if nothing else is said; and where one arrives, which is none yet.
 macro_rules! by_state {
     ($held:expr; still($machine:pat) => $still:expr, moving($live:pat) => $moving:expr $(,)?) => {
-        $crate::kept::by_state!($held; still($machine) => $still, moving($live) => $moving, lent(_) => $crate::status::LENT)
+        $crate::kept::by_state!($held; still($machine) => $still, moving($live) => $moving, lent(_) => c_machine::status::LENT)
     };
     ($held:expr; still($machine:pat) => $still:expr, moving($live:pat) => $moving:expr, lent($loan:pat) => $lent:expr $(,)?) => {
-        $crate::kept::by_state!($held; still($machine) => $still, moving($live) => $moving, lent($loan) => $lent, arriving(_) => $crate::status::NO_MACHINE)
+        $crate::kept::by_state!($held; still($machine) => $still, moving($live) => $moving, lent($loan) => $lent, arriving(_) => c_machine::status::NO_MACHINE)
     };
     (
         $held:expr;
@@ -102,7 +102,7 @@ macro_rules! turned {
                 ($crate::kept::Held::Mapped(next), status)
             }
             $crate::kept::Held::Arriving(arrival) => {
-                ($crate::kept::Held::Arriving(arrival), $crate::status::NO_MACHINE)
+                ($crate::kept::Held::Arriving(arrival), c_machine::status::NO_MACHINE)
             }
         }
     };

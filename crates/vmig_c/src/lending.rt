@@ -14,17 +14,16 @@ ghost use Rattle.region.specs.Slot.{region_of};
 ghost use Rattle.vmig_c.specs.Kept.{are_mapped, held_state, loan_of, parked_in, state_in};
 ghost use Rattle.vmig_c.specs.declared.kept.Contents.TheVariants as contents;
 ghost use Rattle.vmig_c.specs.Lent.{ComesBack, HasComeBack, IsBackWith, IsLiveLoan, IsReturnable, LendsIfOver, LendsKept, back_refusal_of, lend_refusal_in, lend_refusal_of, lent_pages, return_refusal_of};
-ghost use Rattle.vmig_c.specs.Named.{are_pages};
+ghost use Rattle.c_machine.specs.Named.{are_pages};
 
 use crate::kept::{Contents, Held, Kept, Moving, by_state, turned};
 use crate::loan::{Loan, MovingLent};
 use crate::migrating::taken_out;
 use crate::mirror::has_stopped;
-use crate::over_ram::{put_back, taken_ram};
-use crate::pages::Pages;
-use crate::status::{
+use c_machine::status::{
     BAD_RAM, DONE, LENT, NO_MACHINE, NO_MEMORY, NOT_KNOWN, NOT_LENT, NOT_YOURS, STOPPED,
 };
+use c_machine::{Pages, put_back, taken_ram};
 use guestmem::{NoLog, PAGE_SIZE};
 use machine::Disk;
 use region::{Region, Slot};
@@ -157,7 +156,7 @@ fn back_refusal(kept: &Kept, ram: &mut Slot, pages: &Pages) -> Option<u32>
     )
 }
 
-/// Why what lies in the slot is not taken back as RAM of so many pages.
+/// Why what lies in the slot is not taken back as a RAM of `count` pages.
 fn return_refusal(count: usize, ram: &mut Slot, pages: &Pages) -> Option<u32>
     requires { count ≤ PAGES_MAX }
     ensures same { ram.new ≡ ram.old }

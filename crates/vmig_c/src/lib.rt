@@ -1,30 +1,26 @@
 //! A machine as C sees it: `vmig.h` says the same to its reader, and what C owes.
 //!
 //! `Handle` is the one type that C holds: a pointer, null or of a machine in a box. All raw pointers are in one file, `handle`.
-//! It cannot be dropped, so a function that loses one is refused. Its contents are a machine that is idle, is being migrated, arrives,
-//! or has lent its RAM, with RAM and disks in memory of the library or of the caller (`kept`). No call moves RAM or disks.
+//! It cannot be dropped, so a function that loses one is refused. It holds a machine that is idle, is being migrated or has lent its RAM,
+//! with RAM and disks in memory of the library or of the caller, or one that arrives (`kept`). No call moves RAM or disks. The structs and
+//! the statuses of C are those of the crate below, `c_machine`.
 //!
 //! # What the layers above may rely on
-//! - Every export is an ordinary function, and its clause is the step of the machine (`specs/Told`, `specs/Stepped`), its
-//!   making (`specs/Making`, `specs/Setup`) or its stream (`specs/Moving`), by the status that it returns. The statuses are in
-//!   one table (`specs/Status`): from 1 to 63 nothing has changed, but for 20 (the writer failed) and for a stream that is
-//!   refused as it arrives. `vmig_step` is not done where what it sends might not fit.
+//! - Every export is an ordinary function, and its clause is the step of the machine (`specs/Told`, `specs/Stepped`), its making
+//!   (`specs/Made`) or its stream (`specs/Moving`), by the status that it returns. From 1 to 63 nothing has changed, but for 20 (the
+//!   writer failed) and for a stream that is refused as it arrives. `vmig_step` is not done where what it sends might not fit.
 //! - What a call does to a handle, and by the state of its machine, is said once for all (`specs/OnHandle`). On a handle without a machine
 //!   it is refused; on another it changes the state of the machine alone.
-//! - `vmig_next_work` names the next step that has something to do (`specs/NextWork`). `vmig_must_sync` says of a step whether it makes
-//!   a flush, or ends a write that the driver then takes for durable; after `vmig_sync_failed` the disk is lost for as long as the
-//!   handle has the machine: each flush of it is made as one whose disk failed, and such a write does not end (`specs/Durable`).
-//! - `vmig_saved_len` is the length of the stream that `vmig_save` makes (`specs/Measured`), without that stream.
+//! - `vmig_next` names the next step that has something to do, and says whether it makes a flush, or ends a write that the driver then
+//!   takes for durable (`specs/NextWork`). After `vmig_sync_failed` the disk is lost for as long as the handle has the machine: each flush
+//!   of it is made as one whose disk failed, and such a write does not end (`specs/Durable`).
 //! - Every call has its clause in each state: the calls of a migration those of `Live` (`specs/Migrated`), over a writer into
-//!   memory from which `vmig_take` takes; the calls of an arrival those of `Receiver` (`specs/Awaited`, `specs/Arriving`), over
+//!   memory from which `vmig_send_take` takes; the calls of an arrival those of `Receiver` (`specs/Awaited`, `specs/Arriving`), over
 //!   disks that are made as soon as the header is whole, or over images of the caller (`specs/Landing`). What arrives is no machine
-//!   for the other calls. `vmig_is_whole` says whether the bytes so far are a whole stream.
-//! - `vmig_make_as` makes the first machine as its struct says (`setup`): over RAM of zeros, or RAM in memory of the caller with the
-//!   bytes that are there; over disks of zeros, disks that hold contents, or disks in images of the caller. By what the struct names
-//!   one of the relations holds that say so (`specs/Making`, `specs/Images`, `specs/Mapping`, `specs/OverRam`); RAM and images are
-//!   taken where it is done, and nothing else is. What does not go together, and what this version does not know, is refused before.
-//! - `vmig_arrive` lets one arrive in such memory, and within limits (`specs/Expected`). `Admission` reads the header of what arrives
-//!   as it comes: no byte that completes it is let in before it was compared with the limits (`specs/Admission`).
+//!   for the other calls.
+//! - `vmig_make` makes the first machine as its struct says, of one equation (`c_machine`, `specs/Made`); `vmig_arrive` lets one arrive, within
+//!   limits (`specs/Expected`). RAM and images that the struct names are taken where it is done, and nothing else is. `Admission` reads the
+//!   header of what arrives: no byte that completes it is let in before it was compared with the limits (`specs/Admission`).
 //! - The bytes that were taken, followed by those that wait, are what a machine that is being migrated has written, from its
 //!   first call to its stop, and the machine that arrives from them is that machine: laws over these clauses (`specs/Sent`).
 //! - A caller whose guest runs on hardware keeps the guest's RAM in memory of its own (`specs/Mirror`). `vmig_push` is one
@@ -32,24 +28,19 @@
 //!   that the caller noted, or is the greatest. `Mirrors` says that each page whose noted version is the current one is the
 //!   machine's. Whatever is applied to the machine keeps a mirror; pushed pages are mirrored; and after a pull of a mirror the
 //!   caller's RAM is the machine's, byte for byte (`laws`). The caller's part is to hand in every page that its guest wrote.
-//! - `vmig_sector_read` gives a sector of a disk. Nothing but the guest writes one.
-//! - `vmig_unmap` frees a machine over images, and the slots then hold the contents of its disks, in the order of the devices, but for
-//!   bad sectors, which may hold anything (`specs/Unmapping`). It also ends an arrival over images, refused or not, and gives them
-//!   back. It refuses without a change. That an image comes back to its address is not in the clause, since a machine is not seen with
-//!   addresses; the disk has no other memory to give.
-//! - `vmig_lend` lends RAM that lies in memory of the caller to it; `vmig_give_back`, `vmig_give_back_marked` and
-//!   `vmig_give_back_all` take it back with the pages that were written, which are named by a list, a bitmap (`specs/Named`), or not at
-//!   all (`specs/Lent`). Each refuses without a change. Meanwhile the handle has all of the machine but its RAM (`loan`), and a call
-//!   that needs RAM is refused.
-//! - The machines of C have their disks in memory (`specs/Plain`): they are honest and steady, and stay so.
+//! - `vmig_release` frees what there is, and the slots then hold the contents of disks over images, in the order of the devices, but for
+//!   bad sectors, which may hold anything (`specs/Unmapping`). That an image comes back to its address is not in the clause, since a
+//!   machine is not seen with addresses; the disk has no other memory to give.
+//! - `vmig_lend` lends RAM that lies in memory of the caller to it, and `vmig_give_back` takes it back with the pages that were written
+//!   (`specs/Lent`). Meanwhile the handle has all of the machine but its RAM (`loan`), and a call that needs RAM is refused.
 //! - The caller's part is C's: pointers and counts name memory as the header says.
 //!
 //! # Why it is so
-//! - Exports call nobody back: they open no file and call no function of C. So disks lie in memory.
+//! - Exports call nobody back: they open no file and call no function of C. So disks lie in memory: they are honest and steady
+//!   (`c_machine`, `specs/Plain`).
 //! - A pointer whose count is 0 may be null, as C programmers write it. No contract says so, since a proof cannot compare a
 //!   caller's pointer with null. The module that the compiler hands to LLVM has no attribute by which a pointer is known not to
 //!   be null, and no empty slice of a caller is put into an `Option`; `tests/c/nulls.c` makes each such call.
-//! - Handles are not `const`, also where a call changes nothing: `const` would be read as leave for two threads to look at once.
 #![tactic(auto)]
 
 ghost use Rattle.std.specs.Prelude.{◌≡◌, None};
@@ -59,7 +50,7 @@ ghost use Rattle.vmig_c.specs.Arriving.{Fed, Finished};
 ghost use Rattle.vmig_c.specs.Described.{Describes};
 ghost use Rattle.vmig_c.specs.Durable.{Failed};
 ghost use Rattle.vmig_c.specs.Expected.{Expects};
-ghost use Rattle.vmig_c.specs.Images.{SectorRead};
+ghost use Rattle.vmig_c.specs.Sectors.{SectorRead};
 ghost use Rattle.vmig_c.specs.Lent.{GivesBack, Lends};
 ghost use Rattle.vmig_c.specs.Made.{Makes};
 ghost use Rattle.vmig_c.specs.Migrated.{Aborted, Begun, EndedRound, HasBeenStopped, Leaves, SentSome, Taken};
@@ -80,27 +71,19 @@ mod arrival;
 mod arriving;
 mod creating;
 mod describing;
-mod description;
-mod device_shape;
 mod expecting;
 mod handle;
-mod images;
 mod kept;
 pub mod laws;
 mod lending;
 mod loan;
-mod making;
-mod mapping;
 mod migrating;
 mod mirror;
 mod moving;
-mod naming;
-mod over_ram;
-mod pages;
 mod resetting;
 mod rooms;
+mod sectors;
 mod serving;
-mod setup;
 mod status;
 mod stepping;
 mod syncing;
@@ -109,28 +92,25 @@ mod working;
 
 use announcing::announced;
 use arriving::{feed, finish};
+use c_machine::status::{DONE, NO_MACHINE};
+pub use c_machine::{Description, DeviceShape, Expected, Pages, Setup};
 use creating::make;
 use describing::describe;
-pub use description::Description;
-pub use device_shape::DeviceShape;
 use expecting::arrive;
 pub use handle::Handle;
-use images::read_sector;
 use lending::{give_back, lend};
 use mapped_disk::Image;
 pub use migrating::SendLeft;
 use migrating::{abort, begin, left as left_of, send_round, send_some, stop, take};
 use mirror::{pull, push};
 use moving::save_kept;
-pub use pages::Pages;
 use region::Slot;
 use resetting::reset;
 use rooms::room as room_in;
+use sectors::read_sector;
 use serving::{
     drop_input, input, lines, read_ram, read_register, resize, write_ram, write_register,
 };
-pub use setup::{Expected, Setup};
-use status::{DONE, NO_MACHINE};
 use std::alloc::Global;
 use stepping::step_kept;
 use syncing::lose_kept;
@@ -443,7 +423,7 @@ pub extern "C" fn vmig_send_begin(alloc: Global, machine: &mut Handle) -> u32
     on_kept!(machine; alloc, begin())
 }
 
-/// Sends items that are due, at most so many.
+/// Sends at most `most` items that are due.
 #[unsafe(no_mangle)]
 #[tactic(auto, using(crate::proofs::OnHandle::on_none, crate::proofs::OnHandle::on_some))]
 pub extern "C" fn vmig_send_some(machine: &mut Handle, most: u32) -> u32

@@ -4,7 +4,7 @@
 //! since 0 would be read as 'no interrupt'. All else is refused by one status, also where the answer could be given, such as a
 //! sector.
 
-use crate::status::{DONE, NOT_SENDING};
+use c_machine::status::{DONE, NOT_SENDING};
 use machine::{Disk, Parked};
 use sender::{LiveParked, Phase};
 use wire::Waiting;

@@ -6,8 +6,9 @@ ghost use Rattle.vmig_c.specs.Kept.{are_mapped, held_state, state_in};
 
 use crate::arrival::Arrival;
 use crate::kept::{Contents, Held, Kept, Moving, by_state, turned};
-use crate::status::{
-    DONE, LENT, NO_MEMORY, NOT_SENDING, ROUND_DONE, ROUND_OPEN, SEND_FAILED, STOPPED, mig_status,
+use crate::status::mig_status;
+use c_machine::status::{
+    DONE, LENT, NO_MEMORY, NOT_SENDING, ROUND_DONE, ROUND_OPEN, SEND_FAILED, STOPPED,
 };
 use machine::{Disk, Machine};
 use sender::{End, LiveWaiting, Phase, Stopped};
@@ -34,7 +35,7 @@ pub struct SendLeft {
     /// The most bytes that a stop would write.
     pub stop_bytes: u64,
 
-    /// Zeros, until a later version tells more by them.
+    /// Zeros, reserved for later versions.
     pub reserved: [u64; 3],
 }
 
@@ -110,7 +111,7 @@ fn begun_again<D: Disk>(live: Moving<D>) -> (Moving<D>, u32)
     }
 }
 
-/// Sends items that are due, at most so many.
+/// Sends at most `most` items that are due.
 #[tactic(auto, using(crate::proofs::OnHandle::by_still, crate::proofs::OnHandle::by_moving))]
 pub(crate) fn send_some(kept: &mut Kept, most: u32) -> u32
     ensures sends { SendsKept kept.old.state most result kept.new.state }
@@ -122,7 +123,7 @@ pub(crate) fn send_some(kept: &mut Kept, most: u32) -> u32
     )
 }
 
-/// Sends the least due item, at most so many times, while there is one.
+/// Sends the least due item, at most `most` times, while there is one.
 #[tactic(auto, using(crate::proofs::Migration::some_refused, crate::proofs::Migration::some_sent))]
 fn some_status<D: Disk>(live: &mut Moving<D>, most: u32) -> u32
     ensures { SendsSome live.old most result live.new }

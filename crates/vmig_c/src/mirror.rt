@@ -12,13 +12,12 @@ ghost use Rattle.guestmem.specs.Page.{page_of};
 ghost use Rattle.guestmem.specs.Write.{put_at};
 ghost use Rattle.guestmem.specs.declared.limits.TheConstants.{PAGES_MAX};
 ghost use Rattle.vmig_c.specs.Mirror.{ArePushed, HasPulled, IsPushable, IsPushed, PullsKept, PushesKept, away_status, is_closed, is_away, is_noted, is_short, is_stopped, memory_in, push_refusal};
-ghost use Rattle.vmig_c.specs.Named.{are_pages};
-ghost use Rattle.vmig_c.specs.Status.{done};
+ghost use Rattle.c_machine.specs.Status.{done};
 ghost use Rattle.vmig_c.specs.Kept as states;
 
 use crate::kept::{Kept, Moving, by_state};
-use crate::pages::Pages;
-use crate::status::{DONE, LENT, NO_MACHINE, NO_MEMORY, NOT_KNOWN, STOPPED, TOO_SMALL};
+use c_machine::Pages;
+use c_machine::status::{DONE, LENT, NO_MACHINE, NO_MEMORY, NOT_KNOWN, STOPPED, TOO_SMALL};
 use guestmem::{PAGE_SIZE, Ram};
 use machine::{Disk, Machine};
 use sender::Phase;
@@ -129,17 +128,6 @@ fn page_count(memory: &Ram) -> u64
 {
     memory.recall();
     memory.len() / PAGE_SIZE as u64
-}
-
-pub(crate) fn are_pages(count: u64, pages: &[u32]) -> bool
-    ensures { result ≡ are_pages count pages.now }
-{
-    for n in pages {
-        if *n as u64 >= count {
-            return false;
-        }
-    }
-    true
 }
 
 /// The RAM of the machine, or the status that says why there is none here.

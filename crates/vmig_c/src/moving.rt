@@ -8,10 +8,10 @@ ghost use Rattle.std.specs.Prelude.{◌≡◌, ◌≤◌, ◌++◌, IfOk, length
 ghost use Rattle.machine.specs.Seen.{state_of};
 ghost use Rattle.wire.specs.Stream.{whole};
 ghost use Rattle.vmig_c.specs.Moving.{HasSaved, IsKept, Saves, SavesKept};
-ghost use Rattle.vmig_c.specs.Plain.{ArePlain};
+ghost use Rattle.c_machine.specs.Plain.{ArePlain};
 
 use crate::kept::{Kept, by_state};
-use crate::status::{DONE, MORE, NO_MEMORY, SENDING};
+use c_machine::status::{DONE, MORE, NO_MEMORY, SENDING};
 use guestmem::NoMemory;
 use machine::{Disk, Machine};
 use sender::{save, saved_len};

@@ -5,7 +5,7 @@ ghost use Rattle.machine.specs.Seen.{state_of};
 ghost use Rattle.vmig_c.specs.Rooms.{IsRoomOf, RoomsKept, room_of};
 
 use crate::kept::{Kept, by_state};
-use crate::status::{DONE, NO_DEVICE, WRONG_KIND};
+use c_machine::status::{DONE, NO_DEVICE, WRONG_KIND};
 use console::HOST_BYTES_MAX;
 use machine::{Disk, Kind, Machine};
 use net::INBOX_MAX;

@@ -15,10 +15,11 @@ ghost use Rattle.vmig_c.specs.Mirror.{is_closed};
 
 use crate::kept::{Kept, Moving, by_state};
 use crate::mirror::has_stopped;
-use crate::status::{
-    DISK_FAILED, DONE, IDLE, LENT, NO_DEVICE, NO_MACHINE, STOPPED, WRONG_KIND, mig_status,
-};
+use crate::status::mig_status;
 use blk::SyncOwed;
+use c_machine::status::{
+    DISK_FAILED, DONE, IDLE, LENT, NO_DEVICE, NO_MACHINE, STOPPED, WRONG_KIND,
+};
 use machine::{Disk, Kind, Machine};
 
 /// What a step of the machine of a handle owes and does not get, since the disk is lost.

@@ -7,15 +7,15 @@ ghost use Rattle.machine.specs.Shapes.{disk_sizes};
 ghost use Rattle.vmig_c.specs.Awaited.{is_over};
 ghost use Rattle.vmig_c.specs.Kept as states;
 ghost use Rattle.vmig_c.specs.Kept.{are_mapped, held_state, kept_of, state_in};
-ghost use Rattle.vmig_c.specs.Mapping.{counts};
-ghost use Rattle.vmig_c.specs.Named.{are_zeros};
+ghost use Rattle.c_machine.specs.Mapping.{counts};
+ghost use Rattle.c_machine.specs.Named.{are_zeros};
 ghost use Rattle.vmig_c.specs.Unmapping.{AreHandedBack, HasReleasedFrom, HasUnmapped, disk_in, disks_in, held_by, images_of, release_refusal_in, release_refusal_of, slots_refusal};
 
 use crate::arrival::Arrival;
 use crate::kept::{Contents, Held, Kept, by_state};
-use crate::mapping::give_back;
 use crate::migrating::taken_out;
-use crate::status::{BAD_IMAGES, LENT, TOO_SMALL};
+use c_machine::give_back;
+use c_machine::status::{BAD_IMAGES, LENT, TOO_SMALL};
 use machine::{Device, Disk, Machine, Shape};
 use mapped_disk::{Image, MappedDisk};
 

@@ -1,6 +1,6 @@
 use Rattle.std.proofs.Common.{◌≡◌, length, subst, true}
 use Rattle.vmig_c.specs.Kept.{loan_of, parked_in}
-use Rattle.vmig_c.specs.Named.{are_pages}
+use Rattle.c_machine.specs.Named.{are_pages}
 use Rattle.vmig_c.specs.declared.loan.Loan.{Loan}
 use Rattle.vmig_c.proofs.Lent.{below}
 use Rattle.vmig_c.proofs.lending.back_from.Goals as goal
