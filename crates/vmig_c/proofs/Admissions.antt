@@ -13,9 +13,9 @@ use Rattle.receiver.specs.declared.recv_error.RecvError.{RecvError}
 use Rattle.receiver.specs.declared.recv_error.RecvError.TheVariants.{NoMemory}
 use Rattle.vmig_c.specs.Admission.{IsAdmitted, IsFaultyHead, IsUnfit, are_expected, are_same_shapes, is_same_shape, stream_refusal}
 use Rattle.vmig_c.specs.Awaited.{stream_status}
-use Rattle.vmig_c.specs.Images.{sectors_in}
+use Rattle.c_machine.specs.Images.{sectors_in}
 use Rattle.vmig_c.specs.declared.admission.Limits.{Limits}
-use Rattle.vmig_c.proofs.Imaging.{eq_of}
+use Rattle.c_machine.proofs.Imaging.{eq_of}
 
 -- Sectors are counted off what may come.
 at_shape : (shapes : List Shape) (i : ℕ) (d : Shape) → i < length shapes → sectors_in (drop i shapes) ≡ sector_count (get_or shapes i d) + sectors_in (drop (i + 1) shapes)

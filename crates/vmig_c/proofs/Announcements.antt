@@ -5,8 +5,8 @@ use Rattle.receiver.specs.Faults.{IsHeaderFault, TellsHead, WaitsHead}
 use Rattle.receiver.specs.declared.ram_terms.RamTerms.{RamTerms}
 use Rattle.receiver.specs.declared.recv_error.RecvError.{RecvError}
 use Rattle.vmig_c.specs.Announced.{Announces, heading_status}
-use Rattle.vmig_c.specs.Described.{message_of, nothing_told, with_shapes}
-use Rattle.vmig_c.specs.declared.description.Description.{Description}
+use Rattle.c_machine.specs.Description.{message_of, nothing_told, with_shapes}
+use Rattle.c_machine.specs.declared.description.Description.{Description}
 
 pub announced : (bytes : List ℕ) (opening : Opening) (rest : List ℕ) (told old : Description) → Begins bytes opening rest
     → told ≡ record (with_shapes nothing_told opening.pages opening.shapes) { message = message_of opening.shapes } → Announces bytes 0 told old

@@ -28,11 +28,12 @@ use Rattle.vmig_c.specs.ArrivalSeen.{ArrivalSeen, AtHead, AtBody, Refused, Over}
 use Rattle.vmig_c.specs.Awaited.{AreSteady, CountsRounds, GoesOnWith, IsClosed, HasArrived, HasCome, IsFaulty, IsFed, IsFedTo, IsWholeIf, TellsEnd, TellsOf, TellsWhole, TellsWhy, awaited_by, awaited_place, awaited_ram, place_for, terms_for, IsComing, IsAtHead}
 use Rattle.vmig_c.specs.declared.arrival.Progress.{Progress}
 use Rattle.vmig_c.specs.declared.arrival.Progress.TheVariants.{Head, Body, Failed}
+use Rattle.vmig_c.specs.declared.arrival.Progress.TheVariants as progress
 use Rattle.vmig_c.specs.Headed.{AreFitting, HasHeader, HasNoHeader}
-use Rattle.vmig_c.specs.Plain.{mem_state}
-use Rattle.vmig_c.proofs.Plain.{as_many}
+use Rattle.c_machine.specs.Plain.{mem_state}
+use Rattle.c_machine.proofs.Plain.{as_many}
 use Rattle.vmig_c.proofs.Streams.{of_found}
-use Rattle.vmig_c.proofs.Zeros.{alike}
+use Rattle.c_machine.proofs.Zeros.{alike}
 
 -- A header stays at the beginning of more bytes.
 longer : (bytes piece sizes : List ℕ) → HasHeader bytes sizes → HasHeader (bytes ++ piece) sizes
@@ -179,6 +180,9 @@ not_arrived_if r (Err e) told why = ((told, λ b h. why b h.0), refl)
 pub body_counts : (r : Received) (n : ℕ) → ((b : List ℕ) → HasBeenFed r b → HasRounds r.ram r.sizes b n) → CountsRounds (AtBody r) n
 body_counts r n rounds = λ b h. rounds b h.0
 
+pub over_counts : (r : Received) (n : ℕ) → (r.failed ≡ true → n ≡ 0) → ((b : List ℕ) → HasBeenFed r b → HasRounds r.ram r.sizes b n) → CountsRounds (Over r) n
+over_counts r n failed rounds = (failed, rounds)
+
 pub head_counts : (ram : RamTerms) (place : Option Ptr) (held : List ℕ) → HasNoHeader held → CountsRounds (AtHead ram place held) 0
 head_counts ram place held none = λ b is. record { none = λ _. refl; some = λ opening before tail front last. absurd (subst HasNoHeader (sym is) none (said_by opening) _ front.begins) }
 
@@ -200,11 +204,13 @@ head_whole ram place held none = λ b is whole. subst HasNoHeader (sym is) none 
 pub not_whole : (p : Progress) (a : ArrivalSeen) → IsComing p → awaited_by p ≡ a → IsAtHead (awaited_by p) → TellsWhole a false
 not_whole (Head base ram held) a coming view at = subst (λ (x : ArrivalSeen). TellsWhole x false) view (head_whole (terms_for base ram) (place_for ram) held.items coming)
 not_whole (Body r) a coming view at = absurd at
+not_whole (progress.Over r) a coming view at = absurd at
 not_whole Failed a coming view at = absurd at
 
 pub not_counted : (p : Progress) (a : ArrivalSeen) → IsComing p → awaited_by p ≡ a → IsAtHead (awaited_by p) → CountsRounds a 0
 not_counted (Head base ram held) a coming view at = subst (λ (x : ArrivalSeen). CountsRounds x 0) view (head_counts (terms_for base ram) (place_for ram) held.items coming)
 not_counted (Body r) a coming view at = absurd at
+not_counted (progress.Over r) a coming view at = absurd at
 not_counted Failed a coming view at = absurd at
 
 -- The address at which RAM will begin.

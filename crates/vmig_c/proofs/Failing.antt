@@ -19,8 +19,8 @@ use Rattle.vmig_c.specs.Kept.{KeptSeen, is_lost}
 use Rattle.vmig_c.specs.Mirror.{Mirrors, is_closed}
 use Rattle.vmig_c.specs.OnHandle.{Refuses, Unless}
 use Rattle.vmig_c.specs.Sent.{FailuresStaySent}
-use Rattle.vmig_c.specs.Status.{mig_status}
-use Rattle.vmig_c.proofs.Plain.{as_many}
+use Rattle.vmig_c.specs.SendStatus.{mig_status}
+use Rattle.c_machine.proofs.Plain.{as_many}
 
 -- Of a machine that is not being migrated.
 pub failed : (m next : Seen) (dev pick : ℕ) (was : Bool) → was ≡ true → was ≡ makes_flush (state_of m) dev pick → FailsFlushIf was m dev pick next → FailsSync m dev pick 69 next

@@ -17,10 +17,11 @@ use Rattle.receiver.specs.declared.recv_error.RecvError.{RecvError}
 use Rattle.receiver.specs.declared.recv_error.RecvError.TheVariants.{BadMagic, BadVersion, BadShape, ShapeMismatch, BadTag, BadPage, BadSector, BadRound, BadDevice, BadDigest, Missing, Trailing, Truncated, DiskFailed, NoMemory, AlreadyFailed}
 use Rattle.mapped_disk.specs.declared.image.Image.{Image}
 use Rattle.vmig_c.specs.ArrivalSeen.{ArrivalSeen, AtHead, AtBody, Refused, Over}
-use Rattle.vmig_c.specs.Awaited.{AreSteady, HasArrived, IsClosed, IsFed, TellsOf, awaited_sizes}
+use Rattle.vmig_c.specs.Awaited.{AreSteady, HasArrived, IsClosed, IsFed, TellsOf, awaited_sizes, is_over}
 use Rattle.vmig_c.specs.Landing.{AreDisksOf, IsAwaitedAt, image_state}
-use Rattle.vmig_c.specs.Mapping.{AreTaken, contents}
-use Rattle.vmig_c.specs.Unmapping.{HasUnmappedArrival, slots_refusal}
+use Rattle.c_machine.specs.Mapping.{AreTaken, contents}
+use Rattle.vmig_c.specs.Kept.{Arriving}
+use Rattle.vmig_c.specs.Unmapping.{HasReleasedFrom, images_of, slots_refusal}
 use Rattle.vmig_c.proofs.Awaited.{arrived, honest_marks, more_steady, never_failed, one_error}
 use Rattle.vmig_c.proofs.Handing.{asked, none_at}
 
@@ -103,7 +104,10 @@ told_if r next piece (Ok x) steady sizes failed marks already tells = tt
 told_if r next piece (Err e) steady sizes failed marks already tells = told_over r next piece e steady sizes failed marks (λ f. one_error (Err e) e AlreadyFailed refl (already f)) tells
 
 -- The slots that the disks go into are free, and there is one for each.
-pub slots_free : (a : ArrivalSeen) (disks images : List Image) (count : ℕ) → AreDisksOf a (contents disks) → length disks ≡ length (awaited_sizes a) → slots_refusal (length (awaited_sizes a)) images ≡ None → count ≡ length disks → AreTaken disks (take count images)
+abbrev AreSlotsOf : ArrivalSeen → List Image → Type 0
+AreSlotsOf a images = slots_refusal (images_of (is_over a) (Arriving a)) images ≡ None
+
+pub slots_free : (a : ArrivalSeen) (disks images : List Image) (count : ℕ) → AreDisksOf a (contents disks) → length disks ≡ length (awaited_sizes a) → AreSlotsOf a images → count ≡ length disks → AreTaken disks (take count images)
 slots_free (Over r) disks images count of many none is =
     let asks = asked (length r.sizes) images none in
     record {
@@ -114,8 +118,8 @@ slots_free (AtHead ram place held) disks images count of many none is = absurd o
 slots_free (AtBody r) disks images count of many none is = absurd of
 slots_free Refused disks images count of many none is = absurd of
 
-pub gave_up : (a : ArrivalSeen) (disks images : List Image) (count : ℕ) → AreDisksOf a (contents disks) → length disks ≡ length (awaited_sizes a) → slots_refusal (length (awaited_sizes a)) images ≡ None → count ≡ length disks
-    → HasUnmappedArrival a images (disks ++ drop count images)
+pub gave_up : (a : ArrivalSeen) (disks images : List Image) (count : ℕ) → AreDisksOf a (contents disks) → length disks ≡ length (awaited_sizes a) → AreSlotsOf a images → count ≡ length disks
+    → HasReleasedFrom (is_over a) (Arriving a) images (disks ++ drop count images)
 gave_up (Over r) disks images count of many none is =
     let asks = asked (length r.sizes) images none in
     let few : count ≤ length images = omega (arith, is, many, asks.1) in
@@ -129,6 +133,9 @@ gave_up (AtHead ram place held) disks images count of many none is = absurd of
 gave_up (AtBody r) disks images count of many none is = absurd of
 gave_up Refused disks images count of many none is = absurd of
 
+pub none_given_up : (a : ArrivalSeen) (images : List Image) → is_over a ≡ false → HasReleasedFrom (is_over a) (Arriving a) images images
+none_given_up a images own = rw own refl
+
 -- The end.
 pub arrived_over : (r : Received) (m : Seen) → AreSteady r → r.failed ≡ false → (AreHonestDisks r.marks → (b : List ℕ) → HasBeenFed r b → IsStream b (state_of m)) → all_marks m ≡ dealt_marks (shapes_in (state_of m).devices) r.marks
     → base_of (state_of m).devices ≡ r.ram.base → m.memory.place ≡ r.place → HasArrived (Over r) m
@@ -140,8 +147,8 @@ pub given_up_steady : (r next : Received) → AreSteady r → IsGivenUp r next �
 given_up_steady r next steady h = more_steady r next steady h.sizes h.marks
 
 -- The images go back.
-pub images_of : (r : Received) (disks : List Image) → map image_state disks ≡ r.disks → map (λ (d : DiskState). d.sectors) r.disks ≡ contents disks
-images_of r disks are = ap (map (λ (d : DiskState). d.sectors)) (sym are) ∙ sectors_are disks
+pub sectors_back : (r : Received) (disks : List Image) → map image_state disks ≡ r.disks → map (λ (d : DiskState). d.sectors) r.disks ≡ contents disks
+sectors_back r disks are = ap (map (λ (d : DiskState). d.sectors)) (sym are) ∙ sectors_are disks
 
 counted : (disks : List Image) → length disks ≡ length (sizes_of image_state disks)
 counted [] = refl

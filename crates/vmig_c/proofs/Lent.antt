@@ -3,13 +3,15 @@ use Rattle.std.proofs.Common.{◌≡◌, ◌<◌, ◌*◌, ◌==◌, ℕ, Bool, 
 use Prim.Native.Nat.{zero, suc}
 use Rattle.std.specs.Prelude.{All, Option, Some, None, not, if◌then◌else◌}
 use Rattle.region.specs.declared.slot.Slot.{Slot}
+use Rattle.sender.specs.LiveState.{LiveSeen}
 use Rattle.vmig_c.specs.Kept.{LoanSeen, State, Still, Moving, Arriving, Lent, parked_in}
-use Rattle.vmig_c.specs.Lent.{ComesBack, HasComeBack, IsReturnable, back_refusal_of, lent_pages}
-use Rattle.vmig_c.specs.Named.{are_pages, is_known_pages, named_pages, needs_list, pages_refusal}
-use Rattle.vmig_c.specs.declared.pages.Pages.{Pages}
-use Rattle.vmig_c.proofs.Imaging.{eq_of}
-use Rattle.vmig_c.proofs.NamedPages.{listed, named_are, there}
-use Rattle.vmig_c.proofs.Mirrored.{both_left, both_right, is_page}
+use Rattle.vmig_c.specs.Lent.{ComesBack, HasComeBack, IsReturnable, back_refusal_of, lend_refusal_of, lent_pages}
+use Rattle.vmig_c.specs.Mirror.{is_closed}
+use Rattle.c_machine.specs.Named.{are_pages, is_known_pages, named_pages, needs_list, pages_refusal}
+use Rattle.c_machine.specs.declared.pages.Pages.{Pages}
+use Rattle.c_machine.proofs.Imaging.{eq_of}
+use Rattle.c_machine.proofs.NamedPages.{listed, named_are, there}
+use Rattle.c_machine.proofs.PageNumbers.{both_left, both_right, is_page}
 
 -- The pages are below the count.
 pub below : (count : ℕ) (pages : List ℕ) → are_pages count pages ≡ true → All (λ (n : ℕ). n < count) pages
@@ -79,3 +81,18 @@ came_named k next ram mid new_ram pages numbers count answer is none same counte
 
 pub back_full : (k : State) (ram new_ram : Slot) (pages : Pages) (answer : Option ℕ) → answer ≡ back_refusal_of k (length ram.content) pages → answer ≡ None → needs_list pages ≡ true → new_ram ≡ ram → ComesBack k ram pages 10 new_ram k
 back_full k ram new_ram pages answer is none needs same = rw (sym is ∙ none) (inr (needs, ((refl, same), refl)))
+
+-- A slot into which RAM may go is free.
+by_test : (stopped free : Bool) → ◌≡◌ {A = Option ℕ} (if stopped then Some 21 else if not free then Some 26 else None) None → free ≡ true
+by_test true free is = absurd cc
+by_test false true is = refl
+by_test false false is = absurd cc
+
+empty_of : (bytes : List ℕ) → length bytes ≡ 0 → bytes ≡ []
+empty_of [] e = refl
+empty_of (x ∷ bytes) e = absurd cc
+
+pub free_slot : (k : State) (l : LiveSeen) (bytes : List ℕ) → k ≡ Moving l → lend_refusal_of k (length bytes) ≡ None → bytes ≡ []
+free_slot k l bytes is none =
+    let going : lend_refusal_of (Moving l) (length bytes) ≡ None = subst (λ (x : State). lend_refusal_of x (length bytes) ≡ None) is none in
+    empty_of bytes (eq_of (length bytes) 0 (by_test (is_closed l.phase) (length bytes == 0) going))

@@ -16,7 +16,7 @@ use Rattle.sender.specs.declared.event.LiveReply.TheVariants as live
 use Rattle.sender.specs.declared.mig_error.MigError.{MigError}
 use Rattle.sender.specs.declared.mig_error.MigError.TheVariants as errors
 use Rattle.vmig_c.specs.Migrated.{GoesOn, HasEnded, HasStopped, HasTaken, IsAnswered, SendsIf, SendsSome, SendsUpTo, TakesKept, end_status, is_none_due, send_refusal, stopped_pages, stopped_sectors}
-use Rattle.vmig_c.specs.Status.{live_status, mig_status}
+use Rattle.vmig_c.specs.SendStatus.{live_status, mig_status}
 use Rattle.vmig_c.specs.Kept.{State, Still, Moving}
 
 same_machine : (o : Option MigError) (l next : LiveSeen) (error : MigError) → MatchOption o (Does l events.Begin (live.Mig error) next) (λ x. (live.Mig error ≡ live.Mig x) × (next ≡ l)) → CallsNone l.machine next.machine → next.machine ≡ l.machine

@@ -1,5 +1,5 @@
 -- Mirrors of a machine's RAM.
-use Rattle.std.proofs.Common.{◌≡◌, ◌≢◌, ◌≤◌, ◌<◌, ◌*◌, ◌+◌, ◌-◌, ◌/◌, ◌++◌, ◌==◌, ◌&&◌, ℕ, Bool, true, false, nat_lt, List, [], ◌∷◌, refl, sym, ap, subst, ◌∙◌, arith, length, drop, get_or, take, true≢false, append_assoc, get_or-set_other, get_or-set_same}
+use Rattle.std.proofs.Common.{◌≡◌, ◌≢◌, ◌≤◌, ◌<◌, ◌*◌, ◌+◌, ◌-◌, ◌/◌, ◌++◌, ◌==◌, ◌&&◌, ℕ, Bool, true, false, nat_lt, List, [], ◌∷◌, refl, sym, ap, subst, ◌∙◌, arith, length, drop, get_or, take, append_assoc, get_or-set_other, get_or-set_same}
 use Rattle.std.specs.Prelude.{◌||◌, not, Option, Some, None, MatchOption, slice_index, slice_set, if◌then◌else◌}
 use Rattle.std.proofs.lemmas.Bool.Decides.{nat_tests}
 use Rattle.std.proofs.lemmas.Grind.{same_number_lists}
@@ -29,11 +29,13 @@ use Rattle.sender.specs.declared.event.LiveReply.{LiveReply}
 use Rattle.sender.specs.declared.event.LiveReply.TheVariants as live
 use Rattle.sender.specs.declared.mig_error.MigError.{MigError}
 use Rattle.vmig_c.specs.Mirror.{AppliedMirrors, ArePushed, IsPushed, Mirrors, MirrorsPage, PulledMirrors, IsPushable, PushedMirrors, UnseenMirrors, is_among, is_away, is_noted, is_short, is_stopped, machine_in, memory_in, push_refusal, unseen}
-use Rattle.vmig_c.specs.Named.{are_pages, is_known_pages, pages_refusal}
-use Rattle.vmig_c.specs.Status.{live_status, status_of}
+use Rattle.c_machine.specs.Named.{are_pages, is_known_pages, pages_refusal}
+use Rattle.vmig_c.specs.SendStatus.{live_status}
+use Rattle.c_machine.specs.Status.{status_of}
 use Rattle.vmig_c.specs.Told.{TellsSo}
 use Rattle.vmig_c.specs.Kept.{State, Still, Moving, Arriving, Lent}
-use Rattle.vmig_c.specs.declared.pages.Pages.{Pages}
+use Rattle.c_machine.specs.declared.pages.Pages.{Pages}
+use Rattle.c_machine.proofs.PageNumbers.{both_left, both_right, is_page}
 
 -- What is noted, as tests and as facts.
 tested_same : (a b c : ℕ) → (a == b && nat_lt b c) ≡ true → a ≡ b
@@ -222,19 +224,8 @@ pushed_by false m next n j ram seen is inside long room w other =
     let differ : j ≢ n = grind (arith, nat_tests) in
     pushed_else m next n j ram seen differ w.applied.later (other is)
 
-pub both_left : (a b : Bool) → (a && b) ≡ true → a ≡ true
-both_left true b is = refl
-both_left false b is = is
-
-pub both_right : (a b : Bool) → (a && b) ≡ true → b ≡ true
-both_right true b is = is
-both_right false b is = absurd (true≢false (sym is))
-
 neither : (a b : Bool) → a ≡ false → b ≡ false → (a || b) ≡ false
 neither a b not_a not_b = rw (not_a, not_b) refl
-
-pub is_page : (n count : ℕ) → nat_lt n count ≡ true → n < count
-is_page n count is = grind (arith, nat_tests)
 
 sound_later : (m next : Memory) → IsMemory m → IsLater m next → IsMemory next
 sound_later m next sound later = record {

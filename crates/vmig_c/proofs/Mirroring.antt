@@ -26,10 +26,11 @@ use Rattle.sender.specs.declared.mig_error.MigError.{MigError}
 use Rattle.sender.specs.declared.phase.Phase.{Phase}
 use Rattle.sender.specs.declared.phase.Phase.TheVariants as phases
 use Rattle.vmig_c.specs.Mirror.{ArePushed, IsPushed, is_closed}
-use Rattle.vmig_c.specs.Named.{are_pages}
+use Rattle.c_machine.specs.Named.{are_pages}
 use Rattle.vmig_c.specs.Told.{IsServed}
 use Rattle.vmig_c.specs.Kept.{State, Still, Moving}
-use Rattle.vmig_c.proofs.Mirrored.{both_left, both_right, is_page, whole_page}
+use Rattle.c_machine.proofs.PageNumbers.{both_left, both_right, is_page}
+use Rattle.vmig_c.proofs.Mirrored.{whole_page}
 
 -- A write of a whole page that there is: it is done.
 pub none_inside : (base len at count : ℕ) → base + at < 2 ^ 64 → count ≡ 4096 → at + count ≤ len → access_refusal base len (base + at) count ≡ None

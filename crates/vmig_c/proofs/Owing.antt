@@ -22,11 +22,12 @@ use Rattle.sender.specs.declared.event.LiveReply.TheVariants as live
 use Rattle.vmig_c.specs.Durable.{FailsKept, FailsUnless, failed_status, owed_for, owed_in, owed_lost, owed_unless}
 use Rattle.vmig_c.specs.Kept.{KeptSeen, State, Still, Moving, Arriving, Lent, is_lost}
 use Rattle.vmig_c.specs.Mirror.{is_closed}
-use Rattle.vmig_c.specs.Plain.{ArePlain}
+use Rattle.c_machine.specs.Plain.{ArePlain}
 use Rattle.vmig_c.specs.Refused.{ArePlainIn, IsSameKept, IsSameSent}
-use Rattle.vmig_c.specs.Status.{live_status, status_of}
+use Rattle.vmig_c.specs.SendStatus.{live_status}
+use Rattle.c_machine.specs.Status.{status_of}
 use Rattle.vmig_c.specs.Stepped.{LiveSteppedIf, RefusedStepsNothing, StepsKept, StepsOwing, SteppedIf, live_sent_in, most_sent_by, sent_in}
-use Rattle.vmig_c.proofs.Plain.{refused_quiet}
+use Rattle.c_machine.proofs.Plain.{refused_quiet}
 use Rattle.vmig_c.proofs.Quiet.{no_number, quiet_by}
 
 -- A step that owes a flush makes one.

@@ -3,10 +3,10 @@ use Rattle.std.proofs.Common.{◌≡◌, ℕ, true, false, List, refl, sym, ap, 
 use Rattle.std.specs.Prelude.{Option, Some, None}
 use Rattle.vmig_c.specs.Kept.{State}
 use Rattle.vmig_c.specs.Mirror.{ArePushed, IsPushable, PushesKept, is_away, is_short, is_stopped, memory_in, push_refusal}
-use Rattle.vmig_c.specs.Named.{are_pages, is_known_pages, named_pages, needs_list, pages_refusal}
-use Rattle.vmig_c.specs.declared.pages.Pages.{Pages}
+use Rattle.c_machine.specs.Named.{are_pages, is_known_pages, named_pages, needs_list, pages_refusal}
+use Rattle.c_machine.specs.declared.pages.Pages.{Pages}
 use Rattle.vmig_c.proofs.Mirrored.{push_tests, pushable}
-use Rattle.vmig_c.proofs.NamedPages.{listed, named_are, there}
+use Rattle.c_machine.proofs.NamedPages.{listed, named_are, there}
 
 pub pushable_list : (k : State) (p : Pages) (bytes entries : ℕ) (answer : Option ℕ) → answer ≡ push_refusal k p bytes entries → answer ≡ None → IsPushable k p.list.now bytes entries
 pushable_list k p bytes entries answer is none = pushable k p p.list.now bytes entries (sym is ∙ none) (λ fit. (there p (length (memory_in k).versions) fit).listed)

@@ -10,12 +10,14 @@ use Rattle.sender.specs.declared.event.LiveEvent.TheVariants.{Guest}
 use Rattle.sender.specs.declared.event.LiveReply.{LiveReply}
 use Rattle.sender.specs.declared.event.LiveReply.TheVariants as live
 use Rattle.sender.specs.declared.mig_error.MigError.{MigError}
-use Rattle.vmig_c.specs.Plain.{ArePlain}
+use Rattle.c_machine.specs.Plain.{ArePlain}
 use Rattle.vmig_c.specs.Refused.{IsSameSent, RefusedTellsNothing}
-use Rattle.vmig_c.specs.Status.{live_status, status_of}
-use Rattle.vmig_c.specs.Told.{IsServed, live_number, number_of}
+use Rattle.vmig_c.specs.SendStatus.{live_status}
+use Rattle.c_machine.specs.Status.{status_of}
+use Rattle.vmig_c.specs.Told.{IsServed, live_number}
+use Rattle.c_machine.specs.Status.{number_of}
 use Rattle.vmig_c.specs.Kept.{Still, Moving, Arriving, Lent}
-use Rattle.vmig_c.proofs.Plain.{refused_quiet}
+use Rattle.c_machine.proofs.Plain.{refused_quiet}
 
 pub no_number : (reply : Reply) (before : ℕ) → 1 ≤ status_of reply → status_of reply < 64 → number_of reply before ≡ before
 no_number (Value v) before some few = absurd (omega (arith, some))

@@ -27,8 +27,8 @@ use Rattle.sender.specs.declared.phase.Phase.TheVariants as phases
 use Rattle.vmig_c.specs.Kept.{State, Still, Moving}
 use Rattle.vmig_c.specs.Mirror.{is_closed}
 use Rattle.vmig_c.specs.Resetting.{AreDone, IsDone, has_input, reset_of, resets_from, shapes_of}
-use Rattle.vmig_c.specs.Status.{status_of}
-use Rattle.vmig_c.specs.Told.{number_of}
+use Rattle.c_machine.specs.Status.{status_of}
+use Rattle.c_machine.specs.Status.{number_of}
 
 -- Of a device that is there a write of a register is done, and so is a drop, where something can be put in.
 out_done : (out : Option ℕ) → status_of (out_reply out) ≡ 0

@@ -12,8 +12,8 @@ use Rattle.wire.specs.Sinks.{SinkState, over_writer}
 use Rattle.wire.specs.Stream.{whole}
 use Rattle.receiver.specs.Disks.{sizes_of}
 use Rattle.vmig_c.specs.Moving.{HasSaved, IsKept, Saves}
-use Rattle.vmig_c.specs.Plain.{ArePlain, mem_state}
-use Rattle.vmig_c.proofs.Plain.{plain_at, are_honest}
+use Rattle.c_machine.specs.Plain.{ArePlain, mem_state}
+use Rattle.c_machine.proofs.Plain.{plain_at, are_honest}
 
 -- No disk in memory fails as it is read.
 same_marks : (m : Seen) (result : Result (Unit {0}) MigError) → ArePlain m → IfErr result (λ e. IsNamed m e) → marks_after (all_marks m) result ≡ all_marks m

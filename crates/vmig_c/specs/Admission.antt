@@ -11,8 +11,8 @@ use Rattle.receiver.specs.declared.recv_error.RecvError.TheVariants.{AlreadyFail
 use Rattle.vmig_c.specs.AdmissionSeen.{AdmissionSeen, Granted, Pending, Denied}
 use Rattle.vmig_c.specs.Announced.{IsRefusedAt}
 use Rattle.vmig_c.specs.Awaited.{stream_status}
-use Rattle.vmig_c.specs.Images.{sectors_in}
-use Rattle.vmig_c.specs.Status.{stream_mismatch, stream_too_large}
+use Rattle.c_machine.specs.Images.{sectors_in}
+use Rattle.c_machine.specs.Status.{stream_mismatch, stream_too_large}
 use Rattle.vmig_c.specs.declared.admission.Limits.{Limits}
 
 -- A machine of these pages and devices has no more pages, and no more sectors in all its disks together.

@@ -6,9 +6,9 @@ use Rattle.receiver.specs.declared.ram_terms.RamTerms.{RamTerms}
 use Rattle.receiver.specs.declared.recv_error.RecvError.{RecvError}
 use Rattle.receiver.specs.declared.recv_error.RecvError.TheVariants.{NoMemory}
 use Rattle.vmig_c.specs.Awaited.{stream_status}
-use Rattle.vmig_c.specs.Described.{message_of, nothing_told, with_shapes}
-use Rattle.vmig_c.specs.Status.{done, more, no_memory}
-use Rattle.vmig_c.specs.declared.description.Description.{Description}
+use Rattle.c_machine.specs.Description.{message_of, nothing_told, with_shapes}
+use Rattle.c_machine.specs.Status.{done, more, no_memory}
+use Rattle.c_machine.specs.declared.description.Description.{Description}
 
 -- The bytes begin with no whole header, and with no fault of one.
 pub record IsAwaited (bytes : List ℕ) (status : ℕ) : Type 0 where
@@ -27,7 +27,7 @@ pub record IsRefusedAt (status_for : RecvError → ℕ) (bytes : List ℕ) (stat
   pub status_is : status ≡ status_for error
   pub why : TellsHead error ((ram : RamTerms) (sizes : List ℕ) → (at : ℕ) × IsHeaderFault ram sizes bytes error at)
 
--- The pages and the devices of the machine that arrives are told, and the size of a buffer that is enough for its steps.
+-- The pages and the devices of the machine that arrives are returned, and the size of a buffer that is enough for its steps.
 pub record IsAnnounced (bytes : List ℕ) (status : ℕ) (told : Description) : Type 0 where
   pub opening : Opening
   pub rest : List ℕ

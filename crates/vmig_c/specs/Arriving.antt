@@ -1,4 +1,4 @@
--- The arrival of a machine behind a handle, call by call.
+-- The arrival of a machine of a handle, call by call.
 use Rattle.std.specs.Prelude.{◌≡◌, ◌⊎◌, ℕ, ◌+◌, ◌-◌, ◌^◌, ◌==◌, ◌||◌, if◌then◌else◌, min, Bool, true, false, List, length, Option, Some, None}
 use Rattle.machine.specs.Seen.{Seen}
 use Rattle.receiver.specs.declared.recv_error.RecvError.{RecvError}
@@ -8,7 +8,7 @@ use Rattle.vmig_c.specs.AdmissionSeen.{AdmissionSeen, Denied}
 use Rattle.vmig_c.specs.ArrivalSeen.{ArrivalSeen}
 use Rattle.vmig_c.specs.Awaited.{HasArrived, HasSameDisks, IsClosed, IsFed, TellsEnd, TellsOf, TellsWhole, stream_status}
 use Rattle.vmig_c.specs.OnHandle.{Refuses, Unless}
-use Rattle.vmig_c.specs.Status.{done, in_use, no_machine, whole}
+use Rattle.c_machine.specs.Status.{done, in_use, no_machine, whole}
 use Rattle.vmig_c.specs.Kept.{KeptSeen, State, Still, Moving, Arriving, Lent}
 
 -- The status of a piece that was taken, by whether the stream has ended with it.
@@ -88,10 +88,6 @@ Ends r status (Arriving next) = HasNotFinished r status next
 Ends r status (Moving l) = ⊥
 Ends r status (Lent x) = ⊥
 
-abbrev pub is_arriving : State → Bool
-is_arriving (Arriving r) = true
-is_arriving _ = false
-
 abbrev pub FinishesState : State → ℕ → State → Type 0
 FinishesState (Arriving r) status next = Ends r status next
 FinishesState _ status next = ⊥
@@ -123,7 +119,7 @@ pub record DoesFinish (k : KeptSeen) (status : ℕ) (after : Option KeptSeen) : 
   pub is_next : after ≡ Some (record k { state = next; admission = admission })
   pub does : FinishesKept k.admission k.state status admission next
 
--- A call to finish the arrival of the machine behind a handle.
+-- A call to finish the arrival of the machine of a handle.
 abbrev pub Finished : Option KeptSeen → ℕ → Option KeptSeen → Type 0
 Finished None status after = (status ≡ no_machine) × (after ≡ None)
 Finished (Some k) status after = DoesFinish k status after

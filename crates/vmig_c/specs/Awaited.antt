@@ -14,11 +14,14 @@ use Rattle.receiver.specs.declared.recv_error.RecvError.TheVariants.{NoMemory, D
 use Rattle.wire.specs.Stream.{IsStream}
 use Rattle.vmig_c.specs.ArrivalSeen.{ArrivalSeen, AtHead, AtBody, Refused, Over}
 use Rattle.vmig_c.specs.Headed.{AreFitting, HasHeader, HasNoHeader}
-use Rattle.vmig_c.specs.Plain.{ArePlain}
+use Rattle.c_machine.specs.Plain.{ArePlain}
+use Rattle.vmig_c.specs.declared.arrival.Arrived.{Arrived}
+use Rattle.vmig_c.specs.declared.arrival.Arrived.TheVariants as arrived
 use Rattle.vmig_c.specs.declared.arrival.Progress.{Progress}
 use Rattle.vmig_c.specs.declared.arrival.Progress.TheVariants.{Head, Body, Failed}
+use Rattle.vmig_c.specs.declared.arrival.Progress.TheVariants as progress
 
--- What is told of RAM: the address at which it will begin, and the length of the RAM that is handed in, if one is.
+-- The terms of RAM: the address at which it will begin, and the length of the RAM that is handed in, if one is.
 abbrev pub terms_for : ℕ → Option Memory → RamTerms
 terms_for base None = ram_at base
 terms_for base (Some ram) = given_at base ram.bytes
@@ -28,7 +31,7 @@ abbrev pub place_for : Option Memory → Option Ptr
 place_for None = None
 place_for (Some ram) = ram.place
 
--- Nothing was fed, and this was told of RAM.
+-- Nothing was fed, and these are the terms of RAM.
 abbrev pub nothing_fed : RamTerms → Option Ptr → ArrivalSeen
 nothing_fed ram place = AtHead ram place []
 
@@ -40,7 +43,17 @@ refused_for_good = Refused
 abbrev pub awaited_by : Progress → ArrivalSeen
 awaited_by (Head base ram held) = AtHead (terms_for base ram) (place_for ram) held.items
 awaited_by (Body r) = AtBody r
+awaited_by (progress.Over r) = Over r
 awaited_by Failed = Refused
+
+-- The machine that has arrived, and whether its disks are images of the caller.
+abbrev pub arrived_by : Arrived → Seen
+arrived_by (arrived.Own m) = m
+arrived_by (arrived.Mapped m) = m
+
+abbrev pub are_images : Arrived → Bool
+are_images (arrived.Own m) = false
+are_images (arrived.Mapped m) = true
 
 -- The header is incomplete.
 abbrev pub IsAtHead : ArrivalSeen → Type 0
@@ -70,7 +83,7 @@ awaited_base (AtBody r) = r.ram.base
 awaited_base Refused = 0
 awaited_base (Over r) = r.ram.base
 
--- What was told of RAM: that address, and the length of the RAM that was handed in.
+-- The terms of RAM: that address, and the length of the RAM that was handed in.
 abbrev pub awaited_ram : ArrivalSeen → RamTerms
 awaited_ram (AtHead ram place held) = ram
 awaited_ram (AtBody r) = r.ram
@@ -88,7 +101,7 @@ awaited_place (Over r) = r.place
 abbrev pub AreSteady : Received → Type 0
 AreSteady r = r.marks ≡ map (λ size. no_marks) r.sizes
 
--- A receiver that was told this of RAM, over disks in memory of these sizes, was fed these bytes, and there is no fault in them.
+-- A receiver with these terms of RAM, over disks in memory of these sizes, was fed these bytes, and there is no fault in them.
 pub record IsFedTo (ram : RamTerms) (place : Option Ptr) (sizes bytes : List ℕ) (r : Received) : Type 0 where
   pub fed : HasBeenFed r bytes
   pub ram_is : r.ram ≡ ram
@@ -100,12 +113,13 @@ pub record IsFedTo (ram : RamTerms) (place : Option Ptr) (sizes bytes : List ℕ
 abbrev pub IsComing : Progress → Type 0
 IsComing (Head base ram held) = HasNoHeader held.items
 IsComing (Body r) = AreSteady r
+IsComing (progress.Over r) = AreSteady r
 IsComing Failed = Unit {0}
 
 -- The disks are images of the caller.
-abbrev pub IsOver : ArrivalSeen → Type 0
-IsOver (Over r) = Unit {0}
-IsOver a = ⊥
+abbrev pub is_over : ArrivalSeen → Bool
+is_over (Over r) = true
+is_over _ = false
 
 -- Disks of the library are of the sizes that the header says. That images are of these sizes is known once the header is whole: another
 -- header is a fault.
@@ -144,7 +158,7 @@ pub record IsFed (a : ArrivalSeen) (piece : List ℕ) (next : ArrivalSeen) : Typ
   pub ram : awaited_ram next ≡ awaited_ram a
   pub place : awaited_place next ≡ awaited_place a
 
--- There is a fault in the bytes, for what was told of RAM and disks of the sizes that the header says.
+-- There is a fault in the bytes, for these terms of RAM, and disks of the sizes that the header says.
 pub record IsFaulty (ram : RamTerms) (bytes : List ℕ) (error : RecvError) : Type 0 where
   pub sizes : List ℕ
   pub fit : AreFitting bytes sizes
@@ -156,7 +170,7 @@ abbrev pub TellsWhy : RamTerms → List ℕ → RecvError → Type 0
 TellsWhy ram bytes NoMemory = Unit {0}
 TellsWhy ram bytes error = IsFaulty ram bytes error
 
--- Why a piece is refused over images: as their receiver tells it, which was told the length of the RAM that was handed in, and never
+-- Why a piece is refused over images: as their receiver says, which knows the length of the RAM that was handed in, and never
 -- because a disk failed.
 pub record IsToldOver (r : Received) (piece : List ℕ) (error : RecvError) : Type 0 where
   pub already : r.failed ≡ true → error ≡ AlreadyFailed

@@ -1,5 +1,5 @@
--- What a handle has, as C is told.
-use Rattle.std.specs.Prelude.{◌≡◌, ℕ, ◌+◌, ◌*◌, ◌-◌, ◌^◌, nat_lt, Bool, true, false, List, [], ◌∷◌, ◌++◌, drop, length, map, max, min, replicate, if◌then◌else◌, Option, Some, None}
+-- What a handle has, as C gets it.
+use Rattle.std.specs.Prelude.{◌≡◌, ℕ, ◌+◌, ◌*◌, ◌-◌, ◌^◌, nat_lt, Bool, true, false, List, [], ◌∷◌, length, map, min, if◌then◌else◌, Option, Some, None}
 use Rattle.machine.specs.Layout.{pages_of}
 use Rattle.machine.specs.Parked.{ParkedSeen}
 use Rattle.machine.specs.Seen.{Seen, state_of}
@@ -7,7 +7,6 @@ use Rattle.machine.specs.Shapes.{made_as}
 use Rattle.machine.specs.State.{base_of}
 use Rattle.machine.specs.declared.machine.TheConstants.{DEVICES_MAX}
 use Rattle.machine.specs.declared.shape.Shape.{Shape}
-use Rattle.machine.specs.declared.shape.Shape.TheVariants.{Net, Block, Console, Entropy}
 use Rattle.sender.specs.declared.mig_error.MigError.TheVariants.{StreamFailed}
 use Rattle.sender.specs.declared.phase.Phase.{Phase}
 use Rattle.sender.specs.declared.phase.Phase.TheVariants as phases
@@ -15,18 +14,10 @@ use Rattle.vmig_c.specs.AdmissionSeen.{AdmissionSeen, Granted, Pending, Denied}
 use Rattle.vmig_c.specs.ArrivalSeen.{ArrivalSeen}
 use Rattle.vmig_c.specs.Awaited.{CountsRounds, TellsWhole, awaited_base}
 use Rattle.vmig_c.specs.Kept.{KeptSeen, LoanSeen, StillLent, MovingLent, State, Still, Moving, Arriving, Lent}
-use Rattle.vmig_c.specs.Making.{no_shape}
-use Rattle.vmig_c.specs.Status.{mig_status}
+use Rattle.c_machine.specs.Description.{message_of, nothing_told, with_shapes}
+use Rattle.vmig_c.specs.SendStatus.{mig_status}
 use Rattle.vmig_c.specs.Unmapping.{images_in}
-use Rattle.vmig_c.specs.declared.description.Description.{Description}
-use Rattle.vmig_c.specs.declared.device_shape.DeviceShape.{DeviceShape}
-
--- What a device was made as. What its kind does not need is zeros.
-abbrev pub described : Shape → DeviceShape
-described (Net mac) = record no_shape { kind = 1; mac = mac }
-described (Block sectors read_only id) = record no_shape { kind = 2; read_only = if read_only then 1 else 0; sectors = sectors; id = id }
-described Console = record no_shape { kind = 3 }
-described Entropy = record no_shape { kind = 4 }
+use Rattle.c_machine.specs.declared.description.Description.{Description}
 
 -- The states of a handle that has something. One that has nothing is 0.
 abbrev pub is_arriving : ℕ
@@ -47,46 +38,7 @@ is_send_failed = 5
 abbrev pub is_stopped : ℕ
 is_stopped = 6
 
--- Of nothing all is 0.
-abbrev pub no_shapes : List DeviceShape
-no_shapes = replicate DEVICES_MAX no_shape
-
-abbrev pub nothing_told : Description
-nothing_told = record {
-  state = 0;
-  lent = 0;
-  pages = 0;
-  count = 0;
-  base = 0;
-  flags = 0;
-  calls_out = 0;
-  rounds = 0;
-  fault = 0;
-  fault_at = 0;
-  images = 0;
-  lost = 0;
-  message = 0;
-  whole = 0;
-  reserved = replicate 4 0;
-  shapes = no_shapes;
-}
-
--- It tells of these pages and devices beside. Behind the last device the shapes are zeros.
-abbrev pub with_shapes : Description → ℕ → List Shape → Description
-with_shapes d pages shapes = record d { pages = pages; count = length shapes; shapes = map described shapes ++ drop (length shapes) d.shapes }
-
--- The most bytes that a step of such a device sends: those of a frame, or of a console's text.
-abbrev pub message_for : Shape → ℕ
-message_for (Net mac) = 1514
-message_for (Block sectors read_only id) = 0
-message_for Console = 65536
-message_for Entropy = 0
-
-abbrev pub message_of : List Shape → ℕ
-message_of [] = 0
-message_of (shape ∷ shapes) = max (message_for shape) (message_of shapes)
-
--- A machine of so many pages, whose RAM begins there, with devices that were made as these.
+-- A machine of `pages` pages, whose RAM begins at `base`, with devices that were made as these.
 abbrev pub told_machine : ℕ → ℕ → List Shape → Description
 told_machine base pages shapes = record (with_shapes nothing_told pages shapes) { state = is_idle; base = base; message = message_of shapes }
 
@@ -143,7 +95,7 @@ abbrev pub lost_bits : List Bool → ℕ
 lost_bits [] = 0
 lost_bits (b ∷ bs) = number_of b + 2 * lost_bits bs
 
--- By its state, before what is told of each: its images, and which disks were lost.
+-- By its state, without what each has: its images, and which disks were lost.
 abbrev pub IsToldState : KeptSeen → State → Description → Type 0
 IsToldState k (Still m) d = d ≡ told_still m
 IsToldState k (Moving l) d = d ≡ sent_as (told_still l.machine) l.phase
@@ -155,7 +107,7 @@ pub record IsDescribed (k : KeptSeen) (d : Description) : Type 0 where
   pub by_state : IsToldState k k.state told
   pub is : d ≡ record told { images = min (images_in k) (2 ^ 32 - 1); lost = lost_bits k.lost }
 
--- What is told of a handle.
+-- The description of a handle.
 abbrev pub Describes : Option KeptSeen → Description → Type 0
 Describes None d = d ≡ nothing_told
 Describes (Some k) d = IsDescribed k d

@@ -1,5 +1,5 @@
 -- When a driver takes what was written to a disk for durable, and what follows where the disk could not be brought to its file: the disk
--- is lost. A failed sync is for good, since the system tells it once. So each later flush of the disk fails, and a write after whose end
+-- is lost. A failed sync is for good, since the system reports it once. So each later flush of the disk fails, and a write after whose end
 -- the driver takes what was written for durable does not end.
 use Rattle.std.specs.Prelude.{◌≡◌, ℕ, ◌≤◌, ◌<◌, Bool, true, false, if◌then◌else◌, List, length, Option, Some, None, slice_get, slice_set}
 use Rattle.blk.specs.declared.durable.SyncOwed.{SyncOwed}
@@ -18,8 +18,9 @@ use Rattle.sender.specs.declared.mig_error.MigError.TheVariants.{AlreadyStopped}
 use Rattle.vmig_c.specs.Kept.{KeptSeen, State, Still, Moving, Arriving, Lent, is_lost}
 use Rattle.vmig_c.specs.Mirror.{Mirrors, is_closed}
 use Rattle.vmig_c.specs.OnHandle.{ByState, Refuses, Unless}
-use Rattle.vmig_c.specs.Plain.{ArePlain}
-use Rattle.vmig_c.specs.Status.{done, idle, lent, mig_status, no_device, no_machine, status_of}
+use Rattle.c_machine.specs.Plain.{ArePlain}
+use Rattle.c_machine.specs.Status.{done, idle, lent, no_device, no_machine, status_of}
+use Rattle.vmig_c.specs.SendStatus.{mig_status}
 
 -- What a step owes of a machine that makes steps. One that was stopped, arrives or has lent its RAM makes none.
 abbrev pub owed_for : Option DeviceState → ℕ → SyncOwed

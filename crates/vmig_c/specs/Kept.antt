@@ -7,10 +7,13 @@ use Rattle.sender.specs.LiveState.{LiveSeen}
 use Rattle.sender.specs.Parked.{LiveParkedSeen}
 use Rattle.vmig_c.specs.AdmissionSeen.{AdmissionSeen, Granted, Pending, Denied}
 use Rattle.vmig_c.specs.ArrivalSeen.{ArrivalSeen}
+use Rattle.vmig_c.specs.Awaited.{is_over}
 use Rattle.vmig_c.specs.declared.admission.Admission.{Admission}
 use Rattle.vmig_c.specs.declared.admission.Admission.TheVariants as admissions
 use Rattle.vmig_c.specs.declared.kept.Contents.{Contents}
 use Rattle.vmig_c.specs.declared.kept.Contents.TheVariants as contents
+use Rattle.vmig_c.specs.declared.kept.Held.{Held}
+use Rattle.vmig_c.specs.declared.kept.Held.TheVariants as held
 use Rattle.vmig_c.specs.declared.loan.Loan.{Loan}
 use Rattle.vmig_c.specs.declared.loan.Loan.TheVariants as loans
 
@@ -59,42 +62,32 @@ admission_of (admissions.Granted pages shapes) = Granted pages shapes.items
 admission_of (admissions.Pending limits expected held) = Pending limits expected.items held.items
 admission_of (admissions.Denied status) = Denied status
 
-abbrev pub is_loan_mapped : Loan → Bool
-is_loan_mapped (loans.Still p) = false
-is_loan_mapped (loans.Moving l) = false
-is_loan_mapped (loans.StillMapped p) = true
-is_loan_mapped (loans.MovingMapped l) = true
-
-abbrev pub loan_of : Loan → LoanSeen
+abbrev pub loan_of : {D : Type 0} → Loan D → LoanSeen
 loan_of (loans.Still p) = StillLent p
 loan_of (loans.Moving l) = MovingLent l
-loan_of (loans.StillMapped p) = StillLent p
-loan_of (loans.MovingMapped l) = MovingLent l
 
-abbrev pub are_mapped : Contents → Bool
-are_mapped (contents.Still m) = false
-are_mapped (contents.Moving l) = false
-are_mapped (contents.StillMapped m) = true
-are_mapped (contents.MovingMapped l) = true
-are_mapped (contents.Arriving r) = false
-are_mapped (contents.ArrivingMapped r) = true
-are_mapped (contents.Lent loan) = is_loan_mapped loan
-
-abbrev pub state_in : Contents → State
+-- The state of a machine over disks of any type.
+abbrev pub state_in : {D : Type 0} → Contents D → State
 state_in (contents.Still m) = Still m
 state_in (contents.Moving l) = Moving l
-state_in (contents.StillMapped m) = Still m
-state_in (contents.MovingMapped l) = Moving l
-state_in (contents.Arriving r) = Arriving r
-state_in (contents.ArrivingMapped r) = Arriving r
 state_in (contents.Lent loan) = Lent (loan_of loan)
 
-abbrev pub kept_with : Contents → AdmissionSeen → ℕ → List Bool → KeptSeen
-kept_with contents admission fed lost = record { is_mapped = are_mapped contents; state = state_in contents; admission = admission; fed = fed; lost = lost }
+abbrev pub held_state : Held → State
+held_state (held.Own c) = state_in c
+held_state (held.Mapped c) = state_in c
+held_state (held.Arriving a) = Arriving a
+
+abbrev pub are_mapped : Held → Bool
+are_mapped (held.Own c) = false
+are_mapped (held.Mapped c) = true
+are_mapped (held.Arriving a) = is_over a
+
+abbrev pub kept_with : Held → AdmissionSeen → ℕ → List Bool → KeptSeen
+kept_with held admission fed lost = record { is_mapped = are_mapped held; state = held_state held; admission = admission; fed = fed; lost = lost }
 
 -- Where no stream arrives none was asked for.
 abbrev pub unasked : AdmissionSeen
 unasked = Granted 0 []
 
-abbrev pub kept_of : Contents → KeptSeen
-kept_of contents = kept_with contents unasked 0 none_lost
+abbrev pub kept_of : Held → KeptSeen
+kept_of held = kept_with held unasked 0 none_lost

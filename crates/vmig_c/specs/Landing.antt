@@ -6,13 +6,13 @@ use Rattle.receiver.specs.declared.ram_terms.RamTerms.{RamTerms}
 use Rattle.receiver.specs.Receiving.{HasBeenFed, Received}
 use Rattle.mapped_disk.specs.declared.image.Image.{Image}
 use Rattle.vmig_c.specs.ArrivalSeen.{ArrivalSeen, Over}
-use Rattle.vmig_c.specs.Plain.{mem_state}
+use Rattle.c_machine.specs.Plain.{mem_state}
 
 -- What a disk over an image means.
 abbrev pub image_state : Image → DiskState
 image_state i = mem_state i.content
 
--- Nothing was fed, this was told of RAM, the disks hold these sectors, and RAM will lie in this place, if one is known.
+-- Nothing was fed, these are the terms of RAM, the disks hold these sectors, and RAM will lie in this place, if one is known.
 pub record IsFreshOver (ram : RamTerms) (place : Option Ptr) (sectors : List (List (List ℕ))) (r : Received) : Type 0 where
   pub fed : HasBeenFed r []
   pub ram_is : r.ram ≡ ram

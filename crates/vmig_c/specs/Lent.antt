@@ -1,6 +1,5 @@
 -- RAM that is lent to the caller, in whose memory it lies, and given back.
 use Rattle.std.specs.Prelude.{◌≡◌, ◌⊎◌, ℕ, ◌*◌, ◌==◌, not, if◌then◌else◌, Bool, true, List, length, Option, Some, None}
-use denote.RawPtr.{Ptr}
 use Rattle.region.specs.Address.{address}
 use Rattle.region.specs.Empty.{empty_slot}
 use Rattle.region.specs.Slot.{region_of}
@@ -15,14 +14,11 @@ use Rattle.sender.specs.Parked.{IsLiveParked, LiveParkedSeen, live_back}
 use Rattle.sender.specs.declared.mig_error.MigError.TheVariants.{AlreadyStopped}
 use Rattle.vmig_c.specs.Kept.{KeptSeen, LoanSeen, StillLent, MovingLent, State, Still, Moving, Arriving, Lent, parked_in}
 use Rattle.vmig_c.specs.Mirror.{is_stopped, memory_in}
-use Rattle.vmig_c.specs.Named.{are_pages, is_known_pages, named_pages, needs_list, pages_refusal}
+use Rattle.c_machine.specs.Named.{are_pages, is_known_pages, named_pages, needs_list, pages_refusal}
 use Rattle.vmig_c.specs.OnHandle.{OnHandle, Refuses, Unless}
-use Rattle.vmig_c.specs.Status.{bad_ram, done, lent, mig_status, no_machine, no_memory, not_known, not_lent, not_yours}
-use Rattle.vmig_c.specs.declared.pages.Pages.{Pages}
-
--- Where the bytes lie that a slot names.
-abbrev pub place_of : Slot → Ptr
-place_of ram = address (region_of ram)
+use Rattle.c_machine.specs.Status.{bad_ram, done, lent, no_machine, no_memory, not_known, not_lent, not_yours}
+use Rattle.vmig_c.specs.SendStatus.{mig_status}
+use Rattle.c_machine.specs.declared.pages.Pages.{Pages}
 
 -- Why no RAM is lent, apart from whose memory it lies in. The slot that it goes into has to be free.
 abbrev pub lend_refusal_in : Bool → ℕ → Option ℕ
@@ -38,7 +34,7 @@ abbrev pub IsUnlent : State → Slot → ℕ → Slot → State → ℕ → Type
 IsUnlent k ram status new_ram next reason = Refuses status new_ram ram reason × (next ≡ k)
 
 -- All of a machine that is being migrated is kept but its RAM. Its sets have an entry for each page and sector, as those of all such
--- machines behind handles.
+-- machines of handles.
 pub record IsLiveLoan (l : LiveSeen) (ram : Region) (p : LiveParkedSeen) : Type 0 where
   pub parked : IsLiveParked l ram p
   pub places : HasPlaces l
@@ -65,7 +61,7 @@ LendsIfOver k ram status new_ram next = HasLent k status new_ram next ⊎ IsNotO
 abbrev pub LendsKept : State → Slot → ℕ → Slot → State → Type 0
 LendsKept k ram status new_ram next = Unless (lend_refusal_of k (length ram.content)) (IsUnlent k ram status new_ram next) (LendsIfOver k ram status new_ram next)
 
--- The RAM of the machine behind a handle was lent.
+-- The RAM of the machine of a handle was lent.
 abbrev pub Lends : Option KeptSeen → Slot → ℕ → Slot → Option KeptSeen → Type 0
 Lends k ram status new_ram after = OnHandle (Refuses status new_ram ram) (λ old next. LendsKept old.state ram status new_ram next) k after
 
@@ -113,6 +109,6 @@ ComesBack k ram pages status new_ram next =
     let refused = IsUnlent k ram status new_ram next in
     Unless (back_refusal_of k (length ram.content) pages) refused (HasComeBack k ram (named_pages pages (lent_pages k)) status new_ram next ⊎ ((needs_list pages ≡ true) × refused no_memory))
 
--- The RAM of the machine behind a handle was given back, and these pages were named.
+-- The RAM of the machine of a handle was given back, and these pages were named.
 abbrev pub GivesBack : Option KeptSeen → Slot → Pages → ℕ → Slot → Option KeptSeen → Type 0
 GivesBack k ram pages status new_ram after = OnHandle (Refuses status new_ram ram) (λ old next. ComesBack old.state ram pages status new_ram next) k after

@@ -1,4 +1,4 @@
--- The migration of a machine behind a handle, call by call.
+-- The migration of a machine of a handle, call by call.
 use Rattle.std.specs.Prelude.{Bool, true, false, ◌≡◌, ◌==◌, ℕ, zero, suc, List, [], ◌++◌, min, length, replicate, take, drop, Option, Some, None}
 use Rattle.dirtylog.specs.Members.{member_count}
 use Rattle.machine.specs.Layout.{pages_of}
@@ -15,7 +15,8 @@ use Rattle.sender.specs.declared.mig_error.MigError.TheVariants.{AlreadyStopped,
 use Rattle.sender.specs.declared.phase.Phase.{Phase}
 use Rattle.sender.specs.declared.phase.Phase.TheVariants as phases
 use Rattle.wire.specs.Sinks.{Takes, over_writer}
-use Rattle.vmig_c.specs.Status.{done, lent, live_status, mig_status, no_machine, no_memory, round_done}
+use Rattle.c_machine.specs.Status.{done, lent, no_machine, no_memory, round_done}
+use Rattle.vmig_c.specs.SendStatus.{live_status, mig_status}
 use Rattle.vmig_c.specs.Kept.{KeptSeen, LoanSeen, StillLent, MovingLent, State, Still, Moving, Arriving, Lent}
 use Rattle.vmig_c.specs.OnHandle.{ByState, OfHandle, OfState, OnHandle, Refuses, RefusesBoth, Unless}
 use Rattle.vmig_c.specs.declared.migrating.SendLeft.{SendLeft}
@@ -86,7 +87,7 @@ abbrev pub SendsIf : Bool → (LiveSeen → Type 0) → LiveSeen → ℕ → Liv
 SendsIf true rest l status next = (status ≡ round_done) × (next ≡ l)
 SendsIf false rest l status next = SendsOne rest l status next
 
--- Due items were sent one after another, so many at most.
+-- Due items were sent one after another, at most this number.
 abbrev pub SendsUpTo : ℕ → LiveSeen → ℕ → LiveSeen → Type 0
 SendsUpTo zero l status next = (status ≡ end_status (is_none_due l)) × (next ≡ l)
 SendsUpTo (suc n) l status next = SendsIf (is_none_due l) (λ mid. SendsUpTo n mid status next) l status next
@@ -97,7 +98,7 @@ SendsSome l most status next = Unless (send_refusal l.phase) (λ reason. (status
 abbrev pub SendsKept : State → ℕ → ℕ → State → Type 0
 SendsKept k most status next = ByMigration (λ reason. status ≡ reason) (λ l after. SendsSome l most status after) k next
 
--- A round was ended, or not, as the reply says. Which round is open then a description tells.
+-- A round was ended, or not, as the reply says. A description has the round that is open then.
 pub record HasEnded (l : LiveSeen) (status : ℕ) (next : LiveSeen) : Type 0 where
   pub reply : LiveReply
   pub places : HasPlaces l
@@ -179,11 +180,11 @@ TakesKept (Arriving r) status got old_got buf new_buf (Arriving next) = RefusesB
 TakesKept (Lent x) status got old_got buf new_buf (Lent next) = TakesLent x status got old_got buf new_buf next
 TakesKept _ status got old_got buf new_buf _ = ⊥
 
--- The migration of the machine behind a handle begins.
+-- The migration of the machine of a handle begins.
 abbrev pub Begun : Option KeptSeen → ℕ → Option KeptSeen → Type 0
 Begun k status after = OnHandle (λ reason. status ≡ reason) (λ old next. BeginsKept old.state status next) k after
 
--- Items of it that are due are sent, so many at most.
+-- At most `most` items of it that are due are sent.
 abbrev pub SentSome : Option KeptSeen → ℕ → ℕ → Option KeptSeen → Type 0
 SentSome k most status after = OnHandle (λ reason. status ≡ reason) (λ old next. SendsKept old.state most status next) k after
 

@@ -13,12 +13,13 @@ use Rattle.sender.specs.LiveState.{how_many}
 use Rattle.sender.specs.declared.mig_error.MigError.TheVariants.{AlreadyStopped}
 use Rattle.sender.specs.declared.phase.Phase.{Phase}
 use Rattle.sender.specs.declared.phase.Phase.TheVariants as phases
-use Rattle.vmig_c.specs.Named.{are_pages, is_known_pages, named_pages, needs_list, pages_refusal}
+use Rattle.c_machine.specs.Named.{are_pages, is_known_pages, named_pages, needs_list, pages_refusal}
 use Rattle.vmig_c.specs.OnHandle.{OfHandle, OnHandle, Refuses, Unless}
-use Rattle.vmig_c.specs.Status.{done, lent, mig_status, no_machine, no_memory, not_known, too_small}
+use Rattle.c_machine.specs.Status.{done, lent, no_machine, no_memory, not_known, too_small}
+use Rattle.vmig_c.specs.SendStatus.{mig_status}
 use Rattle.vmig_c.specs.Told.{TellsSo}
 use Rattle.vmig_c.specs.Kept.{KeptSeen, State, Still, Moving, Arriving, Lent}
-use Rattle.vmig_c.specs.declared.pages.Pages.{Pages}
+use Rattle.c_machine.specs.declared.pages.Pages.{Pages}
 
 -- A machine that is arriving is none yet, and one whose RAM is lent has no bytes of it.
 abbrev pub is_away : State → Bool
@@ -35,7 +36,7 @@ away_status _ = no_machine
 abbrev pub no_machine_seen : Seen
 no_machine_seen = record { memory = record { bytes = []; versions = []; place = None }; devices = [] }
 
--- The machine behind a handle, whether it is being migrated or not; where its RAM is away, an empty one.
+-- The machine of a handle, whether it is being migrated or not; where its RAM is away, an empty one.
 abbrev pub machine_in : State → Seen
 machine_in (Still m) = m
 machine_in (Moving l) = l.machine
@@ -100,7 +101,7 @@ PushesKept k pages ram status seen new_seen next =
     Unless (push_refusal k pages (length ram) (length seen)) refused
     (HasPushed k (named_pages pages (length (memory_in k).versions)) ram status seen new_seen next ⊎ ((needs_list pages ≡ true) × refused no_memory))
 
--- Pages were handed in to the machine behind a handle.
+-- Pages were handed in to the machine of a handle.
 abbrev pub Pushed : Option KeptSeen → Pages → List ℕ → ℕ → List ℕ → List ℕ → Option KeptSeen → Type 0
 Pushed k pages ram status seen new_seen after = OnHandle (Refuses status new_seen seen) (λ old next. PushesKept old.state pages ram status seen new_seen next) k after
 
@@ -138,7 +139,7 @@ PullsUnless false k status ram new_ram seen new_seen count before = Pulls (memor
 abbrev pub PullsKept : State → ℕ → List ℕ → List ℕ → List ℕ → List ℕ → ℕ → ℕ → Type 0
 PullsKept k status ram new_ram seen new_seen count before = PullsUnless (is_away k) k status ram new_ram seen new_seen count before
 
--- Pages of the machine behind a handle were handed out.
+-- Pages of the machine of a handle were handed out.
 abbrev pub Pulled : Option KeptSeen → ℕ → List ℕ → List ℕ → List ℕ → List ℕ → ℕ → ℕ → Type 0
 Pulled k status ram new_ram seen new_seen count before = OfHandle (λ reason. IsUnpulled reason status ram new_ram seen new_seen count before) (λ state. PullsKept state status ram new_ram seen new_seen count before) k
 

@@ -4,8 +4,9 @@ use Rattle.machine.specs.Seen.{Seen, state_of}
 use Rattle.sender.specs.Calls.{IsSameButCalls}
 use Rattle.sender.specs.declared.mig_error.MigError.TheVariants.{AlreadyBegun}
 use Rattle.wire.specs.Stream.{whole}
-use Rattle.vmig_c.specs.Plain.{ArePlain}
-use Rattle.vmig_c.specs.Status.{done, mig_status, more, no_memory}
+use Rattle.c_machine.specs.Plain.{ArePlain}
+use Rattle.c_machine.specs.Status.{done, more, no_memory}
+use Rattle.vmig_c.specs.SendStatus.{mig_status}
 use Rattle.vmig_c.specs.Kept.{KeptSeen, State}
 use Rattle.vmig_c.specs.OnHandle.{ByState, OnHandle, RefusesBoth}
 
@@ -52,6 +53,6 @@ SavesKept k status len old_len buf new_buf next =
     let refused = RefusesBoth status len old_len new_buf buf in
     ByState refused (λ m after. Saves m status len old_len buf new_buf after) (λ l after. refused (mig_status AlreadyBegun) × (after ≡ l)) k next
 
--- The machine behind a handle was saved.
+-- The machine of a handle was saved.
 abbrev pub Saved : Option KeptSeen → ℕ → ℕ → ℕ → List ℕ → List ℕ → Option KeptSeen → Type 0
 Saved k status len old_len buf new_buf after = OnHandle (RefusesBoth status len old_len new_buf buf) (λ old next. SavesKept old.state status len old_len buf new_buf next) k after

@@ -1,4 +1,4 @@
--- Which step of the machine behind a handle has something to do, and whether the disk has to be durable before it.
+-- Which step of the machine of a handle has something to do, and whether the disk has to be durable before it.
 use Rattle.std.specs.Prelude.{◌≡◌, ℕ, Bool, true, false, List, Option, Some, None, slice_get, slice_index_or, if◌then◌else◌}
 use Rattle.blk.specs.declared.durable.SyncOwed.{SyncOwed}
 use Rattle.blk.specs.declared.durable.SyncOwed.TheVariants.{Nothing, Flush, EndOfWrite}
@@ -11,7 +11,8 @@ use Rattle.vmig_c.specs.Durable.{owed_for}
 use Rattle.vmig_c.specs.Kept.{KeptSeen}
 use Rattle.vmig_c.specs.Mirror.{is_closed}
 use Rattle.vmig_c.specs.OnHandle.{OfState, RefusesBoth}
-use Rattle.vmig_c.specs.Status.{idle, mig_status, no_machine, sync, work}
+use Rattle.c_machine.specs.Status.{idle, no_machine, sync, work}
+use Rattle.vmig_c.specs.SendStatus.{mig_status}
 
 -- A step makes a flush, or ends a write after which the driver takes what was written for durable: what was written has to be durable
 -- before. Of a disk that is lost nothing is asked for any more.

@@ -1,9 +1,9 @@
--- What a call does to a handle, and what it tells of one.
+-- What a call does to a handle, and what it returns of one.
 use Rattle.std.specs.Prelude.{◌≡◌, ℕ, Option, Some, None}
 use Rattle.machine.specs.Seen.{Seen}
 use Rattle.sender.specs.LiveState.{LiveSeen}
 use Rattle.vmig_c.specs.Kept.{KeptSeen, State, Still, Moving, Arriving, Lent}
-use Rattle.vmig_c.specs.Status.{lent, no_machine}
+use Rattle.c_machine.specs.Status.{lent, no_machine}
 
 -- A call that is refused has a status that says why, and what it would change is as it was: one thing, or two.
 abbrev pub Refuses : {A : Type 0} → ℕ → A → A → ℕ → Type 0
@@ -38,7 +38,7 @@ abbrev pub OnHandle : (ℕ → Type 0) → (KeptSeen → State → Type 0) → O
 OnHandle refused does None after = refused no_machine × (after ≡ None)
 OnHandle refused does (Some k) after = OnKept does k after
 
--- What a call tells of a handle, and leaves as it is.
+-- What a call returns of a handle that it leaves as it is.
 abbrev pub OfHandle : (ℕ → Type 0) → (State → Type 0) → Option KeptSeen → Type 0
 OfHandle refused tells None = refused no_machine
 OfHandle refused tells (Some k) = tells k.state

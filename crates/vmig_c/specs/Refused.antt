@@ -4,11 +4,11 @@ use Rattle.std.specs.Prelude.{◌≡◌, ◌≤◌, ◌<◌, ℕ}
 use Rattle.machine.specs.Seen.{state_of}
 use Rattle.machine.specs.declared.event.Event.{Event}
 use Rattle.sender.specs.LiveState.{LiveSeen, now}
-use Rattle.vmig_c.specs.Plain.{ArePlain}
+use Rattle.c_machine.specs.Plain.{ArePlain}
 use Rattle.vmig_c.specs.Told.{Tells}
 use Rattle.vmig_c.specs.Kept.{State, Still, Moving, Arriving, Lent}
 
--- The disks of the machine behind a handle lie in memory.
+-- The disks of the machine of a handle lie in memory.
 abbrev pub ArePlainIn : State → Type 0
 ArePlainIn (Still m) = ArePlain m
 ArePlainIn (Moving l) = ArePlain l.machine

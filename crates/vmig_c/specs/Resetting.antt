@@ -11,10 +11,11 @@ use Rattle.sender.specs.declared.mig_error.MigError.TheVariants.{AlreadyStopped}
 use Rattle.vmig_c.specs.Kept.{KeptSeen, State, Still, Moving}
 use Rattle.vmig_c.specs.Mirror.{is_closed}
 use Rattle.vmig_c.specs.OnHandle.{ByState, OnHandle}
-use Rattle.vmig_c.specs.Status.{done, mig_status}
+use Rattle.c_machine.specs.Status.{done}
+use Rattle.vmig_c.specs.SendStatus.{mig_status}
 use Rattle.vmig_c.specs.Told.{Tells}
 
--- An event was applied and done. Whatever number it has is not told.
+-- An event was applied and done. Its number, if it has one, is not returned.
 pub record IsDone (k : State) (e : Event) (next : State) : Type 0 where
   pub number : ℕ
   pub tells : Tells k e done number 0 next
@@ -55,6 +56,6 @@ ResetsLive false l status next = (status ≡ done) × AreDone (Moving l) (resets
 abbrev pub ResetsKept : State → ℕ → State → Type 0
 ResetsKept k status next = ByState (λ reason. status ≡ reason) (λ m after. ResetsStill m status after) (λ l after. ResetsLive (is_closed l.phase) l status after) k next
 
--- The guest of the machine behind a handle reboots.
+-- The guest of the machine of a handle reboots.
 abbrev pub Resets : Option KeptSeen → ℕ → Option KeptSeen → Type 0
 Resets k status after = OnHandle (λ reason. status ≡ reason) (λ old next. ResetsKept old.state status next) k after

@@ -10,7 +10,7 @@ use Rattle.machine.specs.declared.kind.Kind.TheVariants.{Network, Block, Console
 use Rattle.machine.specs.declared.reply.Refusal.TheVariants.{WrongKind}
 use Rattle.vmig_c.specs.Kept.{KeptSeen, State}
 use Rattle.vmig_c.specs.OnHandle.{OfHandle, OfState, Refuses}
-use Rattle.vmig_c.specs.Status.{done, no_device}
+use Rattle.c_machine.specs.Status.{done, no_device}
 use Rattle.std.specs.Prelude.{slice_get}
 
 -- As many bytes as there is room for in a pool or in a console's input; of a network device, as many frames. A disk takes nothing.

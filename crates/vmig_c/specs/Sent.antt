@@ -70,7 +70,7 @@ abbrev pub LentTakingsStaySent : Type 0
 LentTakingsStaySent = (m : MachineState) (h : History) (taken buf new_buf : List ℕ) (status got : ℕ) (before : Region) (p next : LiveParkedSeen) → IsSentLent m h taken before p → has_fault h ≡ false
     → HasTakenLent p status got buf new_buf next → IsSentLent m h (taken ++ take got new_buf) before next
 
--- The history goes on by these events of the guest, and nothing is written meanwhile.
+-- These events of the guest are added to the history, and nothing is written meanwhile.
 pub record GoesOnSent (m : MachineState) (h : History) (taken : List ℕ) (events : List Event) (next : LiveSeen) : Type 0 where
   pub history : History
   pub is_sent : IsSent m history taken next
@@ -82,7 +82,7 @@ abbrev pub lent_base : LiveParkedSeen → ℕ
 lent_base p = base_of (map (λ d. d.state) p.parked.devices)
 
 -- RAM that is given back by a caller that keeps its word is as if the guest had written the named pages by calls of the machine: so
--- the history goes on by these writes.
+-- these writes are added to the history.
 abbrev pub LentComesBackSent : Type 0
 LentComesBackSent = (m : MachineState) (h : History) (taken : List ℕ) (before after : Region) (pages : List ℕ) (p : LiveParkedSeen) → IsSentLent m h taken before p → KeepsWord before after (length p.parked.versions) pages
     → GoesOnSent m h taken (page_writes (lent_base p) pages after.content) (live_back p (given_back after.content (address after) p.parked.versions pages) pages)

@@ -9,10 +9,10 @@ use Rattle.receiver.specs.Receiving.{Received}
 use Rattle.vmig_c.specs.ArrivalSeen.{ArrivalSeen, Over}
 use Rattle.vmig_c.specs.Awaited.{awaited_sizes}
 use Rattle.vmig_c.specs.Kept.{KeptSeen, State, Still, Moving, Arriving, Lent, parked_in}
-use Rattle.vmig_c.specs.Mapping.{contents, counts}
-use Rattle.vmig_c.specs.Named.{are_zeros}
+use Rattle.c_machine.specs.Mapping.{contents, counts}
+use Rattle.c_machine.specs.Named.{are_zeros}
 use Rattle.vmig_c.specs.OnHandle.{RefusesBoth, Unless}
-use Rattle.vmig_c.specs.Status.{bad_images, done, lent, no_machine, too_small}
+use Rattle.c_machine.specs.Status.{bad_images, done, lent, no_machine, too_small}
 
 -- The sectors of the devices that have a disk, in their order.
 abbrev pub disk_if : Option ℕ → List Sector → List (List Sector)

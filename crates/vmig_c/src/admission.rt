@@ -10,8 +10,9 @@ ghost use Rattle.vmig_c.specs.Admission.{AdmitsAt, are_expected, are_same_shapes
 ghost use Rattle.vmig_c.specs.AdmissionSeen as seen;
 ghost use Rattle.vmig_c.specs.Kept.{admission_of};
 
-use crate::images::count_in;
-use crate::status::{STREAM_FAILED, STREAM_MISMATCH, STREAM_TOO_LARGE, stream_status};
+use crate::status::stream_status;
+use c_machine::count_in;
+use c_machine::status::{STREAM_FAILED, STREAM_MISMATCH, STREAM_TOO_LARGE};
 use guestmem::PAGE_SIZE;
 use machine::{Shape, is_base};
 use receiver::{RecvError, read_heading};

@@ -5,8 +5,9 @@
 ghost use Rattle.std.specs.Prelude.{◌≡◌};
 ghost use Rattle.vmig_c.specs.Announced.{Announces, heading_status};
 
-use crate::description::{Description, message_of};
-use crate::status::{DONE, MORE, NO_MEMORY, stream_status};
+use crate::status::stream_status;
+use c_machine::status::{DONE, MORE, NO_MEMORY};
+use c_machine::{Description, message_of};
 use receiver::{RecvError, read_heading};
 use std::alloc::Global;
 

@@ -1,18 +1,24 @@
-//! A machine whose stream arrives in pieces.
+//! A machine whose stream arrives in pieces, over disks of the library or over images of the caller.
 //!
-//! `Receiver` wants disks at first. So the first bytes wait, at most 496 of them, the longest header, and so does the RAM that was handed
-//! in. The rest of a piece is fed as the caller's slice.
+//! `Receiver` wants disks at first. So where they are the library's the first bytes wait, at most 496 of them, the longest header, and so does
+//! the RAM that was handed in. The rest of a piece is fed as the caller's slice.
+//!
+//! Images are held in each stage: a refused end gives them back (`Receiver::finish_or_back`), as a refused piece does, so a status loses no
+//! image. They then hold some of the stream's sectors: the receiver writes each as it comes. That they are of other sizes than the stream's
+//! disks is reported at the header's end, by the receiver (36). That no sector is written before is tested, and no clause says it: of a piece
+//! that is refused `feed` promises the sizes and the marks of the disks, and nothing of their sectors.
 
-ghost use Rattle.std.specs.Prelude.{◌≡◌, ◌++◌, ◌≤◌, [], IfErr, IfOk, length};
+ghost use Rattle.std.specs.Prelude.{◌≡◌, ◌++◌, ◌≤◌, [], IfErr, IfOk, false, length};
 ghost use Rattle.machine.specs.Shapes.{disk_sizes};
 ghost use Rattle.receiver.specs.Calls.{IsNew};
 ghost use Rattle.vmig_c.specs.ArrivalSeen.{AtBody};
-ghost use Rattle.vmig_c.specs.Awaited.{AreSteady, GoesOnWith, IsComing, IsFed, IsFedTo, TellsOf, TellsWhy, awaited_by, awaited_place, awaited_ram, place_for, terms_for};
+ghost use Rattle.vmig_c.specs.Awaited.{AreSteady, GoesOnWith, IsComing, IsFed, IsFedTo, TellsOf, TellsWhy, awaited_by, awaited_place, awaited_ram, is_over, place_for, terms_for};
 ghost use Rattle.vmig_c.specs.Headed.{AreFitting, HasNoHeader};
 
-use crate::making::zero_disks;
+use c_machine::zero_disks;
 use guestmem::Ram;
 use machine::{DEVICES_MAX, Disk, Machine, MemDisk, Shape};
+use mapped_disk::MappedDisk;
 use receiver::{Receiver, RecvError, read_heading};
 use std::alloc::Global;
 use std::marker::Model;
@@ -34,14 +40,25 @@ pub enum Progress {
     /// The header was read, and the disks are of its sizes.
     Body(Receiver<MemDisk>),
 
+    /// The disks are images of the caller, in each stage, also after a refusal.
+    Over(Receiver<MappedDisk>),
+
     /// The stream was refused.
     Failed,
 }
 
-/// A machine whose stream arrives in pieces. Its disks lie in memory, and are made as soon as the header says their sizes.
+/// A machine that has arrived, by where its disks lie.
+pub enum Arrived {
+    /// In memory of the library.
+    Own(Machine<MemDisk>),
+
+    /// In memory of the caller.
+    Mapped(Machine<MappedDisk>),
+}
+
+/// A machine whose stream arrives in pieces.
 #[derive(Drop)]
 pub struct Arrival {
-    alloc: Global,
     progress: Progress,
 }
 
@@ -58,35 +75,51 @@ impl Model for Arrival {
 }
 
 impl Arrival {
-    ghost use Rattle.std.specs.Prelude.{◌≡◌, IfErr, IfOk};
-    ghost use Rattle.vmig_c.specs.Awaited.{CountsRounds, HasArrived, HasSameDisks, IsAtHead, IsClosed, IsFed, TellsEnd, TellsOf, TellsWhole, awaited_base, nothing_fed, place_for, refused_for_good, terms_for};
+    ghost use Rattle.std.specs.Prelude.{◌≡◌, IfErr, IfOk, MatchOption, false, length, true};
+    ghost use Rattle.vmig_c.specs.Awaited.{CountsRounds, HasArrived, HasSameDisks, IsAtHead, IsClosed, IsFed, TellsEnd, TellsOf, TellsWhole, arrived_by, are_images, awaited_base, awaited_sizes, is_over, nothing_fed, place_for, refused_for_good, terms_for};
+    ghost use Rattle.vmig_c.specs.Landing.{AreDisksOf, IsAwaitedAt};
+    ghost use Rattle.c_machine.specs.Mapping.{contents};
 
-    /// An arrival that was fed nothing yet, of a machine whose RAM will begin at the address `base`: this RAM, or one in memory of the
-    /// library. It takes no memory.
+    /// An arrival over disks of the library that was fed nothing yet, of a machine whose RAM will begin at the address `base`: this RAM, or
+    /// one in memory of the library. It takes no memory.
     #[tactic(auto, using(crate::proofs::Awaited::empty_head))]
     pub(crate) fn new(alloc: Global, base: u64, ram: Option<Ram>) -> Arrival
         ensures { result ≡ nothing_fed (terms_for base ram) (place_for ram) }
     {
         Arrival {
-            alloc,
             progress: Progress::Head(base, ram, Vec::new(alloc)),
         }
     }
 
+    /// As above, over these images.
+    pub(crate) fn over(
+        alloc: Global,
+        base: u64,
+        disks: Vec<MappedDisk>,
+        ram: Option<Ram>,
+    ) -> Arrival
+        ensures awaited { IsAwaitedAt (terms_for base ram) (place_for ram) (contents disks.items) result }
+        ensures images { is_over result ≡ true }
+    {
+        Arrival {
+            progress: Progress::Over(new_receiver(alloc, base, disks, ram)),
+        }
+    }
+
     /// The arrival of a stream that was refused. It takes no memory.
-    pub(crate) fn failed(alloc: Global) -> Arrival
+    pub(crate) fn failed() -> Arrival
         ensures { result ≡ refused_for_good }
     {
         Arrival {
-            alloc,
             progress: Progress::Failed,
         }
     }
 
-    /// Takes the next piece. A receiver takes it where it lies.
-    pub(crate) fn feed(&mut self, piece: &[u8]) -> Result<(), RecvError>
+    /// Takes the next piece. A receiver takes it where it lies; good sectors go to the disks as they come.
+    pub(crate) fn feed(&mut self, alloc: Global, piece: &[u8]) -> Result<(), RecvError>
         ensures fed { IfOk result (λ x. IsFed self.old piece.now self.new) }
         ensures refused { IfErr result (λ e. TellsOf self.old piece.now e × IsClosed self.old self.new) }
+        ensures disks { is_over self.new ≡ is_over self.old }
     {
         match &mut self.progress {
             Progress::Body(receiver) => match receiver.feed(piece) {
@@ -96,23 +129,25 @@ impl Arrival {
                     Err(error)
                 }
             },
-            Progress::Head(..) => self.feed_head(piece),
+            Progress::Over(receiver) => receiver.feed(piece),
+            Progress::Head(..) => self.feed_head(alloc, piece),
             Progress::Failed => Err(RecvError::AlreadyFailed),
         }
     }
 
-    /// Takes the next piece while the header is incomplete. It stands apart, so that a piece behind the header pays nothing for it.
+    /// Takes the next piece while the header is incomplete. It is a function of its own, so that a piece after the header costs nothing more.
     #[inline(never)]
-    fn feed_head(&mut self, piece: &[u8]) -> Result<(), RecvError>
+    fn feed_head(&mut self, alloc: Global, piece: &[u8]) -> Result<(), RecvError>
         requires { IsAtHead self.old }
         ensures fed { IfOk result (λ x. IsFed self.old piece.now self.new) }
         ensures refused { IfErr result (λ e. TellsOf self.old piece.now e × IsClosed self.old self.new) }
+        ensures disks { is_over self.new ≡ false }
     {
         let Progress::Head(base, ram, held) = mem::replace(&mut self.progress, Progress::Failed)
         else {
             unreachable!()
         };
-        match take_head(self.alloc, base, ram, held, piece) {
+        match take_head(alloc, base, ram, held, piece) {
             Ok(progress) => {
                 self.progress = progress;
                 Ok(())
@@ -122,57 +157,95 @@ impl Arrival {
     }
 
     /// The number of rounds that ended in the bytes fed so far.
-    #[tactic(auto, using(crate::proofs::Awaited::body_counts))]
+    #[tactic(auto, using(crate::proofs::Awaited::body_counts, crate::proofs::Awaited::over_counts))]
     pub(crate) fn rounds(&self) -> u32
         ensures { CountsRounds self.now result }
     {
         match &self.progress {
             Progress::Body(receiver) => receiver.rounds(),
+            Progress::Over(receiver) => receiver.rounds(),
             Progress::Head(..) | Progress::Failed => 0,
         }
     }
 
     /// Whether the bytes fed so far are a whole stream.
-    #[tactic(auto, using(crate::proofs::Awaited::body_whole))]
+    #[tactic(auto, using(crate::proofs::Awaited::body_whole, crate::proofs::Awaited::over_whole))]
     pub(crate) fn is_whole(&self) -> bool
         ensures { TellsWhole self.now result }
     {
         match &self.progress {
             Progress::Body(receiver) => receiver.is_whole(),
+            Progress::Over(receiver) => receiver.is_whole(),
             Progress::Head(..) | Progress::Failed => false,
         }
     }
 
-    /// The guest-physical address at which RAM will begin; 0 after a refusal.
+    /// The guest-physical address at which RAM will begin; 0 after a refusal, but over images.
     pub(crate) fn base(&self) -> u64
         ensures { result ≡ awaited_base self.now }
     {
         match &self.progress {
             Progress::Head(base, ..) => *base,
             Progress::Body(receiver) => receiver.base(),
+            Progress::Over(receiver) => receiver.base(),
             Progress::Failed => 0,
         }
     }
 
-    /// The machine whose stream was fed.
-    pub(crate) fn finish(self) -> Result<Machine<MemDisk>, RecvError>
-        ensures arrived { IfOk result (λ m. HasArrived self m) }
-        ensures refused { IfErr result (λ e. TellsEnd self e × IsClosed self refused_for_good) }
-        ensures none { HasSameDisks self refused_for_good }
+    /// The machine whose stream was fed. A refusal gives back what holds the images, which are as they were.
+    pub(crate) fn finish(self) -> Result<Arrived, (RecvError, Arrival)>
+        ensures arrived { IfOk result (λ m. HasArrived self (arrived_by m)) }
+        ensures home { IfOk result (λ m. are_images m ≡ is_over self) }
+        ensures refused { IfErr result (λ x. TellsEnd self x.0 × IsClosed self x.1) }
+        ensures same { IfErr result (λ x. HasSameDisks self x.1) }
+        ensures disks { IfErr result (λ x. is_over x.1 ≡ is_over self) }
     {
-        let Arrival { alloc: _, progress } = self;
+        let Arrival { progress } = self;
         match progress {
-            Progress::Head(..) => Err(RecvError::Truncated),
-            Progress::Body(receiver) => receiver.finish(),
-            Progress::Failed => Err(RecvError::AlreadyFailed),
+            Progress::Head(..) => Err((RecvError::Truncated, Arrival::failed())),
+            Progress::Body(receiver) => match receiver.finish() {
+                Ok(machine) => Ok(Arrived::Own(machine)),
+                Err(error) => Err((error, Arrival::failed())),
+            },
+            Progress::Over(receiver) => match receiver.finish_or_back() {
+                Ok(machine) => Ok(Arrived::Mapped(machine)),
+                Err((error, receiver)) => {
+                    let progress = Progress::Over(receiver);
+                    Err((error, Arrival { progress }))
+                }
+            },
+            Progress::Failed => Err((RecvError::AlreadyFailed, Arrival::failed())),
+        }
+    }
+
+    /// How many images it holds.
+    pub(crate) fn image_count(&self) -> usize
+        ensures over { is_over self.now ≡ true → result ≡ length (awaited_sizes self.now) }
+        ensures own { is_over self.now ≡ false → result ≡ 0 }
+    {
+        match &self.progress {
+            Progress::Over(receiver) => receiver.disk_count(),
+            _ => 0,
+        }
+    }
+
+    /// The disks over the images, if it holds any.
+    pub(crate) fn into_images(self) -> Option<Vec<MappedDisk>>
+        ensures disks { MatchOption result (is_over self ≡ false) (λ disks. AreDisksOf self (contents disks.items) × (length disks.items ≡ length (awaited_sizes self))) }
+    {
+        let Arrival { progress } = self;
+        match progress {
+            Progress::Over(receiver) => Some(receiver.into_disks()),
+            _ => None,
         }
     }
 }
 
-/// Takes the rest of a piece behind the header.
+/// Takes the rest of a piece after the header.
 fn take_body(receiver: Receiver<MemDisk>, piece: &[u8]) -> Result<Progress, RecvError>
     requires { AreSteady receiver }
     ensures coming { IfOk result (λ next. IsComing next) }
+    ensures own { IfOk result (λ next. is_over (awaited_by next) ≡ false) }
     ensures fed { IfOk result (λ next. IsFed (AtBody receiver) piece.now (awaited_by next)) }
     ensures refused { IfErr result (λ e. TellsOf (AtBody receiver) piece.now e) }
 {
@@ -193,6 +266,7 @@ fn take_head(
     piece: &[u8],
 ) -> Result<Progress, RecvError>
     ensures coming { IfOk result (λ next. IsComing next) }
+    ensures own { IfOk result (λ next. is_over (awaited_by next) ≡ false) }
     ensures ram { IfOk result (λ next. awaited_ram (awaited_by next) ≡ terms_for base ram) }
     ensures place { IfOk result (λ next. awaited_place (awaited_by next) ≡ place_for ram) }
     ensures goes_on { IfOk result (λ next. GoesOnWith (held.items ++ piece.now) (awaited_by next)) }
@@ -216,7 +290,7 @@ fn take_head(
     }
 }
 
-/// Goes on behind bytes that begin with no header, if nothing is wrong with them. More of the piece is left only where something is, since
+/// Continues after bytes that begin with no header, if they have no fault. More of the piece is left only where they have one, since
 /// as many bytes would hold a header.
 fn go_on_headless(
     alloc: Global,
@@ -228,6 +302,7 @@ fn go_on_headless(
     requires none { HasNoHeader held.items }
     requires all { length held.items ≤ 495 → rest.now ≡ [] }
     ensures coming { IfOk result (λ next. IsComing next) }
+    ensures own { IfOk result (λ next. is_over (awaited_by next) ≡ false) }
     ensures ram { IfOk result (λ next. awaited_ram (awaited_by next) ≡ terms_for base ram) }
     ensures place { IfOk result (λ next. awaited_place (awaited_by next) ≡ place_for ram) }
     ensures goes_on { IfOk result (λ next. GoesOnWith (held.items ++ rest.now) (awaited_by next)) }

@@ -1,32 +1,27 @@
 //! Machines are made in a handle: with what RAM and which disks, the setup says.
 //!
 //! Where a machine over images is refused memory, the images are as they were, as every refusal leaves what it could have
-//! changed. All memory is taken before the first disk is moved, and the box behind the handle is there before an image is
+//! changed. All memory is taken before the first disk is moved, and the box of the handle is there before an image is
 //! taken. Contracts see a `MappedDisk` as its image, with the pointer, so what comes back is known to be what was taken.
 
-ghost use Rattle.std.specs.Prelude.{◌≡◌, IfErr, IfOk, None, Some, length, map};
-ghost use Rattle.machine.specs.First.{dealt_marks, made_machine, marks_in};
-ghost use Rattle.machine.specs.Seen.{all_marks, state_of};
-ghost use Rattle.machine.specs.Sound.{IsSound};
-ghost use Rattle.vmig_c.specs.Made.{AreOwnDisks, IsMachineOf, IsUntaken, Makes, fit_contents, first_place, first_ram, has_bytes, has_ram, ram_left, setup_refusal_of};
-ghost use Rattle.vmig_c.specs.Mapping.{AreTaken};
+ghost use Rattle.std.specs.Prelude.{◌≡◌, IfErr, IfOk, None};
+ghost use Rattle.vmig_c.specs.Made.{IsMachineOf, Makes};
+ghost use Rattle.c_machine.specs.Made.{IsUntaken, has_ram, ram_left, setup_refusal_of};
+ghost use Rattle.c_machine.specs.Mapping.{AreTaken};
 
+use crate::arrival::Arrival;
 use crate::handle::Handle;
-use crate::images::image_disks;
-use crate::kept::{Contents, Kept};
-use crate::making::{shapes_of, zero_disks, zeroed_machine};
-use crate::mapping::{give_back, mapped_disks};
-use crate::over_ram::{filled, machine_over_region, put_back, stand_in, taken_ram};
-use crate::setup::{Setup, is_none, setup_refusal};
-use crate::status::{DONE, IN_USE, NO_MEMORY};
+use crate::kept::{Contents, Held, Kept};
+use c_machine::status::{DONE, IN_USE, NO_MEMORY};
+use c_machine::{
+    Setup, give_back, is_none, machine_on, mapped_disks, own_disks, setup_refusal, shapes_of,
+};
 use guestmem::NoMemory;
-use machine::{Disk, Machine, MemDisk, Shape};
-use region::Slot;
 use std::alloc::Global;
 use std::mem;
 
 /// Makes the machine.
-#[tactic(auto, using(crate::proofs::Makings::used, crate::proofs::Makings::refused, crate::proofs::Makings::full, crate::proofs::Makings::done))]
+#[tactic(auto, using(crate::proofs::Filling::used, crate::proofs::Filling::refused, crate::proofs::Filling::full, crate::proofs::Filling::done))]
 pub(crate) fn make(alloc: Global, setup: &mut Setup, machine: &mut Handle) -> u32
     ensures made { Makes machine.old.machine setup.old result setup.new machine.new.machine }
     ensures rest { setup.new ≡ record setup.old { images = setup.new.images; ram = setup.new.ram } }
@@ -46,7 +41,7 @@ pub(crate) fn make(alloc: Global, setup: &mut Setup, machine: &mut Handle) -> u3
 }
 
 /// The machine in a box. All was tested, so it fails only if it is out of memory: then slot and images are as they were.
-#[tactic(auto, using(crate::proofs::MadeOf::fits))]
+#[tactic(auto, using(c_machine::proofs::MadeOf::fits))]
 fn made(alloc: Global, setup: &mut Setup) -> Result<Box<Kept>, NoMemory>
     requires { setup_refusal_of setup.old ≡ None }
     ensures made { IfOk result (λ k. IsMachineOf setup.old k.value) }
@@ -62,13 +57,16 @@ fn made(alloc: Global, setup: &mut Setup) -> Result<Box<Kept>, NoMemory>
     if is_none(setup.images) {
         let disks = own_disks(alloc, &shapes, setup.contents)?;
         return match machine_on(alloc, base, pages, &mut setup.ram, &shapes, disks) {
-            Ok(machine) => Ok(filled(boxed, Kept::new(alloc, Contents::Still(machine)))),
+            Ok(machine) => Ok(filled(boxed, Kept::new(alloc, Held::Own(Contents::Still(machine))))),
             Err(_disks) => Err(NoMemory),
         };
     }
     let disks = mapped_disks(alloc, setup.images)?;
     match machine_on(alloc, base, pages, &mut setup.ram, &shapes, disks) {
-        Ok(machine) => Ok(filled(boxed, Kept::new(alloc, Contents::StillMapped(machine)))),
+        Ok(machine) => Ok(filled(
+            boxed,
+            Kept::new(alloc, Held::Mapped(Contents::Still(machine))),
+        )),
         Err(disks) => {
             give_back(disks, setup.images);
             Err(NoMemory)
@@ -76,50 +74,17 @@ fn made(alloc: Global, setup: &mut Setup) -> Result<Box<Kept>, NoMemory>
     }
 }
 
-/// Disks in memory of the library: they hold the contents, one after another, or zeros where there are none.
-#[tactic(auto, using(crate::proofs::MadeOf::own_zeros, crate::proofs::MadeOf::own_contents))]
-fn own_disks(alloc: Global, shapes: &[Shape], contents: &[u8]) -> Result<Vec<MemDisk>, NoMemory>
-    requires { fit_contents contents.now shapes.now }
-    ensures { IfOk result (λ disks. AreOwnDisks contents.now shapes.now disks.items) }
-{
-    if contents.is_empty() {
-        let disks = zero_disks(alloc, shapes)?;
-        return Ok(disks);
-    }
-    let disks = image_disks(alloc, shapes, contents)?;
-    Ok(disks)
+/// A box in which the contents of a handle will lie.
+pub(crate) fn stand_in(alloc: Global) -> Result<Box<Kept>, NoMemory> {
+    let boxed = Box::new(alloc, Kept::new(alloc, Held::Arriving(Arrival::failed())))?;
+    Ok(boxed)
 }
 
-/// A machine of these devices and disks, whose RAM is the memory in the slot, which is taken; or zeros, where there is none. Where memory is
-/// refused, the slot is as it was, and the disks come back.
-#[tactic(auto, using(crate::proofs::MadeOf::no_ram, crate::proofs::MadeOf::over_ram, crate::proofs::MadeOf::no_place, crate::proofs::MadeOf::over_place, crate::proofs::MadeOf::none_left, crate::proofs::MadeOf::all_left, crate::proofs::MadeOf::back_again))]
-fn machine_on<D: Disk + Drop>(
-    alloc: Global,
-    base: u64,
-    pages: u32,
-    ram: &mut Slot,
-    shapes: &[Shape],
-    disks: Vec<D>,
-) -> Result<Machine<D>, Vec<D>>
-    ensures made { IfOk result (λ m. state_of m ≡ made_machine base (first_ram pages ram.old) shapes.now (map (λ d. map Some (D.state d).sectors) disks.items)) }
-    ensures place { IfOk result (λ m. m.memory.place ≡ first_place ram.old) }
-    ensures marks { IfOk result (λ m. all_marks m ≡ dealt_marks shapes.now (map (λ d. marks_in (D.state d)) disks.items)) }
-    ensures sound { IfOk result (λ m. IsSound (state_of m)) }
-    ensures ram { IfOk result (λ m. ram.new ≡ ram_left (has_bytes ram.old) ram.old) }
-    ensures disks { IfErr result (λ back. back.items ≡ disks.items) }
-    ensures same { IfErr result (λ back. ram.new ≡ ram.old) }
+/// The box with these contents.
+pub(crate) fn filled(boxed: Box<Kept>, kept: Kept) -> Box<Kept>
+    ensures { result.value ≡ kept }
 {
-    if ram.is_none() {
-        return match zeroed_machine(alloc, base, pages, shapes, disks) {
-            Ok(machine) => Ok(machine),
-            Err(disks) => Err(disks),
-        };
-    }
-    match machine_over_region(alloc, base, taken_ram(ram), shapes, disks) {
-        Ok(machine) => Ok(machine),
-        Err((disks, region)) => {
-            put_back(region, ram);
-            Err(disks)
-        }
-    }
+    let mut boxed = boxed;
+    *boxed = kept;
+    boxed
 }

@@ -5,15 +5,15 @@
 
 ghost use Rattle.std.specs.Prelude.{◌≡◌, ◌≤◌, length};
 ghost use Rattle.machine.specs.declared.machine.TheConstants.{DEVICES_MAX};
-ghost use Rattle.vmig_c.specs.Described.{IsDescribed, lost_bits, number_of, sent_as, told_arriving, told_coming, told_failed, told_head, told_lent, told_machine, told_still};
+ghost use Rattle.vmig_c.specs.Described.{IsDescribed, IsToldState, lost_bits, number_of, sent_as, told_arriving, told_coming, told_failed, told_head, told_lent, told_machine, told_still};
 ghost use Rattle.vmig_c.specs.Kept.{admission_of, loan_of};
 
 use crate::admission::Admission;
-use crate::description::{Description, message_of};
-use crate::kept::{Contents, Kept};
+use crate::kept::{Kept, by_state};
 use crate::loan::Loan;
-use crate::status::SEND_FAILED;
 use crate::unmapping::image_count;
+use c_machine::status::SEND_FAILED;
+use c_machine::{Description, message_of};
 use guestmem::PAGE_SIZE;
 use machine::{DEVICES_MAX, Disk, Machine, Shape};
 use sender::Phase;
@@ -34,30 +34,28 @@ const IS_STOPPED: u32 = 6;
 pub(crate) fn describe(kept: &Kept) -> Description
     ensures { IsDescribed kept.now result }
 {
-    let mut told = match &kept.contents {
-        Contents::Still(machine) => told_still(machine),
-        Contents::StillMapped(machine) => told_still(machine),
-        Contents::Moving(live) => sent_as(told_still(live.machine()), live.phase()),
-        Contents::MovingMapped(live) => sent_as(told_still(live.machine()), live.phase()),
-        Contents::Lent(loan) => told_lent(loan),
-        Contents::Arriving(arrival) => told_arriving(
+    let mut told = told(kept);
+    told.images = image_count(&kept.held).min(u32::MAX as usize) as u32;
+    told.lost = lost_bits(kept.lost());
+    told
+}
+
+/// As above, but for its images and the disks that were lost.
+fn told(kept: &Kept) -> Description
+    ensures { IsToldState kept.now kept.now.state result }
+{
+    by_state!(&kept.held;
+        still(machine) => told_still(machine),
+        moving(live) => sent_as(told_still(live.machine()), live.phase()),
+        lent(loan) => told_lent(loan),
+        arriving(arrival) => told_arriving(
             &kept.admission,
             kept.fed,
             arrival.base(),
             arrival.rounds(),
             arrival.is_whole(),
         ),
-        Contents::ArrivingMapped(landing) => told_arriving(
-            &kept.admission,
-            kept.fed,
-            landing.base(),
-            landing.rounds(),
-            landing.is_whole(),
-        ),
-    };
-    told.images = image_count(&kept.contents).min(u32::MAX as usize) as u32;
-    told.lost = lost_bits(kept.lost());
-    told
+    )
 }
 
 /// Describes a machine that is not being sent.
@@ -100,11 +98,12 @@ fn sent_as(told: Description, phase: Phase) -> Description
 }
 
 /// As above, where its RAM is lent.
-#[tactic(auto, using(crate::proofs::ToldShapes::lent_still, crate::proofs::ToldShapes::lent_moving))]
-fn told_lent(loan: &Loan) -> Description
+#[tactic(auto, using(crate::proofs::ToldStates::lent_still, crate::proofs::ToldStates::lent_moving))]
+fn told_lent<D: Disk>(loan: &Loan<D>) -> Description
     ensures { result ≡ told_lent (loan_of loan.now) }
 {
-    let mut told = told_machine(loan.base(), loan.pages() as u32, loan.shapes());
+    let parked = loan.parked();
+    let mut told = told_machine(parked.base(), parked.pages() as u32, parked.shapes());
     told.lent = 1;
     match loan.phase() {
         Some(phase) => sent_as(told, phase),
@@ -166,7 +165,7 @@ fn told_coming(told: Description, base: u64, rounds: u32, whole: bool) -> Descri
 }
 
 /// Bit d for device d, whose disk was lost.
-#[tactic(auto, using(crate::proofs::ToldShapes::one_bit, crate::proofs::ToldShapes::no_bit))]
+#[tactic(auto, using(crate::proofs::ToldStates::one_bit, crate::proofs::ToldStates::no_bit))]
 fn lost_bits(lost: &[bool]) -> u32
     requires { length lost.now ≤ DEVICES_MAX }
     ensures { result ≡ lost_bits lost.now }

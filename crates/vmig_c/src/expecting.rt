@@ -5,26 +5,27 @@
 //! after a refusal. Without images the disks are made in memory of the library, as soon as the header says their sizes.
 
 ghost use Rattle.std.specs.Prelude.{◌≡◌, [], IfErr, IfOk, None};
-ghost use Rattle.vmig_c.specs.Expected.{Expects, IsArrivalOf, IsUntaken, arrival_refusal_of, has_ram, limits_of, terms_of};
-ghost use Rattle.vmig_c.specs.Made.{ram_left};
-ghost use Rattle.vmig_c.specs.Mapping.{AreTaken};
+ghost use Rattle.vmig_c.specs.Expected.{Expects, IsArrivalOf, IsGiven, IsNoneOrRam, limits_of, terms_of};
+ghost use Rattle.c_machine.specs.Expected.{IsUntaken, arrival_refusal_of, has_ram};
+ghost use Rattle.c_machine.specs.Made.{has_bytes, ram_left};
+ghost use Rattle.c_machine.specs.Mapping.{AreTaken};
 
 use crate::admission::{Admission, Limits};
 use crate::arrival::Arrival;
+use crate::creating::{filled, stand_in};
 use crate::handle::Handle;
-use crate::kept::{Contents, Kept};
-use crate::landing::Landing;
-use crate::making::shapes_of;
-use crate::mapping::{give_back, mapped_disks};
-use crate::over_ram::{filled, ram_from, stand_in};
-use crate::setup::{Expected, arrival_refusal, is_none};
-use crate::status::{DONE, IN_USE, NO_MEMORY};
-use guestmem::{NoMemory, PAGES_MAX};
+use crate::kept::{Held, Kept};
+use c_machine::status::{DONE, IN_USE, NO_MEMORY};
+use c_machine::{
+    Expected, arrival_refusal, give_back, is_none, mapped_disks, put_back, shapes_of, taken_ram,
+};
+use guestmem::{NoMemory, PAGES_MAX, Ram};
+use region::Slot;
 use std::alloc::Global;
 use std::mem;
 
 /// Takes what the struct names, and waits for the machine.
-#[tactic(auto, using(crate::proofs::Makings::arrival_used, crate::proofs::Makings::arrival_refused, crate::proofs::Makings::arrival_full, crate::proofs::Makings::arrival_done))]
+#[tactic(auto, using(crate::proofs::Filling::used, crate::proofs::Filling::refused, crate::proofs::Filling::full, crate::proofs::Filling::done))]
 pub(crate) fn arrive(alloc: Global, arrival: &mut Expected, machine: &mut Handle) -> u32
     ensures expected { Expects machine.old.machine arrival.old result arrival.new machine.new.machine }
     ensures rest { arrival.new ≡ record arrival.old { images = arrival.new.images; ram = arrival.new.ram } }
@@ -59,17 +60,37 @@ pub(crate) fn awaited(alloc: Global, expected: &mut Expected) -> Result<Box<Kept
     let base = expected.base;
     if is_none(expected.images) {
         let ram = ram_from(alloc, &mut expected.ram)?;
-        let arrival = Contents::Arriving(Arrival::new(alloc, base, ram));
+        let arrival = Held::Arriving(Arrival::new(alloc, base, ram));
         return Ok(filled(boxed, Kept::within(alloc, arrival, admission)));
     }
     let disks = mapped_disks(alloc, expected.images)?;
     match ram_from(alloc, &mut expected.ram) {
         Ok(ram) => {
-            let landing = Contents::ArrivingMapped(Landing::new(alloc, base, disks, ram));
-            Ok(filled(boxed, Kept::within(alloc, landing, admission)))
+            let arrival = Held::Arriving(Arrival::over(alloc, base, disks, ram));
+            Ok(filled(boxed, Kept::within(alloc, arrival, admission)))
         }
         Err(_) => {
             give_back(disks, expected.images);
+            Err(NoMemory)
+        }
+    }
+}
+
+/// The RAM of a machine that will arrive: in the memory of the slot, which is taken; or none, where there is none. Its only error is out of
+/// memory: then the slot is as it was.
+fn ram_from(alloc: Global, ram: &mut Slot) -> Result<Option<Ram>, NoMemory>
+    requires { IsNoneOrRam ram.old }
+    ensures given { IfOk result (λ given. IsGiven ram.old given) }
+    ensures left { IfOk result (λ given. ram.new ≡ ram_left (has_bytes ram.old) ram.old) }
+    ensures same { IfErr result (λ e. ram.new ≡ ram.old) }
+{
+    if ram.is_none() {
+        return Ok(None);
+    }
+    match Ram::over(alloc, taken_ram(ram)) {
+        Ok(memory) => Ok(Some(memory)),
+        Err((_, region)) => {
+            put_back(region, ram);
             Err(NoMemory)
         }
     }

@@ -4,20 +4,19 @@
 //! second handle for a machine whose RAM is lent would allocate memory at each loan, so a call at each exit of a guest could
 //! run out of memory; and the proofs over raw pointers would be needed twice.
 //!
-//! In whose memory the disks are is a type below the contents: machines over `MemDisk` and machines over `MappedDisk` are kept
-//! apart. What is seen of a machine has the sectors of its disks, and not where they lie, so with one type for both a
-//! `vmig_release` that gave no image back would meet its clause.
+//! In whose memory the disks are is a type: `Contents` is a machine over disks of one type, so each of its states is written once, and `Held`
+//! says which disks they are. What is seen of a machine has the sectors of its disks, and not where they lie, so with one type for both a
+//! `vmig_release` that gave no image back would meet its clause. What arrives is beside them: it has no disks before its header is whole.
 //!
-//! `by_state` has the states once: a call names two or three answers in place of seven cases. A generic type for the states
-//! below a choice of disks would make each call two functions, with a contract of its own for the inner one.
+//! `by_state` has the states once: a call names two or three answers in place of seven cases. It is a macro, and no function of a generic type
+//! that each call would have beside its own, with a contract that says the same.
 
 ghost use Rattle.vmig_c.specs.Kept.{admission_of, kept_of};
 
 use crate::admission::Admission;
 use crate::arrival::Arrival;
-use crate::landing::Landing;
 use crate::loan::Loan;
-use machine::{DEVICES_MAX, Machine, MemDisk};
+use machine::{DEVICES_MAX, Disk, Machine, MemDisk};
 use mapped_disk::MappedDisk;
 use sender::LiveWaiting;
 use std::alloc::Global;
@@ -26,67 +25,98 @@ use std::marker::Model;
 /// A machine that is being migrated, and the bytes written for it and not taken yet.
 pub(crate) type Moving<D> = LiveWaiting<D>;
 
-/// A machine that is not being migrated, or one that is migrated while it runs, over disks in memory of the library or of the
-/// caller; one that arrives; or one whose RAM is lent. The bytes written for a migration wait until C takes them.
+/// A machine over disks of one type, in its state.
 #[derive(Drop)]
-pub enum Contents {
+pub enum Contents<D: Disk> {
     /// It is not being migrated: no stream is written.
-    Still(Machine<MemDisk>),
+    Still(Machine<D>),
 
-    /// It is being migrated.
-    Moving(Moving<MemDisk>),
-
-    /// It is not being migrated, and its disks are the caller's memory.
-    StillMapped(Machine<MappedDisk>),
-
-    /// It is being migrated, and its disks are the caller's memory.
-    MovingMapped(Moving<MappedDisk>),
-
-    /// It arrives: it is no machine yet. Its disks will lie in memory of the library.
-    Arriving(Arrival),
-
-    /// It arrives, or was refused, over disks in the caller's memory.
-    ArrivingMapped(Landing),
+    /// It is being migrated while it runs. The bytes written for it wait until C takes them.
+    Moving(Moving<D>),
 
     /// Its RAM is lent to the caller.
-    Lent(Loan),
+    Lent(Loan<D>),
 }
 
-/// What a call answers in each state of the contents of a handle: of a machine that is not being migrated, and of one that is, whether its
-/// disks lie in memory of the library or of the caller; of one whose RAM is lent, which is a status if nothing else is said; and where
-/// one arrives, which is none yet.
-macro_rules! by_state {
-    ($contents:expr; still($machine:pat) => $still:expr, moving($live:pat) => $moving:expr $(,)?) => {
-        $crate::kept::by_state!($contents; still($machine) => $still, moving($live) => $moving, lent(_) => $crate::status::LENT)
+/// A machine, by where its disks lie, or one that arrives.
+#[derive(Drop)]
+pub enum Held {
+    /// Its disks lie in memory of the library.
+    Own(Contents<MemDisk>),
+
+    /// Its disks lie in memory of the caller.
+    Mapped(Contents<MappedDisk>),
+
+    /// It arrives, or was refused: it is no machine yet.
+    Arriving(Arrival),
+}
+
+/// The same for a machine over any disks; and what is done where one arrives.
+macro_rules! on_disks {
+    ($held:expr; $contents:ident => $call:expr, arriving($arrival:pat) => $arriving:expr $(,)?) => {
+        match $held {
+            $crate::kept::Held::Own($contents) => $call,
+            $crate::kept::Held::Mapped($contents) => $call,
+            $crate::kept::Held::Arriving($arrival) => $arriving,
+        }
     };
-    ($contents:expr; still($machine:pat) => $still:expr, moving($live:pat) => $moving:expr, lent($loan:pat) => $lent:expr $(,)?) => {
-        $crate::kept::by_state!($contents; still($machine) => $still, moving($live) => $moving, lent($loan) => $lent, arriving => $crate::status::NO_MACHINE)
+}
+
+/// What a call answers in each state: of a machine that is not being migrated, and of one that is, whatever its disks; of one whose RAM is
+/// lent, which is a status if nothing else is said; and where one arrives, which is none yet.
+macro_rules! by_state {
+    ($held:expr; still($machine:pat) => $still:expr, moving($live:pat) => $moving:expr $(,)?) => {
+        $crate::kept::by_state!($held; still($machine) => $still, moving($live) => $moving, lent(_) => c_machine::status::LENT)
+    };
+    ($held:expr; still($machine:pat) => $still:expr, moving($live:pat) => $moving:expr, lent($loan:pat) => $lent:expr $(,)?) => {
+        $crate::kept::by_state!($held; still($machine) => $still, moving($live) => $moving, lent($loan) => $lent, arriving(_) => c_machine::status::NO_MACHINE)
     };
     (
-        $contents:expr;
+        $held:expr;
         still($machine:pat) => $still:expr,
         moving($live:pat) => $moving:expr,
         lent($loan:pat) => $lent:expr,
-        arriving => $arriving:expr $(,)?
+        arriving($arrival:pat) => $arriving:expr $(,)?
     ) => {
-        match $contents {
-            $crate::kept::Contents::Still($machine) => $still,
-            $crate::kept::Contents::StillMapped($machine) => $still,
-            $crate::kept::Contents::Moving($live) => $moving,
-            $crate::kept::Contents::MovingMapped($live) => $moving,
-            $crate::kept::Contents::Arriving(_) | $crate::kept::Contents::ArrivingMapped(_) => $arriving,
-            $crate::kept::Contents::Lent($loan) => $lent,
+        $crate::kept::on_disks!($held;
+            contents => match contents {
+                $crate::kept::Contents::Still($machine) => $still,
+                $crate::kept::Contents::Moving($live) => $moving,
+                $crate::kept::Contents::Lent($loan) => $lent,
+            },
+            arriving($arrival) => $arriving,
+        )
+    };
+}
+
+/// The state that a machine is turned into, with a status; where one arrives it stays, and there is no machine.
+macro_rules! turned {
+    ($held:expr; $contents:ident => $call:expr) => {
+        match $held {
+            $crate::kept::Held::Own($contents) => {
+                let (next, status) = $call;
+                ($crate::kept::Held::Own(next), status)
+            }
+            $crate::kept::Held::Mapped($contents) => {
+                let (next, status) = $call;
+                ($crate::kept::Held::Mapped(next), status)
+            }
+            $crate::kept::Held::Arriving(arrival) => {
+                ($crate::kept::Held::Arriving(arrival), c_machine::status::NO_MACHINE)
+            }
         }
     };
 }
 
 pub(crate) use by_state;
+pub(crate) use on_disks;
+pub(crate) use turned;
 
 /// The contents of a handle. Contracts see which state they are in, whether the disks are the caller's memory, whether a stream is let in and
 /// how much of it was taken, and which disks were lost.
 #[derive(Drop)]
 pub struct Kept {
-    pub(crate) contents: Contents,
+    pub(crate) held: Held,
     // The bytes of the last message that a step sent: kept, so that the next one takes no memory.
     pub(crate) sent: Vec<u8>,
     // The numbers of the pages that were named last by a bitmap: kept for the same reason.
@@ -104,7 +134,7 @@ impl Model for Kept {
 
     ghost Value = { KeptSeen };
 
-    ghost view = { λ k. kept_with k.contents (admission_of k.admission) k.fed k.lost };
+    ghost view = { λ k. kept_with k.held (admission_of k.admission) k.fed k.lost };
 }
 
 impl Kept {
@@ -112,19 +142,19 @@ impl Kept {
     ghost use Rattle.machine.specs.declared.machine.TheConstants.{DEVICES_MAX};
     ghost use Rattle.vmig_c.specs.Kept.{is_lost, kept_with, none_lost};
 
-    /// Wraps the contents of a handle.
-    pub(crate) fn new(alloc: Global, contents: Contents) -> Kept
-        ensures { result ≡ kept_of contents }
+    /// Wraps a machine.
+    pub(crate) fn new(alloc: Global, held: Held) -> Kept
+        ensures { result ≡ kept_of held }
     {
-        Kept::within(alloc, contents, Admission::Granted(0, Vec::new(alloc)))
+        Kept::within(alloc, held, Admission::Granted(0, Vec::new(alloc)))
     }
 
     /// Wraps a machine that will arrive.
-    pub(crate) fn within(alloc: Global, contents: Contents, admission: Admission) -> Kept
-        ensures { result ≡ kept_with contents (admission_of admission) 0 none_lost }
+    pub(crate) fn within(alloc: Global, held: Held, admission: Admission) -> Kept
+        ensures { result ≡ kept_with held (admission_of admission) 0 none_lost }
     {
         Kept {
-            contents,
+            held,
             sent: Vec::new(alloc),
             named: Vec::new(alloc),
             admission,

@@ -2,7 +2,7 @@
 
 ghost use Rattle.vmig_c.specs.Durable.{FailedIsLost, FailedMirrors, FailedStaysPlain, RefusedFailsNothing};
 ghost use Rattle.vmig_c.specs.Mirror.{AppliedMirrors, PulledMirrors, PushedMirrors, UnseenMirrors};
-ghost use Rattle.vmig_c.specs.Plain.{PlainStays, RefusedChangesNothing};
+ghost use Rattle.c_machine.specs.Plain.{PlainStays, RefusedChangesNothing};
 ghost use Rattle.vmig_c.specs.Refused.{RefusedTellsNothing};
 ghost use Rattle.vmig_c.specs.Stepped.{RefusedStepsNothing};
 ghost use Rattle.vmig_c.specs.Sent.{ArrivedIsSent, CallsStaySent, FailuresStaySent, FirstIsSent, LentComesBackSent, LentTakingsStaySent, StoppedIsWhole, TakingsStaySent};

@@ -11,20 +11,19 @@ ghost use Rattle.std.specs.Prelude.{◌≡◌, ◌≤◌, ◌*◌, [], None, IfE
 ghost use Rattle.guestmem.specs.declared.limits.TheConstants.{PAGE_SIZE, PAGES_MAX};
 ghost use Rattle.region.specs.Empty.{empty_slot};
 ghost use Rattle.region.specs.Slot.{region_of};
-ghost use Rattle.vmig_c.specs.Kept.{are_mapped, is_loan_mapped, loan_of, parked_in, state_in};
+ghost use Rattle.vmig_c.specs.Kept.{are_mapped, held_state, loan_of, parked_in, state_in};
 ghost use Rattle.vmig_c.specs.declared.kept.Contents.TheVariants as contents;
-ghost use Rattle.vmig_c.specs.Lent.{ComesBack, HasComeBack, IsBackWith, IsLiveLoan, IsReturnable, LendsIfOver, LendsKept, back_refusal_of, lend_refusal_of, lent_pages};
-ghost use Rattle.vmig_c.specs.Named.{are_pages};
+ghost use Rattle.vmig_c.specs.Lent.{ComesBack, HasComeBack, IsBackWith, IsLiveLoan, IsReturnable, LendsIfOver, LendsKept, back_refusal_of, lend_refusal_in, lend_refusal_of, lent_pages, return_refusal_of};
+ghost use Rattle.c_machine.specs.Named.{are_pages};
 
-use crate::kept::{Contents, Kept, Moving};
+use crate::kept::{Contents, Held, Kept, Moving, by_state, turned};
 use crate::loan::{Loan, MovingLent};
 use crate::migrating::taken_out;
-use crate::mirror::is_stopped;
-use crate::over_ram::{put_back, taken_ram};
-use crate::pages::Pages;
-use crate::status::{
+use crate::mirror::has_stopped;
+use c_machine::status::{
     BAD_RAM, DONE, LENT, NO_MACHINE, NO_MEMORY, NOT_KNOWN, NOT_LENT, NOT_YOURS, STOPPED,
 };
+use c_machine::{Pages, put_back, taken_ram};
 use guestmem::{NoLog, PAGE_SIZE};
 use machine::Disk;
 use region::{Region, Slot};
@@ -32,15 +31,15 @@ use std::alloc::Global;
 use std::mem;
 
 /// Lends the RAM of a machine: it goes into the slot, which has to be free. It takes no memory.
-pub(crate) fn lend(alloc: Global, kept: &mut Kept, ram: &mut Slot) -> u32
+pub(crate) fn lend(kept: &mut Kept, ram: &mut Slot) -> u32
     ensures lends { LendsKept kept.old.state ram.old result ram.new kept.new.state }
     ensures kind { kept.new ≡ record kept.old { state = kept.new.state } }
 {
     if let Some(status) = lend_refusal(kept, ram) {
         return status;
     }
-    let (next, status) = lent(taken_out(alloc, &mut kept.contents), ram);
-    drop(mem::replace(&mut kept.contents, next));
+    let (next, status) = lent(taken_out(&mut kept.held), ram);
+    drop(mem::replace(&mut kept.held, next));
     status
 }
 
@@ -49,12 +48,20 @@ fn lend_refusal(kept: &Kept, ram: &mut Slot) -> Option<u32>
     ensures same { ram.new ≡ ram.old }
     ensures refusal { result ≡ lend_refusal_of kept.now.state (length ram.old.content) }
 {
-    match &kept.contents {
-        Contents::Arriving(_) | Contents::ArrivingMapped(_) => return Some(NO_MACHINE),
-        Contents::Lent(_) => return Some(LENT),
-        _ => {}
-    }
-    if is_stopped(kept) {
+    by_state!(&kept.held;
+        still(_) => slot_refusal(false, ram),
+        moving(live) => slot_refusal(has_stopped(live.phase()), ram),
+        lent(_) => Some(LENT),
+        arriving(_) => Some(NO_MACHINE),
+    )
+}
+
+/// Why the RAM of a machine, which was stopped or not, does not go into the slot.
+fn slot_refusal(stopped: bool, ram: &mut Slot) -> Option<u32>
+    ensures same { ram.new ≡ ram.old }
+    ensures refusal { result ≡ lend_refusal_in stopped (length ram.old.content) }
+{
+    if stopped {
         return Some(STOPPED);
     }
     if !ram.is_none() {
@@ -63,29 +70,28 @@ fn lend_refusal(kept: &Kept, ram: &mut Slot) -> Option<u32>
     None
 }
 
-fn lent(old: Contents, ram: &mut Slot) -> (Contents, u32)
-    requires { lend_refusal_of (state_in old) (length ram.old.content) ≡ None }
-    ensures lends { LendsIfOver (state_in old) ram.old result.1 ram.new (state_in result.0) }
+fn lent(old: Held, ram: &mut Slot) -> (Held, u32)
+    requires { lend_refusal_of (held_state old) (length ram.old.content) ≡ None }
+    ensures lends { LendsIfOver (held_state old) ram.old result.1 ram.new (held_state result.0) }
     ensures kind { are_mapped result.0 ≡ are_mapped old }
+{
+    turned!(old; contents => lent_in(contents, ram))
+}
+
+fn lent_in<D: Disk>(old: Contents<D>, ram: &mut Slot) -> (Contents<D>, u32)
+    requires { lend_refusal_of (state_in old) (length ram.old.content) ≡ None }
+    ensures { LendsIfOver (state_in old) ram.old result.1 ram.new (state_in result.0) }
 {
     match old {
         Contents::Still(machine) => match machine.lend() {
             Ok((region, parked)) => (lent_as(Loan::Still(parked), region, ram), DONE),
             Err(machine) => (Contents::Still(machine), NOT_YOURS),
         },
-        Contents::StillMapped(machine) => match machine.lend() {
-            Ok((region, parked)) => (lent_as(Loan::StillMapped(parked), region, ram), DONE),
-            Err(machine) => (Contents::StillMapped(machine), NOT_YOURS),
-        },
         Contents::Moving(live) => match lent_live(live) {
             Ok((region, live)) => (lent_as(Loan::Moving(live), region, ram), DONE),
             Err(live) => (Contents::Moving(live), NOT_YOURS),
         },
-        Contents::MovingMapped(live) => match lent_live(live) {
-            Ok((region, live)) => (lent_as(Loan::MovingMapped(live), region, ram), DONE),
-            Err(live) => (Contents::MovingMapped(live), NOT_YOURS),
-        },
-        contents => (contents, NO_MACHINE),
+        Contents::Lent(loan) => (Contents::Lent(loan), LENT),
     }
 }
 
@@ -97,15 +103,11 @@ fn lent_live<D: Disk>(live: Moving<D>) -> Result<(Region, MovingLent<D>), Moving
 {
     live.recall();
     live.machine().ram().recall();
-    let phase = live.phase();
-    match live.lend() {
-        Ok((region, live)) => Ok((region, MovingLent::new(live, phase))),
-        Err(live) => Err(live),
-    }
+    live.lend()
 }
 
 /// Puts the RAM into the free slot.
-fn lent_as(loan: Loan, region: Region, ram: &mut Slot) -> Contents
+fn lent_as<D: Disk>(loan: Loan<D>, region: Region, ram: &mut Slot) -> Contents<D>
     requires { ram.old.content ≡ [] }
     ensures contents { result ≡ contents.Lent loan }
     ensures ram { region_of ram.new ≡ region }
@@ -125,14 +127,14 @@ pub(crate) fn give_back(alloc: Global, kept: &mut Kept, ram: &mut Slot, pages: &
         return status;
     }
     if !pages.needs_list() {
-        come_back(alloc, kept, ram, pages.list);
+        come_back(kept, ram, pages.list);
         return DONE;
     }
     let count = pages_out(kept);
     let mut named = mem::replace(&mut kept.named, Vec::new(alloc));
     let status = match pages.collect(count, &mut named) {
         Ok(()) => {
-            come_back(alloc, kept, ram, named.as_slice());
+            come_back(kept, ram, named.as_slice());
             DONE
         }
         Err(_) => NO_MEMORY,
@@ -146,19 +148,27 @@ fn back_refusal(kept: &Kept, ram: &mut Slot, pages: &Pages) -> Option<u32>
     ensures same { ram.new ≡ ram.old }
     ensures refusal { result ≡ back_refusal_of kept.now.state (length ram.old.content) pages.now }
 {
-    match &kept.contents {
-        Contents::Arriving(_) | Contents::ArrivingMapped(_) => Some(NO_MACHINE),
-        Contents::Lent(loan) => {
-            if !pages.is_known() {
-                return Some(NOT_KNOWN);
-            }
-            if ram.len() != PAGE_SIZE * loan.pages() {
-                return Some(BAD_RAM);
-            }
-            pages.refusal(loan.pages())
-        }
-        _ => Some(NOT_LENT),
+    by_state!(&kept.held;
+        still(_) => Some(NOT_LENT),
+        moving(_) => Some(NOT_LENT),
+        lent(loan) => return_refusal(loan.parked().pages(), ram, pages),
+        arriving(_) => Some(NO_MACHINE),
+    )
+}
+
+/// Why what lies in the slot is not taken back as a RAM of `count` pages.
+fn return_refusal(count: usize, ram: &mut Slot, pages: &Pages) -> Option<u32>
+    requires { count ≤ PAGES_MAX }
+    ensures same { ram.new ≡ ram.old }
+    ensures refusal { result ≡ return_refusal_of count (length ram.old.content) pages.now }
+{
+    if !pages.is_known() {
+        return Some(NOT_KNOWN);
     }
+    if ram.len() != PAGE_SIZE * count {
+        return Some(BAD_RAM);
+    }
+    pages.refusal(count)
 }
 
 /// How many pages the RAM has that is lent.
@@ -166,26 +176,39 @@ fn pages_out(kept: &Kept) -> usize
     ensures count { result ≡ lent_pages kept.now.state }
     ensures few { result ≤ PAGES_MAX }
 {
-    match &kept.contents {
-        Contents::Lent(loan) => loan.pages(),
-        _ => 0,
-    }
+    by_state!(&kept.held;
+        still(_) => 0,
+        moving(_) => 0,
+        lent(loan) => loan.parked().pages(),
+        arriving(_) => 0,
+    )
 }
 
 /// The machine takes its RAM back.
-fn come_back(alloc: Global, kept: &mut Kept, ram: &mut Slot, pages: &[u32])
+fn come_back(kept: &mut Kept, ram: &mut Slot, pages: &[u32])
     requires { IsReturnable kept.old.state (length ram.old.content) pages.now }
     ensures back { HasComeBack kept.old.state ram.old pages.now 0 ram.new kept.new.state }
     ensures kind { kept.new ≡ record kept.old { state = kept.new.state } }
 {
-    let next = back(taken_out(alloc, &mut kept.contents), ram, pages);
-    drop(mem::replace(&mut kept.contents, next));
+    let next = back(taken_out(&mut kept.held), ram, pages);
+    drop(mem::replace(&mut kept.held, next));
 }
 
-fn back(old: Contents, ram: &mut Slot, pages: &[u32]) -> Contents
-    requires { IsReturnable (state_in old) (length ram.old.content) pages.now }
-    ensures back { HasComeBack (state_in old) ram.old pages.now 0 ram.new (state_in result) }
+fn back(old: Held, ram: &mut Slot, pages: &[u32]) -> Held
+    requires { IsReturnable (held_state old) (length ram.old.content) pages.now }
+    ensures back { HasComeBack (held_state old) ram.old pages.now 0 ram.new (held_state result) }
     ensures kind { are_mapped result ≡ are_mapped old }
+{
+    match old {
+        Held::Own(contents) => Held::Own(back_in(contents, ram, pages)),
+        Held::Mapped(contents) => Held::Mapped(back_in(contents, ram, pages)),
+        Held::Arriving(_) => unreachable!(),
+    }
+}
+
+fn back_in<D: Disk>(old: Contents<D>, ram: &mut Slot, pages: &[u32]) -> Contents<D>
+    requires { IsReturnable (state_in old) (length ram.old.content) pages.now }
+    ensures { HasComeBack (state_in old) ram.old pages.now 0 ram.new (state_in result) }
 {
     match old {
         Contents::Lent(loan) => back_from(loan, taken_ram(ram), pages),
@@ -193,18 +216,13 @@ fn back(old: Contents, ram: &mut Slot, pages: &[u32]) -> Contents
     }
 }
 
-fn back_from(loan: Loan, region: Region, pages: &[u32]) -> Contents
+fn back_from<D: Disk>(loan: Loan<D>, region: Region, pages: &[u32]) -> Contents<D>
     requires size { length region.content ≡ PAGE_SIZE * length (parked_in (loan_of loan)).versions }
     requires below { are_pages (length (parked_in (loan_of loan)).versions) pages.now ≡ true }
-    ensures back { IsBackWith (loan_of loan) region pages.now (state_in result) }
-    ensures kind { are_mapped result ≡ is_loan_mapped loan }
+    ensures { IsBackWith (loan_of loan) region pages.now (state_in result) }
 {
     match loan {
         Loan::Still(parked) => Contents::Still(parked.give_back(region, pages, &mut NoLog)),
         Loan::Moving(live) => Contents::Moving(live.give_back(region, pages)),
-        Loan::StillMapped(parked) => {
-            Contents::StillMapped(parked.give_back(region, pages, &mut NoLog))
-        }
-        Loan::MovingMapped(live) => Contents::MovingMapped(live.give_back(region, pages)),
     }
 }

@@ -1,30 +1,26 @@
 //! A machine as C sees it: `vmig.h` says the same to its reader, and what C owes.
 //!
 //! `Handle` is the one type that C holds: a pointer, null or of a machine in a box. All raw pointers are in one file, `handle`.
-//! It cannot be dropped, so a function that loses one is refused. Its contents are a machine that is idle, is being migrated, arrives,
-//! or has lent its RAM, with RAM and disks in memory of the library or of the caller (`kept`). No call moves RAM or disks.
+//! It cannot be dropped, so a function that loses one is refused. It holds a machine that is idle, is being migrated or has lent its RAM,
+//! with RAM and disks in memory of the library or of the caller, or one that arrives (`kept`). No call moves RAM or disks. The structs and
+//! the statuses of C are those of the crate below, `c_machine`.
 //!
 //! # What the layers above may rely on
-//! - Every export is an ordinary function, and its clause is the step of the machine (`specs/Told`, `specs/Stepped`), its
-//!   making (`specs/Making`, `specs/Setup`) or its stream (`specs/Moving`), by the status that it returns. The statuses are in
-//!   one table (`specs/Status`): from 1 to 63 nothing has changed, but for 20 (the writer failed) and for a stream that is
-//!   refused as it arrives. `vmig_step` is not done where what it sends might not fit.
+//! - Every export is an ordinary function, and its clause is the step of the machine (`specs/Told`, `specs/Stepped`), its making
+//!   (`specs/Made`) or its stream (`specs/Moving`), by the status that it returns. From 1 to 63 nothing has changed, but for 20 (the
+//!   writer failed) and for a stream that is refused as it arrives. `vmig_step` is not done where what it sends might not fit.
 //! - What a call does to a handle, and by the state of its machine, is said once for all (`specs/OnHandle`). On a handle without a machine
 //!   it is refused; on another it changes the state of the machine alone.
-//! - `vmig_next_work` names the next step that has something to do (`specs/NextWork`). `vmig_must_sync` says of a step whether it makes
-//!   a flush, or ends a write that the driver then takes for durable; after `vmig_sync_failed` the disk is lost for as long as the
-//!   handle has the machine: each flush of it is made as one whose disk failed, and such a write does not end (`specs/Durable`).
-//! - `vmig_saved_len` is the length of the stream that `vmig_save` makes (`specs/Measured`), without that stream.
+//! - `vmig_next` names the next step that has something to do, and says whether it makes a flush, or ends a write that the driver then
+//!   takes for durable (`specs/NextWork`). After `vmig_sync_failed` the disk is lost for as long as the handle has the machine: each flush
+//!   of it is made as one whose disk failed, and such a write does not end (`specs/Durable`).
 //! - Every call has its clause in each state: the calls of a migration those of `Live` (`specs/Migrated`), over a writer into
-//!   memory from which `vmig_take` takes; the calls of an arrival those of `Receiver` (`specs/Awaited`, `specs/Arriving`), over
+//!   memory from which `vmig_send_take` takes; the calls of an arrival those of `Receiver` (`specs/Awaited`, `specs/Arriving`), over
 //!   disks that are made as soon as the header is whole, or over images of the caller (`specs/Landing`). What arrives is no machine
-//!   for the other calls. `vmig_is_whole` says whether the bytes so far are a whole stream.
-//! - `vmig_make_as` makes the first machine as its struct says (`setup`): over RAM of zeros, or RAM in memory of the caller with the
-//!   bytes that are there; over disks of zeros, disks that hold contents, or disks in images of the caller. By what the struct names
-//!   one of the relations holds that say so (`specs/Making`, `specs/Images`, `specs/Mapping`, `specs/OverRam`); RAM and images are
-//!   taken where it is done, and nothing else is. What does not go together, and what this version does not know, is refused before.
-//! - `vmig_arrive` lets one arrive in such memory, and within limits (`specs/Expected`). `Admission` reads the header of what arrives
-//!   as it comes: no byte that completes it is let in before it was compared with the limits (`specs/Admission`).
+//!   for the other calls.
+//! - `vmig_make` makes the first machine as its struct says, of one equation (`c_machine`, `specs/Made`); `vmig_arrive` lets one arrive, within
+//!   limits (`specs/Expected`). RAM and images that the struct names are taken where it is done, and nothing else is. `Admission` reads the
+//!   header of what arrives: no byte that completes it is let in before it was compared with the limits (`specs/Admission`).
 //! - The bytes that were taken, followed by those that wait, are what a machine that is being migrated has written, from its
 //!   first call to its stop, and the machine that arrives from them is that machine: laws over these clauses (`specs/Sent`).
 //! - A caller whose guest runs on hardware keeps the guest's RAM in memory of its own (`specs/Mirror`). `vmig_push` is one
@@ -32,24 +28,19 @@
 //!   that the caller noted, or is the greatest. `Mirrors` says that each page whose noted version is the current one is the
 //!   machine's. Whatever is applied to the machine keeps a mirror; pushed pages are mirrored; and after a pull of a mirror the
 //!   caller's RAM is the machine's, byte for byte (`laws`). The caller's part is to hand in every page that its guest wrote.
-//! - `vmig_sector_read` gives a sector of a disk. Nothing but the guest writes one.
-//! - `vmig_unmap` frees a machine over images, and the slots then hold the contents of its disks, in the order of the devices, but for
-//!   bad sectors, which may hold anything (`specs/Unmapping`). It also ends an arrival over images, refused or not, and gives them
-//!   back. It refuses without a change. That an image comes back to its address is not in the clause, since a machine is not seen with
-//!   addresses; the disk has no other memory to give.
-//! - `vmig_lend` lends RAM that lies in memory of the caller to it; `vmig_give_back`, `vmig_give_back_marked` and
-//!   `vmig_give_back_all` take it back with the pages that were written, which are named by a list, a bitmap (`specs/Named`), or not at
-//!   all (`specs/Lent`). Each refuses without a change. Meanwhile the handle has all of the machine but its RAM (`loan`), and a call
-//!   that needs RAM is refused.
-//! - The machines of C have their disks in memory (`specs/Plain`): they are honest and steady, and stay so.
+//! - `vmig_release` frees what there is, and the slots then hold the contents of disks over images, in the order of the devices, but for
+//!   bad sectors, which may hold anything (`specs/Unmapping`). That an image comes back to its address is not in the clause, since a
+//!   machine is not seen with addresses; the disk has no other memory to give.
+//! - `vmig_lend` lends RAM that lies in memory of the caller to it, and `vmig_give_back` takes it back with the pages that were written
+//!   (`specs/Lent`). Meanwhile the handle has all of the machine but its RAM (`loan`), and a call that needs RAM is refused.
 //! - The caller's part is C's: pointers and counts name memory as the header says.
 //!
 //! # Why it is so
-//! - Exports call nobody back: they open no file and call no function of C. So disks lie in memory.
+//! - Exports call nobody back: they open no file and call no function of C. So disks lie in memory: they are honest and steady
+//!   (`c_machine`, `specs/Plain`).
 //! - A pointer whose count is 0 may be null, as C programmers write it. No contract says so, since a proof cannot compare a
 //!   caller's pointer with null. The module that the compiler hands to LLVM has no attribute by which a pointer is known not to
 //!   be null, and no empty slice of a caller is put into an `Option`; `tests/c/nulls.c` makes each such call.
-//! - Handles are not `const`, also where a call changes nothing: `const` would be read as leave for two threads to look at once.
 #![tactic(auto)]
 
 ghost use Rattle.std.specs.Prelude.{◌≡◌, None};
@@ -59,7 +50,7 @@ ghost use Rattle.vmig_c.specs.Arriving.{Fed, Finished};
 ghost use Rattle.vmig_c.specs.Described.{Describes};
 ghost use Rattle.vmig_c.specs.Durable.{Failed};
 ghost use Rattle.vmig_c.specs.Expected.{Expects};
-ghost use Rattle.vmig_c.specs.Images.{SectorRead};
+ghost use Rattle.vmig_c.specs.Sectors.{SectorRead};
 ghost use Rattle.vmig_c.specs.Lent.{GivesBack, Lends};
 ghost use Rattle.vmig_c.specs.Made.{Makes};
 ghost use Rattle.vmig_c.specs.Migrated.{Aborted, Begun, EndedRound, HasBeenStopped, Leaves, SentSome, Taken};
@@ -80,28 +71,19 @@ mod arrival;
 mod arriving;
 mod creating;
 mod describing;
-mod description;
-mod device_shape;
 mod expecting;
 mod handle;
-mod images;
 mod kept;
-mod landing;
 pub mod laws;
 mod lending;
 mod loan;
-mod making;
-mod mapping;
 mod migrating;
 mod mirror;
 mod moving;
-mod naming;
-mod over_ram;
-mod pages;
 mod resetting;
 mod rooms;
+mod sectors;
 mod serving;
-mod setup;
 mod status;
 mod stepping;
 mod syncing;
@@ -110,33 +92,46 @@ mod working;
 
 use announcing::announced;
 use arriving::{feed, finish};
+use c_machine::status::{DONE, NO_MACHINE};
+pub use c_machine::{Description, DeviceShape, Expected, Pages, Setup};
 use creating::make;
 use describing::describe;
-pub use description::Description;
-pub use device_shape::DeviceShape;
 use expecting::arrive;
 pub use handle::Handle;
-use images::read_sector;
 use lending::{give_back, lend};
 use mapped_disk::Image;
 pub use migrating::SendLeft;
 use migrating::{abort, begin, left as left_of, send_round, send_some, stop, take};
 use mirror::{pull, push};
 use moving::save_kept;
-pub use pages::Pages;
 use region::Slot;
 use resetting::reset;
 use rooms::room as room_in;
+use sectors::read_sector;
 use serving::{
     drop_input, input, lines, read_ram, read_register, resize, write_ram, write_register,
 };
-pub use setup::{Expected, Setup};
-use status::{DONE, NO_MACHINE};
 use std::alloc::Global;
 use stepping::step_kept;
 use syncing::lose_kept;
-use unmapping::{contents_of, release, release_refusal};
+use unmapping::{held_of, release, release_refusal};
 use working::next;
+
+/// Calls a function with what the handle holds, as its first argument, or after an allocator. A handle that holds nothing has no machine.
+macro_rules! on_kept {
+    ($handle:ident; $call:ident($($argument:expr),*)) => {{
+        if !$handle.is_made() {
+            return NO_MACHINE;
+        }
+        $call($handle.get_mut() $(, $argument)*)
+    }};
+    ($handle:ident; $alloc:ident, $call:ident($($argument:expr),*)) => {{
+        if !$handle.is_made() {
+            return NO_MACHINE;
+        }
+        $call($alloc, $handle.get_mut() $(, $argument)*)
+    }};
+}
 
 /// Version 1.0.0.
 const VERSION: u32 = 1 << 16;
@@ -183,9 +178,9 @@ pub extern "C" fn vmig_release(alloc: Global, machine: &mut Handle, slots: &mut 
     if let Some(status) = release_refusal(machine.get_mut(), slots) {
         return status;
     }
-    let contents = contents_of(alloc, machine.get_mut());
+    let held = held_of(machine.get_mut());
     drop(std::mem::replace(machine, Handle::none(alloc)).into_box());
-    release(contents, slots);
+    release(held, slots);
     DONE
 }
 
@@ -215,10 +210,7 @@ pub extern "C" fn vmig_reg_read(
 ) -> u32
     ensures { Told machine.old.machine (events.RegRead dev off width) result value.new value.old machine.new.machine }
 {
-    if !machine.is_made() {
-        return NO_MACHINE;
-    }
-    read_register(machine.get_mut(), dev, off, width, value)
+    on_kept!(machine; read_register(dev, off, width, value))
 }
 
 /// The driver writes a register. `byte` becomes the byte that comes out by it, or 256.
@@ -234,10 +226,7 @@ pub extern "C" fn vmig_reg_write(
 ) -> u32
     ensures { ToldOr NO_BYTE machine.old.machine (events.RegWrite dev off width value) result byte.new byte.old machine.new.machine }
 {
-    if !machine.is_made() {
-        return NO_MACHINE;
-    }
-    write_register(machine.get_mut(), dev, off, width, value, byte)
+    on_kept!(machine; write_register(dev, off, width, value, byte))
 }
 
 /// The interrupt lines, one bit a device.
@@ -259,10 +248,7 @@ pub extern "C" fn vmig_lines(machine: &mut Handle) -> u32
 pub extern "C" fn vmig_input(machine: &mut Handle, dev: u8, bytes: &[u8], kept: &mut usize) -> u32
     ensures { ToldOr 0 machine.old.machine (events.Input dev bytes.now) result kept.new kept.old machine.new.machine }
 {
-    if !machine.is_made() {
-        return NO_MACHINE;
-    }
-    input(machine.get_mut(), dev, bytes, kept)
+    on_kept!(machine; input(dev, bytes, kept))
 }
 
 /// How many bytes an input would keep; of a network device, how many frames.
@@ -272,10 +258,7 @@ pub extern "C" fn vmig_room(machine: &mut Handle, dev: u8, room: &mut usize) -> 
     ensures told { Rooms machine.old.machine dev result room.new room.old }
     ensures same { machine.new.machine ≡ machine.old.machine }
 {
-    if !machine.is_made() {
-        return NO_MACHINE;
-    }
-    room_in(machine.get_mut(), dev, room)
+    on_kept!(machine; room_in(dev, room))
 }
 
 /// The host sets the size of a console, in characters.
@@ -284,10 +267,7 @@ pub extern "C" fn vmig_room(machine: &mut Handle, dev: u8, room: &mut usize) -> 
 pub extern "C" fn vmig_resize(machine: &mut Handle, dev: u8, cols: u16, rows: u16) -> u32
     ensures { ToldSo machine.old.machine (events.Resize dev cols rows) result machine.new.machine }
 {
-    if !machine.is_made() {
-        return NO_MACHINE;
-    }
-    resize(machine.get_mut(), dev, cols, rows)
+    on_kept!(machine; resize(dev, cols, rows))
 }
 
 /// The host drops what it put in and the guest has not taken.
@@ -296,10 +276,7 @@ pub extern "C" fn vmig_resize(machine: &mut Handle, dev: u8, cols: u16, rows: u1
 pub extern "C" fn vmig_drop(machine: &mut Handle, dev: u8) -> u32
     ensures { ToldSo machine.old.machine (events.Drop dev) result machine.new.machine }
 {
-    if !machine.is_made() {
-        return NO_MACHINE;
-    }
-    drop_input(machine.get_mut(), dev)
+    on_kept!(machine; drop_input(dev))
 }
 
 /// The guest reboots: each device is reset in order, and what was put in is dropped. It takes no memory.
@@ -308,10 +285,7 @@ pub extern "C" fn vmig_drop(machine: &mut Handle, dev: u8) -> u32
 pub extern "C" fn vmig_reset(machine: &mut Handle) -> u32
     ensures { Resets machine.old.machine result machine.new.machine }
 {
-    if !machine.is_made() {
-        return NO_MACHINE;
-    }
-    reset(machine.get_mut())
+    on_kept!(machine; reset())
 }
 
 /// Finds a step that has something to do, the first in turn after the one that the two numbers name, and says whether the disk has to be
@@ -322,10 +296,7 @@ pub extern "C" fn vmig_next(machine: &mut Handle, dev: &mut u8, pick: &mut u8) -
     ensures told { FoundWork machine.old.machine result dev.new dev.old pick.new pick.old }
     ensures same { machine.new.machine ≡ machine.old.machine }
 {
-    if !machine.is_made() {
-        return NO_MACHINE;
-    }
-    next(machine.get_mut(), dev, pick)
+    on_kept!(machine; next(dev, pick))
 }
 
 /// A device does one piece of its work. What it sends goes to the front of the buffer; a step that may send more than the buffer holds is not
@@ -341,10 +312,7 @@ pub extern "C" fn vmig_step(
 ) -> u32
     ensures { Stepped machine.old.machine dev pick result len.new len.old buf.old buf.new machine.new.machine }
 {
-    if !machine.is_made() {
-        return NO_MACHINE;
-    }
-    step_kept(machine.get_mut(), dev, pick, buf, len)
+    on_kept!(machine; step_kept(dev, pick, buf, len))
 }
 
 /// The disk of a device could not be brought to its file, and is lost from now on. It takes no memory.
@@ -353,10 +321,7 @@ pub extern "C" fn vmig_step(
 pub extern "C" fn vmig_sync_failed(machine: &mut Handle, dev: u8) -> u32
     ensures { Failed machine.old.machine dev result machine.new.machine }
 {
-    if !machine.is_made() {
-        return NO_MACHINE;
-    }
-    lose_kept(machine.get_mut(), dev)
+    on_kept!(machine; lose_kept(dev))
 }
 
 /// Reads a sector of a disk.
@@ -370,10 +335,7 @@ pub extern "C" fn vmig_sector_read(
 ) -> u32
     ensures { SectorRead machine.old.machine dev sector result buf.old buf.new machine.new.machine }
 {
-    if !machine.is_made() {
-        return NO_MACHINE;
-    }
-    read_sector(machine.get_mut(), dev, sector, buf)
+    on_kept!(machine; read_sector(dev, sector, buf))
 }
 
 /// The guest reads RAM. It takes no memory, and reads also a machine that was stopped.
@@ -383,10 +345,7 @@ pub extern "C" fn vmig_ram_read(machine: &mut Handle, addr: u64, buf: &mut [u8])
     ensures told { Read machine.old.machine addr result buf.old buf.new }
     ensures same { machine.new.machine ≡ machine.old.machine }
 {
-    if !machine.is_made() {
-        return NO_MACHINE;
-    }
-    read_ram(machine.get_mut(), addr, buf)
+    on_kept!(machine; read_ram(addr, buf))
 }
 
 /// The guest writes RAM. It takes no memory.
@@ -395,23 +354,17 @@ pub extern "C" fn vmig_ram_read(machine: &mut Handle, addr: u64, buf: &mut [u8])
 pub extern "C" fn vmig_ram_write(machine: &mut Handle, addr: u64, bytes: &[u8]) -> u32
     ensures { ToldSo machine.old.machine (events.MemWrite addr bytes.now) result machine.new.machine }
 {
-    if !machine.is_made() {
-        return NO_MACHINE;
-    }
-    write_ram(machine.get_mut(), addr, bytes)
+    on_kept!(machine; write_ram(addr, bytes))
 }
 
 /// Lends the RAM of the machine to the caller, in whose memory it lies: it goes into the slot, which has to be free. It takes no memory,
 /// and no longer for a larger RAM.
 #[unsafe(no_mangle)]
 #[tactic(auto, using(crate::proofs::OnHandle::on_none, crate::proofs::OnHandle::on_some))]
-pub extern "C" fn vmig_lend(alloc: Global, machine: &mut Handle, ram: &mut Slot) -> u32
+pub extern "C" fn vmig_lend(machine: &mut Handle, ram: &mut Slot) -> u32
     ensures { Lends machine.old.machine ram.old result ram.new machine.new.machine }
 {
-    if !machine.is_made() {
-        return NO_MACHINE;
-    }
-    lend(alloc, machine.get_mut(), ram)
+    on_kept!(machine; lend(ram))
 }
 
 /// Gives the RAM back that lies in the slot, and in which these pages were written. For a list of pages it takes no memory, and time for these
@@ -426,10 +379,7 @@ pub extern "C" fn vmig_give_back(
 ) -> u32
     ensures { GivesBack machine.old.machine ram.old written.now result ram.new machine.new.machine }
 {
-    if !machine.is_made() {
-        return NO_MACHINE;
-    }
-    give_back(alloc, machine.get_mut(), ram, written)
+    on_kept!(machine; alloc, give_back(ram, written))
 }
 
 /// Copies the pages that are named from the caller's RAM into the machine's, and notes their versions. For a list of pages it takes no
@@ -445,10 +395,7 @@ pub extern "C" fn vmig_push(
 ) -> u32
     ensures { Pushed machine.old.machine written.now ram.now result seen.old seen.new machine.new.machine }
 {
-    if !machine.is_made() {
-        return NO_MACHINE;
-    }
-    push(alloc, machine.get_mut(), written, ram, seen)
+    on_kept!(machine; alloc, push(written, ram, seen))
 }
 
 /// Copies into the caller's RAM each page whose version is not the one that the caller noted, or is the greatest, and notes its
@@ -464,10 +411,7 @@ pub extern "C" fn vmig_pull(
     ensures told { Pulled machine.old.machine result ram.old ram.new seen.old seen.new pulled.new pulled.old }
     ensures same { machine.new.machine ≡ machine.old.machine }
 {
-    if !machine.is_made() {
-        return NO_MACHINE;
-    }
-    pull(machine.get_mut(), ram, seen, pulled)
+    on_kept!(machine; pull(ram, seen, pulled))
 }
 
 /// Begins to send the machine. The bytes written for it wait until they are taken.
@@ -476,22 +420,16 @@ pub extern "C" fn vmig_pull(
 pub extern "C" fn vmig_send_begin(alloc: Global, machine: &mut Handle) -> u32
     ensures { Begun machine.old.machine result machine.new.machine }
 {
-    if !machine.is_made() {
-        return NO_MACHINE;
-    }
-    begin(alloc, machine.get_mut())
+    on_kept!(machine; alloc, begin())
 }
 
-/// Sends items that are due, at most so many.
+/// Sends at most `most` items that are due.
 #[unsafe(no_mangle)]
 #[tactic(auto, using(crate::proofs::OnHandle::on_none, crate::proofs::OnHandle::on_some))]
 pub extern "C" fn vmig_send_some(machine: &mut Handle, most: u32) -> u32
     ensures { SentSome machine.old.machine most result machine.new.machine }
 {
-    if !machine.is_made() {
-        return NO_MACHINE;
-    }
-    send_some(machine.get_mut(), most)
+    on_kept!(machine; send_some(most))
 }
 
 /// Ends a round: what was touched since becomes due.
@@ -500,10 +438,7 @@ pub extern "C" fn vmig_send_some(machine: &mut Handle, most: u32) -> u32
 pub extern "C" fn vmig_send_round(machine: &mut Handle) -> u32
     ensures { EndedRound machine.old.machine result machine.new.machine }
 {
-    if !machine.is_made() {
-        return NO_MACHINE;
-    }
-    send_round(machine.get_mut())
+    on_kept!(machine; send_round())
 }
 
 /// Sends what is left, and closes the stream.
@@ -512,22 +447,16 @@ pub extern "C" fn vmig_send_round(machine: &mut Handle) -> u32
 pub extern "C" fn vmig_send_stop(machine: &mut Handle, pages: &mut u64, sectors: &mut u64) -> u32
     ensures { HasBeenStopped machine.old.machine result pages.new pages.old sectors.new sectors.old machine.new.machine }
 {
-    if !machine.is_made() {
-        return NO_MACHINE;
-    }
-    stop(machine.get_mut(), pages, sectors)
+    on_kept!(machine; stop(pages, sectors))
 }
 
 /// Ends the sending; the machine stays as it is.
 #[unsafe(no_mangle)]
 #[tactic(auto, using(crate::proofs::OnHandle::on_none, crate::proofs::OnHandle::on_some))]
-pub extern "C" fn vmig_send_abort(alloc: Global, machine: &mut Handle) -> u32
+pub extern "C" fn vmig_send_abort(machine: &mut Handle) -> u32
     ensures { Aborted machine.old.machine result machine.new.machine }
 {
-    if !machine.is_made() {
-        return NO_MACHINE;
-    }
-    abort(alloc, machine.get_mut())
+    on_kept!(machine; abort())
 }
 
 /// Takes the first of the bytes that wait.
@@ -536,10 +465,7 @@ pub extern "C" fn vmig_send_abort(alloc: Global, machine: &mut Handle) -> u32
 pub extern "C" fn vmig_send_take(machine: &mut Handle, buf: &mut [u8], got: &mut usize) -> u32
     ensures { Taken machine.old.machine result got.new got.old buf.old buf.new machine.new.machine }
 {
-    if !machine.is_made() {
-        return NO_MACHINE;
-    }
-    take(machine.get_mut(), buf, got)
+    on_kept!(machine; take(buf, got))
 }
 
 /// What is still to be sent. It looks at each page's place in two sets.
@@ -549,10 +475,7 @@ pub extern "C" fn vmig_send_left(machine: &mut Handle, left: &mut SendLeft) -> u
     ensures told { Leaves machine.old.machine result left.new left.old }
     ensures same { machine.new.machine ≡ machine.old.machine }
 {
-    if !machine.is_made() {
-        return NO_MACHINE;
-    }
-    left_of(machine.get_mut(), left)
+    on_kept!(machine; left_of(left))
 }
 
 /// Saves the machine into a buffer. `len` becomes the length of its stream in bytes, also if the buffer is too small for it.
@@ -566,10 +489,7 @@ pub extern "C" fn vmig_save(
 ) -> u32
     ensures { Saved machine.old.machine result len.new len.old buf.old buf.new machine.new.machine }
 {
-    if !machine.is_made() {
-        return NO_MACHINE;
-    }
-    save_kept(alloc, machine.get_mut(), buf, len)
+    on_kept!(machine; alloc, save_kept(buf, len))
 }
 
 /// A machine will arrive, in the memory and within the limits that the struct says. RAM and images that it names are taken; where it is
@@ -589,22 +509,16 @@ pub extern "C" fn vmig_arrive(alloc: Global, arrival: &mut Expected, machine: &m
 pub extern "C" fn vmig_feed(alloc: Global, machine: &mut Handle, bytes: &[u8]) -> u32
     ensures { Fed machine.old.machine bytes.now result machine.new.machine }
 {
-    if !machine.is_made() {
-        return NO_MACHINE;
-    }
-    feed(alloc, machine.get_mut(), bytes)
+    on_kept!(machine; alloc, feed(bytes))
 }
 
 /// Ends an arrival after its last piece: the handle has the machine, or its stream is refused.
 #[unsafe(no_mangle)]
 #[tactic(auto, using(crate::proofs::ArrivalCalls::finished_none, crate::proofs::ArrivalCalls::finished_some))]
-pub extern "C" fn vmig_finish(alloc: Global, machine: &mut Handle) -> u32
+pub extern "C" fn vmig_finish(machine: &mut Handle) -> u32
     ensures { Finished machine.old.machine result machine.new.machine }
 {
-    if !machine.is_made() {
-        return NO_MACHINE;
-    }
-    finish(alloc, machine.get_mut())
+    on_kept!(machine; finish())
 }
 
 /// What the machine is whose stream begins with these bytes. It takes memory for sixteen shapes, for the time of the call.

@@ -2,13 +2,13 @@
 
 ghost use Rattle.std.specs.Prelude.{◌≡◌, ◌++◌, IfErr, IfOk, drop, length, min, take};
 ghost use Rattle.vmig_c.specs.Migrated.{AbortsKept, BeginsKept, EndsKept, HasBegun, HasEnded, HasStopped, HasTaken, IsAnswered, IsLeft, LeavesKept, SendsKept, SendsSome, SendsUpTo, StopsKept, TakesKept, send_refusal};
-ghost use Rattle.vmig_c.specs.Kept.{are_mapped, state_in};
+ghost use Rattle.vmig_c.specs.Kept.{are_mapped, held_state, state_in};
 
 use crate::arrival::Arrival;
-use crate::kept::{Contents, Kept, Moving, by_state};
-use crate::status::{
-    DONE, LENT, NO_MACHINE, NO_MEMORY, NOT_SENDING, ROUND_DONE, ROUND_OPEN, SEND_FAILED, STOPPED,
-    mig_status,
+use crate::kept::{Contents, Held, Kept, Moving, by_state, turned};
+use crate::status::mig_status;
+use c_machine::status::{
+    DONE, LENT, NO_MEMORY, NOT_SENDING, ROUND_DONE, ROUND_OPEN, SEND_FAILED, STOPPED,
 };
 use machine::{Disk, Machine};
 use sender::{End, LiveWaiting, Phase, Stopped};
@@ -35,7 +35,7 @@ pub struct SendLeft {
     /// The most bytes that a stop would write.
     pub stop_bytes: u64,
 
-    /// Zeros, until a later version tells more by them.
+    /// Zeros, reserved for later versions.
     pub reserved: [u64; 3],
 }
 
@@ -44,41 +44,37 @@ pub(crate) fn begin(alloc: Global, kept: &mut Kept) -> u32
     ensures begins { BeginsKept kept.old.state result kept.new.state }
     ensures kind { kept.new ≡ record kept.old { state = kept.new.state } }
 {
-    let (next, status) = begun(alloc, taken_out(alloc, &mut kept.contents));
-    drop(mem::replace(&mut kept.contents, next));
+    let (next, status) = begun(alloc, taken_out(&mut kept.held));
+    drop(mem::replace(&mut kept.held, next));
     status
 }
 
-/// Takes the contents out while they are turned into others. The stand-in takes no memory.
-pub(crate) fn taken_out(alloc: Global, contents: &mut Contents) -> Contents
-    ensures { result ≡ contents.old }
+/// Takes what is held out while it is turned into something else. The stand-in takes no memory.
+pub(crate) fn taken_out(held: &mut Held) -> Held
+    ensures { result ≡ held.old }
 {
-    mem::replace(contents, Contents::Arriving(Arrival::new(alloc, 0, None)))
+    mem::replace(held, Held::Arriving(Arrival::failed()))
 }
 
-fn begun(alloc: Global, old: Contents) -> (Contents, u32)
-    ensures begins { BeginsKept (state_in old) result.1 (state_in result.0) }
+fn begun(alloc: Global, old: Held) -> (Held, u32)
+    ensures begins { BeginsKept (held_state old) result.1 (held_state result.0) }
     ensures kind { are_mapped result.0 ≡ are_mapped old }
+{
+    turned!(old; contents => begun_in(alloc, contents))
+}
+
+fn begun_in<D: Disk>(alloc: Global, old: Contents<D>) -> (Contents<D>, u32)
+    ensures { BeginsKept (state_in old) result.1 (state_in result.0) }
 {
     match old {
         Contents::Still(machine) => match begun_of(alloc, machine) {
             Ok(live) => (Contents::Moving(live), DONE),
             Err(machine) => (Contents::Still(machine), NO_MEMORY),
         },
-        Contents::StillMapped(machine) => match begun_of(alloc, machine) {
-            Ok(live) => (Contents::MovingMapped(live), DONE),
-            Err(machine) => (Contents::StillMapped(machine), NO_MEMORY),
-        },
         Contents::Moving(live) => {
             let (live, status) = begun_again(live);
             (Contents::Moving(live), status)
         }
-        Contents::MovingMapped(live) => {
-            let (live, status) = begun_again(live);
-            (Contents::MovingMapped(live), status)
-        }
-        Contents::Arriving(arrival) => (Contents::Arriving(arrival), NO_MACHINE),
-        Contents::ArrivingMapped(landing) => (Contents::ArrivingMapped(landing), NO_MACHINE),
         Contents::Lent(loan) => (Contents::Lent(loan), LENT),
     }
 }
@@ -115,19 +111,19 @@ fn begun_again<D: Disk>(live: Moving<D>) -> (Moving<D>, u32)
     }
 }
 
-/// Sends items that are due, at most so many.
+/// Sends at most `most` items that are due.
 #[tactic(auto, using(crate::proofs::OnHandle::by_still, crate::proofs::OnHandle::by_moving))]
 pub(crate) fn send_some(kept: &mut Kept, most: u32) -> u32
     ensures sends { SendsKept kept.old.state most result kept.new.state }
     ensures kind { kept.new ≡ record kept.old { state = kept.new.state } }
 {
-    by_state!(&mut kept.contents;
+    by_state!(&mut kept.held;
         still(_) => NOT_SENDING,
         moving(live) => some_status(live, most),
     )
 }
 
-/// Sends the least due item, at most so many times, while there is one.
+/// Sends the least due item, at most `most` times, while there is one.
 #[tactic(auto, using(crate::proofs::Migration::some_refused, crate::proofs::Migration::some_sent))]
 fn some_status<D: Disk>(live: &mut Moving<D>, most: u32) -> u32
     ensures { SendsSome live.old most result live.new }
@@ -177,7 +173,7 @@ pub(crate) fn send_round(kept: &mut Kept) -> u32
     ensures ends { EndsKept kept.old.state result kept.new.state }
     ensures kind { kept.new ≡ record kept.old { state = kept.new.state } }
 {
-    by_state!(&mut kept.contents;
+    by_state!(&mut kept.held;
         still(_) => NOT_SENDING,
         moving(live) => round_status(live),
     )
@@ -201,7 +197,7 @@ pub(crate) fn stop(kept: &mut Kept, pages: &mut u64, sectors: &mut u64) -> u32
     ensures stops { StopsKept kept.old.state result pages.new pages.old sectors.new sectors.old kept.new.state }
     ensures kind { kept.new ≡ record kept.old { state = kept.new.state } }
 {
-    by_state!(&mut kept.contents;
+    by_state!(&mut kept.held;
         still(_) => NOT_SENDING,
         moving(live) => stop_status(live, pages, sectors),
     )
@@ -228,26 +224,28 @@ fn stop_status<D: Disk>(live: &mut Moving<D>, pages: &mut u64, sectors: &mut u64
 }
 
 /// Ends the migration of a machine.
-pub(crate) fn abort(alloc: Global, kept: &mut Kept) -> u32
+pub(crate) fn abort(kept: &mut Kept) -> u32
     ensures aborts { AbortsKept kept.old.state result kept.new.state }
     ensures kind { kept.new ≡ record kept.old { state = kept.new.state } }
 {
-    let (next, status) = aborted(taken_out(alloc, &mut kept.contents));
-    drop(mem::replace(&mut kept.contents, next));
+    let (next, status) = aborted(taken_out(&mut kept.held));
+    drop(mem::replace(&mut kept.held, next));
     status
 }
 
-fn aborted(old: Contents) -> (Contents, u32)
-    ensures aborts { AbortsKept (state_in old) result.1 (state_in result.0) }
+fn aborted(old: Held) -> (Held, u32)
+    ensures aborts { AbortsKept (held_state old) result.1 (held_state result.0) }
     ensures kind { are_mapped result.0 ≡ are_mapped old }
+{
+    turned!(old; contents => aborted_in(contents))
+}
+
+fn aborted_in<D: Disk>(old: Contents<D>) -> (Contents<D>, u32)
+    ensures { AbortsKept (state_in old) result.1 (state_in result.0) }
 {
     match old {
         Contents::Still(machine) => (Contents::Still(machine), NOT_SENDING),
-        Contents::StillMapped(machine) => (Contents::StillMapped(machine), NOT_SENDING),
         Contents::Moving(live) => (Contents::Still(live.abort()), DONE),
-        Contents::MovingMapped(live) => (Contents::StillMapped(live.abort()), DONE),
-        Contents::Arriving(arrival) => (Contents::Arriving(arrival), NO_MACHINE),
-        Contents::ArrivingMapped(landing) => (Contents::ArrivingMapped(landing), NO_MACHINE),
         Contents::Lent(loan) => (Contents::Lent(loan), LENT),
     }
 }
@@ -256,7 +254,7 @@ fn aborted(old: Contents) -> (Contents, u32)
 pub(crate) fn left(kept: &Kept, left: &mut SendLeft) -> u32
     ensures { LeavesKept kept.now.state result left.new left.old }
 {
-    by_state!(&kept.contents;
+    by_state!(&kept.held;
         still(_) => NOT_SENDING,
         moving(live) => left_status(live, left),
     )
@@ -283,7 +281,7 @@ pub(crate) fn take(kept: &mut Kept, buf: &mut [u8], got: &mut usize) -> u32
     ensures takes { TakesKept kept.old.state result got.new got.old buf.old buf.new kept.new.state }
     ensures kind { kept.new ≡ record kept.old { state = kept.new.state } }
 {
-    by_state!(&mut kept.contents;
+    by_state!(&mut kept.held;
         still(_) => NOT_SENDING,
         moving(live) => take_status(live, buf, got),
         lent(loan) => loan.take(buf, got),

@@ -6,19 +6,18 @@
 //! event raises the version of a page that it does not write into: so of the pages that the caller noted, below the greatest
 //! version, a pull overwrites only those that a step wrote.
 
-ghost use Rattle.std.specs.Prelude.{◌≡◌, ◌*◌, ◌<◌, ◌≤◌, length, slice_set, slice_index, if◌then◌else◌, MatchOption, None, false, true};
+ghost use Rattle.std.specs.Prelude.{◌≡◌, ◌*◌, ◌<◌, ◌≤◌, length, slice_set, slice_index, if◌then◌else◌, IfErr, IfOk, None, false, true};
 ghost use Rattle.guestmem.specs.Memory.{IsMemory};
 ghost use Rattle.guestmem.specs.Page.{page_of};
 ghost use Rattle.guestmem.specs.Write.{put_at};
 ghost use Rattle.guestmem.specs.declared.limits.TheConstants.{PAGES_MAX};
 ghost use Rattle.vmig_c.specs.Mirror.{ArePushed, HasPulled, IsPushable, IsPushed, PullsKept, PushesKept, away_status, is_closed, is_away, is_noted, is_short, is_stopped, memory_in, push_refusal};
-ghost use Rattle.vmig_c.specs.Named.{are_pages};
-ghost use Rattle.vmig_c.specs.Status.{done};
+ghost use Rattle.c_machine.specs.Status.{done};
 ghost use Rattle.vmig_c.specs.Kept as states;
 
-use crate::kept::{Contents, Kept, Moving, by_state};
-use crate::pages::Pages;
-use crate::status::{DONE, LENT, NO_MACHINE, NO_MEMORY, NOT_KNOWN, STOPPED, TOO_SMALL};
+use crate::kept::{Kept, Moving, by_state};
+use c_machine::Pages;
+use c_machine::status::{DONE, LENT, NO_MACHINE, NO_MEMORY, NOT_KNOWN, STOPPED, TOO_SMALL};
 use guestmem::{PAGE_SIZE, Ram};
 use machine::{Disk, Machine};
 use sender::Phase;
@@ -60,7 +59,7 @@ fn push_listed(kept: &mut Kept, pages: &[u32], ram: &[u8], seen: &mut [u64]) -> 
     ensures done { result ≡ done }
     ensures kind { kept.new ≡ record kept.old { state = kept.new.state } }
 {
-    by_state!(&mut kept.contents;
+    by_state!(&mut kept.held;
         still(machine) => push_still(machine, pages, ram, seen),
         moving(live) => push_moving(live, pages, ram, seen),
     )
@@ -70,8 +69,9 @@ fn push_listed(kept: &mut Kept, pages: &[u32], ram: &[u8], seen: &mut [u64]) -> 
 fn push_refusal(kept: &Kept, pages: &Pages, bytes: usize, entries: usize) -> Option<u32>
     ensures { result ≡ push_refusal kept.now.state pages.now bytes entries }
 {
-    let Some(memory) = ram_of(kept) else {
-        return Some(away_status(kept));
+    let memory = match ram_of(kept) {
+        Ok(memory) => memory,
+        Err(status) => return Some(status),
     };
     if is_stopped(kept) {
         return Some(STOPPED);
@@ -91,19 +91,21 @@ fn pages_in(kept: &Kept) -> usize
     ensures few { result ≤ PAGES_MAX }
 {
     match ram_of(kept) {
-        Some(memory) => page_count(memory) as usize,
-        None => 0,
+        Ok(memory) => page_count(memory) as usize,
+        Err(_) => 0,
     }
 }
 
-pub(crate) fn is_stopped(kept: &Kept) -> bool
+/// Whether the machine is one whose send was stopped.
+fn is_stopped(kept: &Kept) -> bool
     ensures { result ≡ is_stopped kept.now.state }
 {
-    match &kept.contents {
-        Contents::Moving(live) => has_stopped(live.phase()),
-        Contents::MovingMapped(live) => has_stopped(live.phase()),
-        _ => false,
-    }
+    by_state!(&kept.held;
+        still(_) => false,
+        moving(live) => has_stopped(live.phase()),
+        lent(_) => false,
+        arriving(_) => false,
+    )
 }
 
 /// Whether a send was stopped.
@@ -128,37 +130,17 @@ fn page_count(memory: &Ram) -> u64
     memory.len() / PAGE_SIZE as u64
 }
 
-pub(crate) fn are_pages(count: u64, pages: &[u32]) -> bool
-    ensures { result ≡ are_pages count pages.now }
+/// The RAM of the machine, or the status that says why there is none here.
+fn ram_of(kept: &Kept) -> Result<&Ram, u32>
+    ensures here { IfOk result (λ ram. (is_away kept.now.state ≡ false) × (ram.now ≡ memory_in kept.now.state)) }
+    ensures away { IfErr result (λ status. (is_away kept.now.state ≡ true) × (status ≡ away_status kept.now.state)) }
 {
-    for n in pages {
-        if *n as u64 >= count {
-            return false;
-        }
-    }
-    true
-}
-
-/// The RAM of the machine, if there is one and it is not lent.
-pub(crate) fn ram_of(kept: &Kept) -> Option<&Ram>
-    ensures { MatchOption result (is_away kept.now.state ≡ true) (λ ram. (is_away kept.now.state ≡ false) × (ram.now ≡ memory_in kept.now.state)) }
-{
-    by_state!(&kept.contents;
-        still(machine) => Some(machine.ram()),
-        moving(live) => Some(live.machine().ram()),
-        lent(_) => None,
-        arriving => None,
+    by_state!(&kept.held;
+        still(machine) => Ok(machine.ram()),
+        moving(live) => Ok(live.machine().ram()),
+        lent(_) => Err(LENT),
+        arriving(_) => Err(NO_MACHINE),
     )
-}
-
-/// The status of a machine without RAM.
-pub(crate) fn away_status(kept: &Kept) -> u32
-    ensures { result ≡ away_status kept.now.state }
-{
-    match &kept.contents {
-        Contents::Lent(_) => LENT,
-        _ => NO_MACHINE,
-    }
 }
 
 /// Pushes pages into a machine that is not being migrated. It takes no memory.
@@ -223,8 +205,9 @@ fn push_live_page<D: Disk>(live: &mut Moving<D>, n: u32, ram: &[u8], seen: &mut 
 pub(crate) fn pull(kept: &Kept, ram: &mut [u8], seen: &mut [u64], count: &mut u32) -> u32
     ensures { PullsKept kept.now.state result ram.old ram.new seen.old seen.new count.new count.old }
 {
-    let Some(memory) = ram_of(kept) else {
-        return away_status(kept);
+    let memory = match ram_of(kept) {
+        Ok(memory) => memory,
+        Err(status) => return status,
     };
     if is_short(memory, ram.len(), seen.len()) {
         return TOO_SMALL;

@@ -8,10 +8,10 @@ ghost use Rattle.std.specs.Prelude.{◌≡◌, ◌≤◌, ◌++◌, IfOk, length
 ghost use Rattle.machine.specs.Seen.{state_of};
 ghost use Rattle.wire.specs.Stream.{whole};
 ghost use Rattle.vmig_c.specs.Moving.{HasSaved, IsKept, Saves, SavesKept};
-ghost use Rattle.vmig_c.specs.Plain.{ArePlain};
+ghost use Rattle.c_machine.specs.Plain.{ArePlain};
 
 use crate::kept::{Kept, by_state};
-use crate::status::{DONE, MORE, NO_MEMORY, SENDING};
+use c_machine::status::{DONE, MORE, NO_MEMORY, SENDING};
 use guestmem::NoMemory;
 use machine::{Disk, Machine};
 use sender::{save, saved_len};
@@ -24,7 +24,7 @@ pub(crate) fn save_kept(alloc: Global, kept: &mut Kept, buf: &mut [u8], len: &mu
     ensures saves { SavesKept kept.old.state result len.new len.old buf.old buf.new kept.new.state }
     ensures kind { kept.new ≡ record kept.old { state = kept.new.state } }
 {
-    by_state!(&mut kept.contents;
+    by_state!(&mut kept.held;
         still(machine) => save_status(alloc, machine, buf, len),
         moving(_) => SENDING,
     )

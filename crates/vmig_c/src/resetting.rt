@@ -12,7 +12,7 @@ ghost use Rattle.vmig_c.specs.Resetting.{AreDone, ResetsKept, ResetsLive, Resets
 
 use crate::kept::{Kept, Moving, by_state};
 use crate::mirror::has_stopped;
-use crate::status::{DONE, STOPPED};
+use c_machine::status::{DONE, STOPPED};
 use machine::{Disk, Machine, Shape};
 
 /// The offset of the register Status (VIRTIO 1.2, 4.2.2).
@@ -24,7 +24,7 @@ pub(crate) fn reset(kept: &mut Kept) -> u32
     ensures resets { ResetsKept kept.old.state result kept.new.state }
     ensures kind { kept.new ≡ record kept.old { state = kept.new.state } }
 {
-    by_state!(&mut kept.contents;
+    by_state!(&mut kept.held;
         still(machine) => reset_still(machine),
         moving(live) => reset_moving(live),
     )

@@ -5,7 +5,7 @@ ghost use Rattle.machine.specs.Seen.{state_of};
 ghost use Rattle.vmig_c.specs.Rooms.{IsRoomOf, RoomsKept, room_of};
 
 use crate::kept::{Kept, by_state};
-use crate::status::{DONE, NO_DEVICE, WRONG_KIND};
+use c_machine::status::{DONE, NO_DEVICE, WRONG_KIND};
 use console::HOST_BYTES_MAX;
 use machine::{Disk, Kind, Machine};
 use net::INBOX_MAX;
@@ -14,7 +14,7 @@ use net::INBOX_MAX;
 pub(crate) fn room(kept: &Kept, dev: u8, room: &mut usize) -> u32
     ensures { RoomsKept kept.now.state dev result room.new room.old }
 {
-    by_state!(&kept.contents;
+    by_state!(&kept.held;
         still(machine) => room_status(machine, dev, room),
         moving(live) => room_status(live.machine(), dev, room),
     )

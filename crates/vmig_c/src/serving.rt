@@ -2,37 +2,29 @@
 
 ghost use Rattle.std.specs.Prelude.{◌≡◌};
 ghost use Rattle.machine.specs.declared.event.Event.TheVariants as events;
-ghost use Rattle.sender.specs.declared.event.LiveEvent.TheVariants as live_events;
-ghost use Rattle.vmig_c.specs.Told.{IsServed, ReadsKept, Tells, TellsOr, TellsSo, lines_in};
+ghost use Rattle.vmig_c.specs.Told.{ReadsKept, Tells, TellsOr, TellsSo, lines_in};
 ghost use Rattle.vmig_c.specs.declared.serving.TheConstants.{NO_BYTE};
 
-use crate::kept::{Kept, Moving, by_state};
-use crate::status::{DONE, answer_status, done_status, written_status};
+use crate::kept::{Kept, by_state};
 use crate::stepping::reply_status;
-use machine::Disk;
+use c_machine::status::{DONE, answer_status, done_status, written_status};
 
 /// The number of no byte.
 const NO_BYTE: u32 = 256;
 
 /// The driver reads a register.
-#[tactic(auto, using(crate::proofs::OnHandle::by_still, crate::proofs::OnHandle::by_moving, crate::proofs::ByKept::told))]
+#[tactic(auto, using(crate::proofs::OnHandle::by_still, crate::proofs::OnHandle::by_moving, crate::proofs::ByKept::told, crate::proofs::ByKept::served, crate::proofs::ByKept::few_told))]
 pub(crate) fn read_register(kept: &mut Kept, dev: u8, off: u32, width: u8, value: &mut u32) -> u32
     ensures told { Tells kept.old.state (events.RegRead dev off width) result value.new value.old kept.new.state }
     ensures kind { kept.new ≡ record kept.old { state = kept.new.state } }
 {
-    by_state!(&mut kept.contents;
+    by_state!(&mut kept.held;
         still(machine) => answer_status(machine.read_register(dev, off, width), value),
-        moving(live) => value_status(live, dev, off, width, value),
+        moving(live) => {
+            live.recall();
+            reply_status(live.read_register(dev, off, width), value)
+        }
     )
-}
-
-/// As above, for a machine that is being migrated.
-#[tactic(auto, using(crate::proofs::ByKept::served, crate::proofs::ByKept::few_told))]
-fn value_status<D: Disk>(live: &mut Moving<D>, dev: u8, off: u32, width: u8, value: &mut u32) -> u32
-    ensures { IsServed live.old (live_events.Guest (events.RegRead dev off width)) result value.new value.old live.new }
-{
-    live.recall();
-    reply_status(live.read_register(dev, off, width), value)
 }
 
 /// The driver writes a register. `byte` becomes the byte that comes out by it, or 256, where none does.
@@ -55,38 +47,25 @@ pub(crate) fn write_register(
     status
 }
 
-#[tactic(auto, using(crate::proofs::OnHandle::by_still, crate::proofs::OnHandle::by_moving, crate::proofs::ByKept::told))]
+#[tactic(auto, using(crate::proofs::OnHandle::by_still, crate::proofs::OnHandle::by_moving, crate::proofs::ByKept::told, crate::proofs::ByKept::served, crate::proofs::ByKept::few_told))]
 fn written(kept: &mut Kept, dev: u8, off: u32, width: u8, value: u32, out: &mut u32) -> u32
     ensures told { Tells kept.old.state (events.RegWrite dev off width value) result out.new out.old kept.new.state }
     ensures kind { kept.new ≡ record kept.old { state = kept.new.state } }
 {
-    by_state!(&mut kept.contents;
+    by_state!(&mut kept.held;
         still(machine) => written_status(machine.write_register(dev, off, width, value), out),
-        moving(live) => out_status(live, dev, off, width, value, out),
+        moving(live) => {
+            live.recall();
+            reply_status(live.write_register(dev, off, width, value), out)
+        }
     )
-}
-
-/// As above, for a machine that is being migrated.
-#[tactic(auto, using(crate::proofs::ByKept::served, crate::proofs::ByKept::few_told))]
-fn out_status<D: Disk>(
-    live: &mut Moving<D>,
-    dev: u8,
-    off: u32,
-    width: u8,
-    value: u32,
-    out: &mut u32,
-) -> u32
-    ensures { IsServed live.old (live_events.Guest (events.RegWrite dev off width value)) result out.new out.old live.new }
-{
-    live.recall();
-    reply_status(live.write_register(dev, off, width, value), out)
 }
 
 /// The guest reads RAM. It takes no memory, also for a machine that is being migrated.
 pub(crate) fn read_ram(kept: &Kept, addr: u64, buf: &mut [u8]) -> u32
     ensures { ReadsKept kept.now.state addr result buf.old buf.new }
 {
-    by_state!(&kept.contents;
+    by_state!(&kept.held;
         still(machine) => done_status(machine.read_ram(addr, buf)),
         moving(live) => done_status(live.machine().read_ram(addr, buf)),
     )
@@ -96,34 +75,27 @@ pub(crate) fn read_ram(kept: &Kept, addr: u64, buf: &mut [u8]) -> u32
 pub(crate) fn lines(kept: &Kept) -> u16
     ensures { result ≡ lines_in kept.now.state }
 {
-    by_state!(&kept.contents;
+    by_state!(&kept.held;
         still(machine) => machine.lines(),
         moving(live) => live.machine().lines(),
-        lent(loan) => loan.lines(),
-        arriving => 0,
+        lent(loan) => loan.parked().lines(),
+        arriving(_) => 0,
     )
 }
 
 /// The guest writes RAM.
-#[tactic(auto, using(crate::proofs::OnHandle::by_still, crate::proofs::OnHandle::by_moving, crate::proofs::ByKept::told_so))]
+#[tactic(auto, using(crate::proofs::OnHandle::by_still, crate::proofs::OnHandle::by_moving, crate::proofs::ByKept::told_so, crate::proofs::ByKept::written, crate::proofs::ByKept::few_told))]
 pub(crate) fn write_ram(kept: &mut Kept, addr: u64, bytes: &[u8]) -> u32
     ensures told { TellsSo kept.old.state (events.MemWrite addr bytes.now) result kept.new.state }
     ensures kind { kept.new ≡ record kept.old { state = kept.new.state } }
 {
-    by_state!(&mut kept.contents;
+    by_state!(&mut kept.held;
         still(machine) => done_status(machine.write_ram(addr, bytes)),
-        moving(live) => write_status(live, addr, bytes),
+        moving(live) => {
+            live.recall();
+            reply_status(live.write_ram(addr, bytes), &mut 0)
+        }
     )
-}
-
-/// As above, for a machine that is being migrated.
-#[tactic(auto, using(crate::proofs::ByKept::written, crate::proofs::ByKept::few_told))]
-fn write_status<D: Disk>(live: &mut Moving<D>, addr: u64, bytes: &[u8]) -> u32
-    ensures { IsServed live.old (live_events.Guest (events.MemWrite addr bytes.now)) result 0 0 live.new }
-{
-    let mut none = 0;
-    live.recall();
-    reply_status(live.write_ram(addr, bytes), &mut none)
 }
 
 /// The host puts bytes in. `count` becomes how many of them were kept.
@@ -139,66 +111,46 @@ pub(crate) fn input(kept: &mut Kept, dev: u8, bytes: &[u8], count: &mut usize) -
     status
 }
 
-#[tactic(auto, using(crate::proofs::OnHandle::by_still, crate::proofs::OnHandle::by_moving, crate::proofs::ByKept::told))]
+#[tactic(auto, using(crate::proofs::OnHandle::by_still, crate::proofs::OnHandle::by_moving, crate::proofs::ByKept::told, crate::proofs::ByKept::served, crate::proofs::ByKept::few_told))]
 fn put_in(kept: &mut Kept, dev: u8, bytes: &[u8], accepted: &mut u32) -> u32
     ensures told { Tells kept.old.state (events.Input dev bytes.now) result accepted.new accepted.old kept.new.state }
     ensures kind { kept.new ≡ record kept.old { state = kept.new.state } }
 {
-    by_state!(&mut kept.contents;
+    by_state!(&mut kept.held;
         still(machine) => answer_status(machine.input(dev, bytes), accepted),
-        moving(live) => input_status(live, dev, bytes, accepted),
+        moving(live) => {
+            live.recall();
+            reply_status(live.input(dev, bytes), accepted)
+        }
     )
 }
 
-/// As above, for a machine that is being migrated.
-#[tactic(auto, using(crate::proofs::ByKept::served, crate::proofs::ByKept::few_told))]
-fn input_status<D: Disk>(live: &mut Moving<D>, dev: u8, bytes: &[u8], accepted: &mut u32) -> u32
-    ensures { IsServed live.old (live_events.Guest (events.Input dev bytes.now)) result accepted.new accepted.old live.new }
-{
-    live.recall();
-    reply_status(live.input(dev, bytes), accepted)
-}
-
 /// The host sets the size of a console.
-#[tactic(auto, using(crate::proofs::OnHandle::by_still, crate::proofs::OnHandle::by_moving, crate::proofs::ByKept::told_so))]
+#[tactic(auto, using(crate::proofs::OnHandle::by_still, crate::proofs::OnHandle::by_moving, crate::proofs::ByKept::told_so, crate::proofs::ByKept::resized, crate::proofs::ByKept::few_told))]
 pub(crate) fn resize(kept: &mut Kept, dev: u8, cols: u16, rows: u16) -> u32
     ensures told { TellsSo kept.old.state (events.Resize dev cols rows) result kept.new.state }
     ensures kind { kept.new ≡ record kept.old { state = kept.new.state } }
 {
-    by_state!(&mut kept.contents;
+    by_state!(&mut kept.held;
         still(machine) => done_status(machine.resize(dev, cols, rows)),
-        moving(live) => resize_status(live, dev, cols, rows),
+        moving(live) => {
+            live.recall();
+            reply_status(live.resize(dev, cols, rows), &mut 0)
+        }
     )
 }
 
-/// As above, for a machine that is being migrated.
-#[tactic(auto, using(crate::proofs::ByKept::resized, crate::proofs::ByKept::few_told))]
-fn resize_status<D: Disk>(live: &mut Moving<D>, dev: u8, cols: u16, rows: u16) -> u32
-    ensures { IsServed live.old (live_events.Guest (events.Resize dev cols rows)) result 0 0 live.new }
-{
-    let mut none = 0;
-    live.recall();
-    reply_status(live.resize(dev, cols, rows), &mut none)
-}
-
 /// The host drops what it put in and the guest has not taken.
-#[tactic(auto, using(crate::proofs::OnHandle::by_still, crate::proofs::OnHandle::by_moving, crate::proofs::ByKept::told_so))]
+#[tactic(auto, using(crate::proofs::OnHandle::by_still, crate::proofs::OnHandle::by_moving, crate::proofs::ByKept::told_so, crate::proofs::ByKept::dropped, crate::proofs::ByKept::few_told))]
 pub(crate) fn drop_input(kept: &mut Kept, dev: u8) -> u32
     ensures told { TellsSo kept.old.state (events.Drop dev) result kept.new.state }
     ensures kind { kept.new ≡ record kept.old { state = kept.new.state } }
 {
-    by_state!(&mut kept.contents;
+    by_state!(&mut kept.held;
         still(machine) => done_status(machine.drop_input(dev)),
-        moving(live) => drop_status(live, dev),
+        moving(live) => {
+            live.recall();
+            reply_status(live.drop_input(dev), &mut 0)
+        }
     )
-}
-
-/// As above, for a machine that is being migrated.
-#[tactic(auto, using(crate::proofs::ByKept::dropped, crate::proofs::ByKept::few_told))]
-fn drop_status<D: Disk>(live: &mut Moving<D>, dev: u8) -> u32
-    ensures { IsServed live.old (live_events.Guest (events.Drop dev)) result 0 0 live.new }
-{
-    let mut none = 0;
-    live.recall();
-    reply_status(live.drop_input(dev), &mut none)
 }

@@ -15,10 +15,11 @@ ghost use Rattle.vmig_c.specs.Mirror.{is_closed};
 
 use crate::kept::{Kept, Moving, by_state};
 use crate::mirror::has_stopped;
-use crate::status::{
-    DISK_FAILED, DONE, IDLE, LENT, NO_DEVICE, NO_MACHINE, STOPPED, WRONG_KIND, mig_status,
-};
+use crate::status::mig_status;
 use blk::SyncOwed;
+use c_machine::status::{
+    DISK_FAILED, DONE, IDLE, LENT, NO_DEVICE, NO_MACHINE, STOPPED, WRONG_KIND,
+};
 use machine::{Disk, Kind, Machine};
 
 /// What a step of the machine of a handle owes and does not get, since the disk is lost.
@@ -28,11 +29,11 @@ pub(crate) fn owed_lost(kept: &Kept, dev: u8, pick: u8) -> SyncOwed
     if !kept.is_lost(dev) {
         return SyncOwed::Nothing;
     }
-    by_state!(&kept.contents;
+    by_state!(&kept.held;
         still(machine) => owed(machine, dev, pick),
         moving(live) => owed_live(live, dev, pick),
         lent(_) => SyncOwed::Nothing,
-        arriving => SyncOwed::Nothing,
+        arriving(_) => SyncOwed::Nothing,
     )
 }
 
@@ -71,11 +72,11 @@ pub(crate) fn lose_kept(kept: &mut Kept, dev: u8) -> u32
 fn loss_refusal(kept: &Kept, dev: u8) -> Option<u32>
     ensures { result ≡ loss_refusal kept.now.state dev }
 {
-    by_state!(&kept.contents;
+    by_state!(&kept.held;
         still(machine) => disk_refusal(machine, dev),
         moving(live) => live_disk_refusal(live, dev),
         lent(_) => Some(LENT),
-        arriving => Some(NO_MACHINE),
+        arriving(_) => Some(NO_MACHINE),
     )
 }
 
@@ -113,7 +114,7 @@ pub(crate) fn fail_kept(kept: &mut Kept, dev: u8, pick: u8) -> u32
     ensures fails { FailsKept kept.old.state dev pick result kept.new.state }
     ensures kind { kept.new ≡ record kept.old { state = kept.new.state } }
 {
-    by_state!(&mut kept.contents;
+    by_state!(&mut kept.held;
         still(machine) => fail_flush(machine, dev, pick),
         moving(live) => fail_live_flush(live, dev, pick),
     )

@@ -2,47 +2,58 @@
 //!
 //! A machine whose disks are in memory of the library has none to give back: its slots stay as they are, and it is freed all the same.
 
-ghost use Rattle.std.specs.Prelude.{◌≡◌, None, Some, length};
+ghost use Rattle.std.specs.Prelude.{◌≡◌, None, length, true};
 ghost use Rattle.machine.specs.Shapes.{disk_sizes};
-ghost use Rattle.vmig_c.specs.Awaited.{awaited_sizes};
-ghost use Rattle.vmig_c.specs.Kept.{are_mapped, kept_of, state_in};
-ghost use Rattle.vmig_c.specs.Mapping.{counts};
-ghost use Rattle.vmig_c.specs.Named.{are_zeros};
-ghost use Rattle.vmig_c.specs.Unmapping.{AreHandedBack, HasReleasedFrom, HasUnmapped, HasUnmappedArrival, disk_in, disks_in, held_by, images_of, release_refusal_of, slots_refusal};
+ghost use Rattle.vmig_c.specs.Awaited.{is_over};
+ghost use Rattle.vmig_c.specs.Kept as states;
+ghost use Rattle.vmig_c.specs.Kept.{are_mapped, held_state, kept_of, state_in};
+ghost use Rattle.c_machine.specs.Mapping.{counts};
+ghost use Rattle.c_machine.specs.Named.{are_zeros};
+ghost use Rattle.vmig_c.specs.Unmapping.{AreHandedBack, HasReleasedFrom, HasUnmapped, disk_in, disks_in, held_by, images_of, release_refusal_in, release_refusal_of, slots_refusal};
 
-use crate::kept::{Contents, Kept};
-use crate::landing::Landing;
-use crate::loan::Loan;
-use crate::mapping::give_back;
+use crate::arrival::Arrival;
+use crate::kept::{Contents, Held, Kept, by_state};
 use crate::migrating::taken_out;
-use crate::status::{BAD_IMAGES, LENT, TOO_SMALL};
+use c_machine::give_back;
+use c_machine::status::{BAD_IMAGES, LENT, TOO_SMALL};
 use machine::{Device, Disk, Machine, Shape};
 use mapped_disk::{Image, MappedDisk};
-use std::alloc::Global;
 
 /// Why `vmig_release` is refused, if it is.
 pub(crate) fn release_refusal(kept: &Kept, images: &mut [Image]) -> Option<u32>
     ensures same { images.new ≡ images.old }
     ensures refusal { result ≡ release_refusal_of kept.now images.old }
 {
-    if let Contents::Lent(_) = &kept.contents {
-        return Some(LENT);
-    }
-    slots_refusal(image_count(&kept.contents), images)
+    let refusal = slots_refusal(image_count(&kept.held), images);
+    by_state!(&kept.held;
+        still(_) => refusal,
+        moving(_) => refusal,
+        lent(_) => Some(LENT),
+        arriving(_) => refusal,
+    )
 }
 
 /// How many images are given back by a release.
-#[tactic(auto, using(crate::proofs::Handing::counted_parked))]
-pub(crate) fn image_count(contents: &Contents) -> usize
-    ensures { result ≡ images_of (are_mapped contents.now) (state_in contents.now) }
+#[tactic(auto, using(crate::proofs::Handing::counted_arriving))]
+pub(crate) fn image_count(held: &Held) -> usize
+    ensures { result ≡ images_of (are_mapped held.now) (held_state held.now) }
+{
+    match held {
+        Held::Own(_) => 0,
+        Held::Mapped(contents) => disk_count(contents),
+        Held::Arriving(arrival) => arrival.image_count(),
+    }
+}
+
+/// How many devices of a machine have a disk.
+#[tactic(auto, using(crate::proofs::Handing::counted, crate::proofs::Handing::counted_parked))]
+fn disk_count<D: Disk>(contents: &Contents<D>) -> usize
+    ensures { result ≡ images_of true (state_in contents.now) }
 {
     match contents {
-        Contents::StillMapped(machine) => disk_count(machine),
-        Contents::MovingMapped(live) => disk_count(live.machine()),
-        Contents::ArrivingMapped(landing) => landing.disk_count(),
-        Contents::Lent(Loan::StillMapped(parked)) => count_disks(parked.shapes()),
-        Contents::Lent(Loan::MovingMapped(live)) => count_disks(live.parked().shapes()),
-        _ => 0,
+        Contents::Still(machine) => count_disks(machine.shapes()),
+        Contents::Moving(live) => count_disks(live.machine().shapes()),
+        Contents::Lent(loan) => count_disks(loan.parked().shapes()),
     }
 }
 
@@ -73,13 +84,6 @@ fn are_none(images: &mut [Image]) -> bool
     true
 }
 
-/// How many devices have a disk.
-fn disk_count<D: Disk>(machine: &Machine<D>) -> usize
-    ensures { result ≡ length (disks_in machine.now.devices) }
-{
-    count_disks(machine.shapes())
-}
-
 fn count_disks(shapes: &[Shape]) -> usize
     ensures { result ≡ length (disk_sizes shapes.now) }
 {
@@ -92,24 +96,34 @@ fn count_disks(shapes: &[Shape]) -> usize
     count
 }
 
-/// Takes the contents out of a handle that is freed next.
-pub(crate) fn contents_of(alloc: Global, kept: &mut Kept) -> Contents
-    ensures state { state_in result ≡ kept.old.state }
+/// Takes what there is out of a handle that is freed next.
+pub(crate) fn held_of(kept: &mut Kept) -> Held
+    ensures state { held_state result ≡ kept.old.state }
     ensures kind { are_mapped result ≡ kept.old.is_mapped }
 {
-    taken_out(alloc, &mut kept.contents)
+    taken_out(&mut kept.held)
 }
 
 /// Frees what there is, and puts its images into the slots.
-pub(crate) fn release(contents: Contents, images: &mut [Image])
-    requires { release_refusal_of (kept_of contents) images.old ≡ None }
-    ensures { HasReleasedFrom (are_mapped contents) (state_in contents) images.old images.new }
+pub(crate) fn release(held: Held, images: &mut [Image])
+    requires { release_refusal_of (kept_of held) images.old ≡ None }
+    ensures { HasReleasedFrom (are_mapped held) (held_state held) images.old images.new }
+{
+    match held {
+        Held::Own(contents) => drop(contents),
+        Held::Mapped(contents) => release_mapped(contents, images),
+        Held::Arriving(arrival) => give_up(arrival, images),
+    }
+}
+
+fn release_mapped(contents: Contents<MappedDisk>, images: &mut [Image])
+    requires { release_refusal_in (state_in contents) (slots_refusal (images_of true (state_in contents)) images.old) ≡ None }
+    ensures { HasReleasedFrom true (state_in contents) images.old images.new }
 {
     match contents {
-        Contents::StillMapped(machine) => hand_back(machine, images),
-        Contents::MovingMapped(live) => hand_back(live.abort(), images),
-        Contents::ArrivingMapped(landing) => give_up(landing, images),
-        other => drop(other),
+        Contents::Still(machine) => hand_back(machine, images),
+        Contents::Moving(live) => hand_back(live.abort(), images),
+        Contents::Lent(_) => unreachable!(),
     }
 }
 
@@ -127,14 +141,16 @@ fn hand_back(machine: Machine<MappedDisk>, images: &mut [Image])
     }
 }
 
-/// Ends an arrival, and puts its images into the slots.
-fn give_up(landing: Landing, images: &mut [Image])
-    requires { slots_refusal (length (awaited_sizes landing)) images.old ≡ None }
-    ensures { HasUnmappedArrival landing images.old images.new }
+/// Ends an arrival, and puts its images into the slots, if it has any.
+#[tactic(auto, using(crate::proofs::Landings::none_given_up))]
+fn give_up(arrival: Arrival, images: &mut [Image])
+    requires { slots_refusal (images_of (is_over arrival) (states.Arriving arrival)) images.old ≡ None }
+    ensures { HasReleasedFrom (is_over arrival) (states.Arriving arrival) images.old images.new }
 {
-    let disks = landing.into_disks();
-    let count = disks.len();
-    give_back(disks, &mut images[..count]);
+    if let Some(disks) = arrival.into_images() {
+        let count = disks.len();
+        give_back(disks, &mut images[..count]);
+    }
 }
 
 /// The image of a device's disk, if it has one.

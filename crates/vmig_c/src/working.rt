@@ -12,8 +12,8 @@ ghost use Rattle.vmig_c.specs.Mirror.{is_closed};
 
 use crate::kept::{Kept, Moving, by_state};
 use crate::mirror::has_stopped;
-use crate::status::{IDLE, STOPPED, SYNC, WORK};
 use blk::SyncOwed;
+use c_machine::status::{IDLE, STOPPED, SYNC, WORK};
 use machine::{Disk, Machine, Work};
 
 /// Finds the next step with something to do after the one that the numbers name, and makes them name it. It takes no memory.
@@ -21,7 +21,7 @@ pub(crate) fn next(kept: &Kept, dev: &mut u8, pick: &mut u8) -> u32
     ensures { FindsWork kept.now result dev.new dev.old pick.new pick.old }
 {
     let lost = kept.lost();
-    by_state!(&kept.contents;
+    by_state!(&kept.held;
         still(machine) => found_status(machine, lost, dev, pick),
         moving(live) => live_found_status(live, lost, dev, pick),
     )

@@ -1,5 +1,5 @@
 use Rattle.std.proofs.Common.{◌≡◌, drop, nat_lt}
-use Rattle.vmig_c.specs.Images.{sectors_in}
+use Rattle.c_machine.specs.Images.{sectors_in}
 use Rattle.vmig_c.proofs.admission.is_within.Given as goal
 
 abbrev pub invariant-loop-shape : goal.invariant-loop-shape

@@ -2,7 +2,7 @@ use Rattle.std.proofs.Common.{◌≡◌, ◌∙◌}
 use Rattle.machine.specs.Shapes.{disk_sizes}
 use Rattle.receiver.specs.Disks.{sizes_of}
 use Rattle.vmig_c.specs.Awaited.{place_for, terms_for}
-use Rattle.vmig_c.specs.Plain.{mem_state}
+use Rattle.c_machine.specs.Plain.{mem_state}
 use Rattle.vmig_c.proofs.Awaited.{all_fed, all_refused, fresh_steady}
 use Rattle.vmig_c.proofs.Streams.{zero_fit}
 use Rattle.vmig_c.proofs.arrival.begun.Goals as goal

@@ -1,5 +1,5 @@
 use Rattle.std.proofs.Common.{◌∙◌, refl, sym}
-use Rattle.vmig_c.proofs.MadeOf.{made_mapped, made_own}
+use Rattle.vmig_c.proofs.MadeIn.{made_mapped, made_own}
 use Rattle.vmig_c.proofs.creating.made.Goals.{in-Ok, in-Err}
 use Rattle.vmig_c.proofs.creating.made.Goals as goal
 

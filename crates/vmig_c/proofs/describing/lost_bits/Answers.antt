@@ -1,5 +1,5 @@
 use Rattle.std.proofs.Common.{arith}
-use Rattle.vmig_c.proofs.ToldShapes.{bit_few, bits_fit}
+use Rattle.vmig_c.proofs.ToldStates.{bit_few, bits_fit}
 use Rattle.vmig_c.proofs.describing.lost_bits.Goals as goal
 
 pub overflow_mul-bits : goal.overflow_mul-bits

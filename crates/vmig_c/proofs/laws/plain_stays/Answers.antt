@@ -1,4 +1,4 @@
-use Rattle.vmig_c.proofs.Plain.{plain_stays}
+use Rattle.c_machine.proofs.Plain.{plain_stays}
 use Rattle.vmig_c.proofs.laws.plain_stays.Goals as goal
 
 pub returns : goal.returns

@@ -1,28 +1,16 @@
 use Rattle.std.proofs.Common.{◌≡◌, length, subst, true}
 use Rattle.vmig_c.specs.Kept.{loan_of, parked_in}
-use Rattle.vmig_c.specs.Named.{are_pages}
+use Rattle.c_machine.specs.Named.{are_pages}
 use Rattle.vmig_c.specs.declared.loan.Loan.{Loan}
 use Rattle.vmig_c.proofs.Lent.{below}
 use Rattle.vmig_c.proofs.lending.back_from.Goals as goal
 
 pub give_back-requires-clause-below : goal.give_back-requires-clause-below
-give_back-requires-clause-below c =
+give_back-requires-clause-below g c =
     let pages = c.args.pages.now in
-    below (length c.in-Still.parked.versions) pages (subst (λ (l : Loan). are_pages (length (parked_in (loan_of l)).versions) pages ≡ true) c.in-Still.is c.requires.below)
+    below (length c.in-Still.parked.versions) pages (subst (λ (l : Loan _). are_pages (length (parked_in (loan_of l)).versions) pages ≡ true) c.in-Still.is c.requires.below)
 
 pub give_back-requires-in-Moving-clause-below : goal.give_back-requires-in-Moving-clause-below
-give_back-requires-in-Moving-clause-below c =
+give_back-requires-in-Moving-clause-below g c =
     let pages = c.args.pages.now in
-    below (length c.in-Moving.live.parked.versions) pages (subst (λ (l : Loan). are_pages (length (parked_in (loan_of l)).versions) pages ≡ true) c.in-Moving.is c.requires.below)
-
-pub give_back-requires-in-StillMapped-clause-below :
-    goal.give_back-requires-in-StillMapped-clause-below
-give_back-requires-in-StillMapped-clause-below c =
-    let pages = c.args.pages.now in
-    below (length c.in-StillMapped.parked.versions) pages (subst (λ (l : Loan). are_pages (length (parked_in (loan_of l)).versions) pages ≡ true) c.in-StillMapped.is c.requires.below)
-
-pub give_back-requires-in-MovingMapped-clause-below :
-    goal.give_back-requires-in-MovingMapped-clause-below
-give_back-requires-in-MovingMapped-clause-below c =
-    let pages = c.args.pages.now in
-    below (length c.in-MovingMapped.live.parked.versions) pages (subst (λ (l : Loan). are_pages (length (parked_in (loan_of l)).versions) pages ≡ true) c.in-MovingMapped.is c.requires.below)
+    below (length c.in-Moving.live.parked.versions) pages (subst (λ (l : Loan _). are_pages (length (parked_in (loan_of l)).versions) pages ≡ true) c.in-Moving.is c.requires.below)

@@ -1,10 +1,10 @@
-use Rattle.std.proofs.Common.{◌≡◌, ap, refl, sym, subst, ◌∙◌}
-use Rattle.std.specs.Prelude.{IfErr, IfOk}
+use Rattle.std.proofs.Common.{◌≡◌, ap, sym, subst, ◌∙◌}
 use Rattle.receiver.specs.declared.recv_error.RecvError.TheVariants.{Truncated}
-use Rattle.vmig_c.specs.ArrivalSeen.{ArrivalSeen, AtBody, Refused}
+use Rattle.vmig_c.specs.ArrivalSeen.{ArrivalSeen, AtBody, Over}
 use Rattle.vmig_c.specs.Awaited.{AreSteady, HasArrived, IsClosed, IsComing, TellsEnd, awaited_by, place_for, terms_for}
 use Rattle.vmig_c.specs.Headed.{HasNoHeader}
-use Rattle.vmig_c.proofs.Awaited.{arrived_if, head_ends, not_arrived_if}
+use Rattle.vmig_c.proofs.Awaited.{arrived, head_ends}
+use Rattle.vmig_c.proofs.Landings.{arrived_over}
 use Rattle.vmig_c.proofs.arrival.Arrival.finish.Goals as goal
 
 pub returns-in-Head-clause-refused : goal.returns-in-Head-clause-refused
@@ -13,18 +13,28 @@ returns-in-Head-clause-refused c =
     let none : HasNoHeader c.in-Head.field-2.items = rw c.in-Head.is at coming in
     let view : awaited_by c.self.inside.progress ≡ c.args.self = c.self.view_is in
     let seen = sym (ap awaited_by c.in-Head.is) ∙ view in
-    subst (λ (a : ArrivalSeen). TellsEnd a Truncated × IsClosed a Refused) seen (head_ends (terms_for c.in-Head.field-0 c.in-Head.field-1) (place_for c.in-Head.field-1) c.in-Head.field-2.items none, refl)
+    subst (λ (a : ArrivalSeen). TellsEnd a Truncated × IsClosed a c.failed.result) seen (head_ends (terms_for c.in-Head.field-0 c.in-Head.field-1) (place_for c.in-Head.field-1) c.in-Head.field-2.items none, c.failed.ensures)
 
-pub returns-in-Body-clause-arrived : goal.returns-in-Body-clause-arrived
-returns-in-Body-clause-arrived c =
+pub returns-in-Ok-clause-arrived : goal.returns-in-Ok-clause-arrived
+returns-in-Ok-clause-arrived c =
     let coming : IsComing c.self.inside.progress = c.self.invariant in
     let steady : AreSteady c.in-Body.receiver = rw c.in-Body.is at coming in
     let view : awaited_by c.self.inside.progress ≡ c.args.self = c.self.view_is in
     let seen : AtBody c.in-Body.receiver ≡ c.args.self = sym (ap awaited_by c.in-Body.is) ∙ view in
-    subst (λ (a : ArrivalSeen). IfOk c.finish.result (λ m. HasArrived a m)) seen (arrived_if c.in-Body.receiver c.finish.result steady c.finish.ensures.received c.finish.ensures.marks c.finish.ensures.based c.finish.ensures.place)
+    let has = c.in-Ok.ensures in
+    subst (λ (a : ArrivalSeen). HasArrived a c.in-Ok.machine) seen (arrived c.in-Body.receiver c.in-Ok.machine steady has.received has.marks has.based has.place)
 
 pub returns-in-Body-clause-refused : goal.returns-in-Body-clause-refused
 returns-in-Body-clause-refused c =
     let view : awaited_by c.self.inside.progress ≡ c.args.self = c.self.view_is in
     let seen : AtBody c.in-Body.receiver ≡ c.args.self = sym (ap awaited_by c.in-Body.is) ∙ view in
-    subst (λ (a : ArrivalSeen). IfErr c.finish.result (λ e. TellsEnd a e × IsClosed a Refused)) seen (not_arrived_if c.in-Body.receiver c.finish.result c.finish.ensures.told c.finish.ensures.refused)
+    subst (λ (a : ArrivalSeen). TellsEnd a c.in-Err.error × IsClosed a c.failed-in-Err.result) seen ((c.in-Err.ensures.told, λ b h. c.in-Err.ensures.refused b h.0), c.failed-in-Err.ensures)
+
+pub returns-in-Ok-finish_or_back-clause-arrived : goal.returns-in-Ok-finish_or_back-clause-arrived
+returns-in-Ok-finish_or_back-clause-arrived c =
+    let coming : IsComing c.self.inside.progress = c.self.invariant in
+    let steady : AreSteady c.in-Over.receiver = rw c.in-Over.is at coming in
+    let view : awaited_by c.self.inside.progress ≡ c.args.self = c.self.view_is in
+    let seen : Over c.in-Over.receiver ≡ c.args.self = sym (ap awaited_by c.in-Over.is) ∙ view in
+    let has = c.in-Ok-finish_or_back.ensures in
+    subst (λ (a : ArrivalSeen). HasArrived a c.in-Ok-finish_or_back.machine) seen (arrived_over c.in-Over.receiver c.in-Ok-finish_or_back.machine steady has.goes_on has.received has.marks has.based has.place)

@@ -1,0 +1,51 @@
+-- What a machine that will arrive asks for by its struct: why that is refused.
+use Rattle.std.specs.Prelude.{◌≡◌, ℕ, ◌==◌, ◌&&◌, ◌||◌, not, nat_lt, if◌then◌else◌, Bool, false, List, length, Option, Some, None}
+use Rattle.machine.specs.First.{are_same, is_base}
+use Rattle.machine.specs.Shapes.{disk_sizes}
+use Rattle.machine.specs.declared.machine.TheConstants.{DEVICES_MAX}
+use Rattle.c_machine.specs.Made.{has_bytes, is_ram}
+use Rattle.c_machine.specs.Making.{are_plain, shapes_of}
+use Rattle.c_machine.specs.Mapping.{counts}
+use Rattle.c_machine.specs.Named.{are_zeros}
+use Rattle.c_machine.specs.Status.{bad_base, bad_images, bad_ram, bad_shape, not_known}
+use Rattle.c_machine.specs.declared.device_shape.DeviceShape.{DeviceShape}
+use Rattle.c_machine.specs.declared.setup.Expected.{Expected}
+
+-- It names memory that RAM is to be, or images.
+abbrev pub has_ram : Expected → Bool
+has_ram e = has_bytes e.ram
+
+abbrev pub has_images : Expected → Bool
+has_images e = not (length e.images.now == 0)
+
+-- The version is 1, and what no version gives a meaning yet is 0.
+abbrev pub is_known_arrival : Expected → Bool
+is_known_arrival e = e.version == 1 && (e.flags == 0 && (e.frame == 0 && (e.most_outside == 0 && (e.block == 0 && (e.zero == 0 && are_zeros e.reserved)))))
+
+-- These bytes of the caller, where there are any, are no RAM, or pages are allowed beside them.
+abbrev pub is_unfit_ram : ℕ → ℕ → Bool
+is_unfit_ram most_pages bytes = not (bytes == 0) && (not (most_pages == 0) || not (is_ram bytes))
+
+-- The devices that are expected are more than 16, or not all plain.
+abbrev pub are_unfit_shapes : List DeviceShape → Bool
+are_unfit_shapes shapes = nat_lt DEVICES_MAX (length shapes) || not (are_plain shapes)
+
+-- There are images, and not those of the devices that are expected.
+abbrev pub are_other_images : Expected → Bool
+are_other_images e =
+    if length e.images.now == 0 || length e.shapes.now == 0 then false else not (are_same (disk_sizes (shapes_of e.shapes.now)) (counts e.images.now))
+
+-- Why no machine will arrive, in this order, apart from memory being refused.
+abbrev pub arrival_refusal_of : Expected → Option ℕ
+arrival_refusal_of e =
+    if not (is_known_arrival e) then Some not_known
+    else if is_unfit_ram e.most_pages (length e.ram.content) then Some bad_ram
+    else if are_unfit_shapes e.shapes.now then Some bad_shape
+    else if not (is_base e.base (length e.ram.content)) then Some bad_base
+    else if are_other_images e then Some bad_images
+    else None
+
+-- Neither RAM nor images were taken.
+pub record IsUntaken (e next : Expected) : Type 0 where
+  pub ram_same : next.ram ≡ e.ram
+  pub images_same : next.images.now ≡ e.images.now

@@ -1,0 +1,9 @@
+pub mod Description
+pub mod Expected
+pub mod Images
+pub mod Made
+pub mod Making
+pub mod Mapping
+pub mod Named
+pub mod Plain
+pub mod Status

@@ -1,0 +1,163 @@
+//! Devices as C names them.
+
+ghost use Rattle.std.specs.Prelude.{◌≡◌};
+ghost use Rattle.c_machine.specs.Description.{described};
+ghost use Rattle.c_machine.specs.Making.{has_no_disk, has_only, is_known, is_plain, no_shape, shape_of};
+ghost use Rattle.c_machine.specs.Named.{are_zeros};
+
+use machine::{SECTORS_MAX, Shape};
+
+/// A device that C asks for. What its kind does not need is 0.
+#[derive(Clone, Copy)]
+#[repr(C)]
+pub struct DeviceShape {
+    /// The device type of the standard (VIRTIO 1.2, 5): 1 a network device, 2 a block device, 3 a console, 4 an entropy device.
+    pub kind: u8,
+
+    /// Of a block device: whether the driver may only read it, 1 or 0.
+    pub read_only: u8,
+
+    /// Of a network device: its MAC.
+    pub mac: [u8; 6],
+
+    /// Of a block device: its number of sectors, of 512 bytes each.
+    pub sectors: u64,
+
+    /// Of a block device: the id that it returns to a driver that asks for it.
+    pub id: [u8; 20],
+
+    /// 0, until a later version gives it a meaning.
+    pub frame: u32,
+
+    /// Zeros, until a later version asks for more by them.
+    pub reserved: [u64; 2],
+}
+
+impl DeviceShape {
+    /// That of no device: zeros.
+    pub fn none() -> DeviceShape
+        ensures { result ≡ no_shape }
+    {
+        DeviceShape {
+            kind: 0,
+            read_only: 0,
+            mac: [0; 6],
+            sectors: 0,
+            id: [0; 20],
+            frame: 0,
+            reserved: [0; 2],
+        }
+    }
+
+    /// What a device was made as. What its kind does not need is zeros.
+    pub fn of(shape: Shape) -> DeviceShape
+        ensures { result ≡ described shape }
+    {
+        let none = DeviceShape::none();
+        match shape {
+            Shape::Net { mac } => DeviceShape {
+                kind: 1,
+                mac,
+                ..none
+            },
+            Shape::Block {
+                sectors,
+                read_only,
+                id,
+            } => DeviceShape {
+                kind: 2,
+                read_only: read_only as u8,
+                sectors,
+                id,
+                ..none
+            },
+            Shape::Console => DeviceShape { kind: 3, ..none },
+            Shape::Entropy => DeviceShape { kind: 4, ..none },
+        }
+    }
+
+    /// The shape of the machine's device.
+    pub fn shape(self) -> Shape
+        ensures { result ≡ shape_of self }
+    {
+        let DeviceShape {
+            kind,
+            read_only,
+            mac,
+            sectors,
+            id,
+            ..
+        } = self;
+        let read_only = read_only != 0;
+        match kind {
+            1 => Shape::Net { mac },
+            2 => Shape::Block {
+                sectors,
+                read_only,
+                id,
+            },
+            3 => Shape::Console,
+            _ => Shape::Entropy,
+        }
+    }
+
+    /// Whether there can be such a device.
+    pub fn is_plain(&self) -> bool
+        ensures { result ≡ is_plain self.now }
+    {
+        if !self.has_only() {
+            return false;
+        }
+        match self.kind {
+            2 => self.sectors != 0 && self.sectors <= SECTORS_MAX,
+            kind => is_known(kind),
+        }
+    }
+
+    /// Whether what its kind does not need is 0, and what no kind needs yet.
+    fn has_only(&self) -> bool
+        ensures { result ≡ has_only self.now }
+    {
+        (self.kind == 1 || are_zero_bytes(&self.mac))
+            && (self.kind == 2 || self.has_no_disk())
+            && self.read_only <= 1
+            && self.frame == 0
+            && are_zeros(&self.reserved)
+    }
+
+    /// Whether nothing is said of a disk.
+    fn has_no_disk(&self) -> bool
+        ensures { result ≡ has_no_disk self.now }
+    {
+        self.read_only == 0 && self.sectors == 0 && are_zero_bytes(&self.id)
+    }
+}
+
+fn is_known(kind: u8) -> bool
+    ensures { result ≡ is_known kind }
+{
+    kind == 1 || kind == 2 || kind == 3 || kind == 4
+}
+
+fn are_zero_bytes(bytes: &[u8]) -> bool
+    ensures { result ≡ are_zeros bytes.now }
+{
+    for byte in bytes {
+        if *byte != 0 {
+            return false;
+        }
+    }
+    true
+}
+
+/// Whether all words are 0.
+pub fn are_zeros(words: &[u64]) -> bool
+    ensures { result ≡ are_zeros words.now }
+{
+    for word in words {
+        if *word != 0 {
+            return false;
+        }
+    }
+    true
+}

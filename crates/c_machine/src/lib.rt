@@ -1,0 +1,34 @@
+//! What C names of a machine: devices, pages, disks and RAM, and the numbers of statuses.
+//!
+//! It is what lies below the handle of the library for C: the structs by which C asks for a machine and gets its description, and what is made of
+//! them. It uses `machine`, and knows no migration and no stream, so its proof waits for neither.
+//!
+//! # What the layer above may rely on
+//! - `setup_refusal` and `arrival_refusal` say why a struct is refused, in one order, and change nothing (`specs/Made`, `specs/Expected`).
+//! - `machine_on` makes the machine over the memory in a slot, which is taken, or over zeros; where memory is refused the slot is as it was,
+//!   and the disks come back. Disks lie in memory of the library (`own_disks`) or in images of the caller (`mapped_disks`), which
+//!   `give_back` puts back where they lay.
+//! - `Pages` names pages by a list, by a bitmap, or all of them, and `Pages::collect` makes a list of their numbers (`specs/Named`).
+//! - `Description` has the pages and devices; the layer above adds what a handle has beside.
+//! - A status is one number with one meaning, and all of them are in `status` (`specs/Status`).
+#![tactic(auto)]
+
+mod description;
+mod device_shape;
+mod images;
+mod making;
+mod mapping;
+mod naming;
+mod over_ram;
+mod pages;
+mod setup;
+pub mod status;
+
+pub use description::{Description, FRAME_MAX, SENT_MAX, message_of};
+pub use device_shape::DeviceShape;
+pub use images::count_in;
+pub use making::{machine_on, own_disks, shapes_of, zero_disks};
+pub use mapping::{give_back, mapped_disks};
+pub use over_ram::{put_back, taken_ram};
+pub use pages::Pages;
+pub use setup::{Expected, Setup, arrival_refusal, is_none, setup_refusal};

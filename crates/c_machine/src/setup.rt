@@ -1,0 +1,242 @@
+//! How C asks for a machine: for one that is made, and for one that arrives.
+//!
+//! RAM and disks each come from the library or from the caller, and disks may be given contents: a call for each mixture would
+//! be six, with more for each later wish. A struct has a version and reserved words, and its size never changes: a library that does
+//! not know what a word asks for refuses (27), and a program that was built with an older header leaves it 0.
+//!
+//! What the struct names is in it: the call takes a `&mut` to a struct that holds slices and a slot, and its clause says what
+//! is left of each. Nothing is passed beside it that has to fit it.
+//!
+//! A field with nothing in it asks for nothing: contents of no bytes are zeros, and no images are disks of the library, also
+//! where the machine has disks. So a host whose list of images is empty by mistake gets disks of zeros. Contents beside images
+//! are refused, and pages beside RAM of the caller unless they are as many: each would say the same thing twice.
+
+ghost use Rattle.std.specs.Prelude.{◌≡◌, ◌==◌, length};
+ghost use Rattle.c_machine.specs.Expected.{are_other_images, are_unfit_shapes, arrival_refusal_of, is_known_arrival, is_unfit_ram};
+ghost use Rattle.c_machine.specs.Made.{are_other_disks, is_bad_ram, is_known_setup, ram_bytes, setup_refusal_of};
+
+use crate::device_shape::{DeviceShape, are_zeros};
+use crate::images::are_images;
+use crate::making::{are_bad_shapes, are_plain};
+use crate::mapping::are_counted;
+use crate::over_ram::is_ram;
+use crate::status::{BAD_BASE, BAD_IMAGES, BAD_RAM, BAD_SHAPE, NOT_KNOWN};
+use guestmem::PAGE_SIZE;
+use machine::{DEVICES_MAX, is_base};
+use mapped_disk::Image;
+use region::Slot;
+
+/// The version of both structs that this library knows.
+const KNOWN: u32 = 1;
+
+/// How a machine is made.
+#[repr(C)]
+pub struct Setup<'a, 'i> {
+    /// The version of this struct.
+    pub version: u32,
+
+    /// The pages of RAM. Where RAM is memory of the caller, as many as that has, or 0.
+    pub pages: u32,
+
+    /// The devices, in order.
+    pub shapes: &'a [DeviceShape],
+
+    /// The sectors of the disks, one after another, in the order of the devices. Where there are none, and no images, they are zeros.
+    pub contents: &'a [u8],
+
+    /// The images in which the disks lie, in the order of the devices. Where there are none the disks lie in memory of the library.
+    pub images: &'i mut [Image],
+
+    /// The memory that RAM is, with the bytes that are there. Where it has no bytes, RAM is zeros in memory of the library.
+    pub ram: Slot,
+
+    /// The guest-physical address at which RAM begins.
+    pub base: u64,
+
+    /// 0, until a later version gives it a meaning.
+    pub flags: u32,
+
+    /// 0, until a later version gives it a meaning.
+    pub block: u32,
+
+    /// Zeros, until a later version asks for more by them.
+    pub reserved: [u64; 4],
+}
+
+/// How a machine arrives.
+#[repr(C)]
+pub struct Expected<'a, 'i> {
+    /// The version of this struct.
+    pub version: u32,
+
+    /// The most pages that its RAM may have, in memory of the library. 0 where RAM is memory of the caller.
+    pub most_pages: u32,
+
+    /// The most sectors that all its disks together may have, in memory of the library.
+    pub most_sectors: u64,
+
+    /// What its devices are, in order. Where there are none, any are let in.
+    pub shapes: &'a [DeviceShape],
+
+    /// The images that its disks will lie in, in the order of the devices. Where there are none, its disks will lie in memory of the
+    /// library.
+    pub images: &'i mut [Image],
+
+    /// The memory that its RAM will be. Where it has no bytes, RAM will be memory of the library.
+    pub ram: Slot,
+
+    /// The guest-physical address at which RAM begins.
+    pub base: u64,
+
+    /// 0, until a later version gives it a meaning.
+    pub flags: u32,
+
+    /// 0, until a later version gives it a meaning.
+    pub frame: u32,
+
+    /// 0, until a later version gives it a meaning.
+    pub most_outside: u64,
+
+    /// 0, until a later version gives it a meaning.
+    pub block: u32,
+
+    /// 0.
+    pub zero: u32,
+
+    /// Zeros, until a later version asks for more by them.
+    pub reserved: [u64; 2],
+}
+
+/// Why no machine is made, apart from memory being refused, if so.
+pub fn setup_refusal(setup: &mut Setup) -> Option<u32>
+    ensures same { setup.new ≡ setup.old }
+    ensures refusal { result ≡ setup_refusal_of setup.old }
+{
+    if !is_known_setup(setup) {
+        return Some(NOT_KNOWN);
+    }
+    let bytes = setup.ram.len();
+    if is_bad_ram(setup.pages, bytes) {
+        return Some(BAD_RAM);
+    }
+    if are_bad_shapes(setup.shapes) {
+        return Some(BAD_SHAPE);
+    }
+    if !is_base(setup.base, ram_bytes(setup.pages, bytes)) {
+        return Some(BAD_BASE);
+    }
+    if are_other_disks(setup) {
+        return Some(BAD_IMAGES);
+    }
+    None
+}
+
+/// Whether this library knows all that the struct asks for.
+fn is_known_setup(setup: &mut Setup) -> bool
+    ensures same { setup.new ≡ setup.old }
+    ensures known { result ≡ is_known_setup setup.old }
+{
+    setup.version == KNOWN && setup.flags == 0 && setup.block == 0 && are_zeros(&setup.reserved)
+}
+
+/// Whether `pages` pages, or `bytes` bytes of the caller, where there are any, are no RAM; or both are there and differ.
+fn is_bad_ram(pages: u32, bytes: usize) -> bool
+    ensures { result ≡ is_bad_ram pages bytes }
+{
+    if !is_ram(ram_bytes(pages, bytes)) {
+        return true;
+    }
+    bytes != 0 && pages != 0 && PAGE_SIZE * pages as usize != bytes
+}
+
+/// The bytes of RAM: those of the caller's memory, or of `pages` pages, where there is none.
+fn ram_bytes(pages: u32, bytes: usize) -> u64
+    ensures { result ≡ ram_bytes pages bytes }
+{
+    if bytes != 0 {
+        return bytes as u64;
+    }
+    PAGE_SIZE as u64 * pages as u64
+}
+
+/// Whether there are both contents and images, or those that there are do not fit the disks.
+fn are_other_disks(setup: &mut Setup) -> bool
+    ensures same { setup.new ≡ setup.old }
+    ensures other { result ≡ are_other_disks setup.old }
+{
+    if is_none(setup.images) {
+        return !setup.contents.is_empty() && !are_images(setup.contents.len(), setup.shapes);
+    }
+    !setup.contents.is_empty() || !are_counted(setup.images, setup.shapes)
+}
+
+/// Why no machine will arrive, apart from memory being refused, if so.
+pub fn arrival_refusal(expected: &mut Expected) -> Option<u32>
+    ensures same { expected.new ≡ expected.old }
+    ensures refusal { result ≡ arrival_refusal_of expected.old }
+{
+    if !is_known_arrival(expected) {
+        return Some(NOT_KNOWN);
+    }
+    let bytes = expected.ram.len();
+    if is_unfit_ram(expected.most_pages, bytes) {
+        return Some(BAD_RAM);
+    }
+    if are_unfit_shapes(expected.shapes) {
+        return Some(BAD_SHAPE);
+    }
+    if !is_base(expected.base, bytes as u64) {
+        return Some(BAD_BASE);
+    }
+    if are_other_images(expected) {
+        return Some(BAD_IMAGES);
+    }
+    None
+}
+
+/// Whether this library knows all that the struct asks for.
+fn is_known_arrival(expected: &mut Expected) -> bool
+    ensures same { expected.new ≡ expected.old }
+    ensures known { result ≡ is_known_arrival expected.old }
+{
+    expected.version == KNOWN
+        && expected.flags == 0
+        && expected.frame == 0
+        && expected.most_outside == 0
+        && expected.block == 0
+        && expected.zero == 0
+        && are_zeros(&expected.reserved)
+}
+
+/// Whether `bytes` bytes of the caller, where there are any, are no RAM, or pages are allowed beside them.
+fn is_unfit_ram(most_pages: u32, bytes: usize) -> bool
+    ensures { result ≡ is_unfit_ram most_pages bytes }
+{
+    bytes != 0 && (most_pages != 0 || !is_ram(bytes as u64))
+}
+
+/// Whether no machine has these devices. That there are none says nothing.
+fn are_unfit_shapes(shapes: &[DeviceShape]) -> bool
+    ensures { result ≡ are_unfit_shapes shapes.now }
+{
+    shapes.len() > DEVICES_MAX || !are_plain(shapes)
+}
+
+/// Whether there are images and devices, and the images are not those of their disks.
+fn are_other_images(expected: &mut Expected) -> bool
+    ensures same { expected.new ≡ expected.old }
+    ensures other { result ≡ are_other_images expected.old }
+{
+    if is_none(expected.images) || expected.shapes.is_empty() {
+        return false;
+    }
+    !are_counted(expected.images, expected.shapes)
+}
+
+/// Whether there is no image.
+pub fn is_none(images: &mut [Image]) -> bool
+    ensures same { images.new ≡ images.old }
+    ensures none { result ≡ (length images.old == 0) }
+{
+    images.is_empty()
+}

@@ -1,7 +1,0 @@
-use Rattle.std.proofs.Common.{◌≡◌, drop}
-use Rattle.std.specs.Prelude.{max}
-use Rattle.vmig_c.specs.Described.{message_of}
-use Rattle.vmig_c.proofs.description.message_of.Given as goal
-
-abbrev pub invariant-loop-shape : goal.invariant-loop-shape
-invariant-loop-shape l = max l.most (message_of (drop l.shape-index l.shapes)) ≡ message_of l.shapes

@@ -1,7 +1,0 @@
-use Rattle.std.proofs.Common.{◌≡◌, ◌==◌, drop}
-use Rattle.vmig_c.specs.Images.{image_size, sectors_in}
-use Rattle.vmig_c.specs.Making.{shapes_of}
-use Rattle.vmig_c.proofs.images.are_images.Given as goal
-
-abbrev pub invariant-loop-shape : goal.invariant-loop-shape
-invariant-loop-shape l = (l.left == sectors_in (shapes_of (drop l.shape-index l.shapes))) ≡ (l.bytes == image_size (shapes_of l.shapes))

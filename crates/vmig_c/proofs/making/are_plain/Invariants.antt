@@ -1,6 +1,0 @@
-use Rattle.std.proofs.Common.{◌≡◌, drop}
-use Rattle.vmig_c.specs.Making.{are_plain}
-use Rattle.vmig_c.proofs.making.are_plain.Given as goal
-
-abbrev pub invariant-loop-shape : goal.invariant-loop-shape
-invariant-loop-shape l = are_plain (drop l.shape-index l.shapes) ≡ are_plain l.shapes

@@ -1,6 +1,0 @@
-use Rattle.std.proofs.Common.{◌≡◌, drop}
-use Rattle.vmig_c.specs.Named.{are_pages}
-use Rattle.vmig_c.proofs.mirror.are_pages.Given as goal
-
-abbrev pub invariant-loop-n : goal.invariant-loop-n
-invariant-loop-n l = are_pages l.count (drop l.n-index l.pages) ≡ are_pages l.count l.pages
