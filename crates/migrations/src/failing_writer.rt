@@ -1,6 +1,6 @@
 //! Migrations to a writer that takes some bytes and then fails, for each number of bytes.
 
-use crate::serving::{Way, serve, serve_and_abort};
+use crate::serving::{Served, Way, serve, serve_and_abort};
 use anyhow::{Context, Result, ensure};
 use machine::Machine;
 use scenarios::{TestDisk, are_same, arrived};
@@ -73,17 +73,32 @@ fn fails_at(
     flush_fails: bool,
 ) -> Result<()> {
     let mut place = vec![in alloc; 0; LEN]?;
-    let inner = WriteSink::new(place.as_mut_slice());
-    let writer = FaultWriter::new(inner, take as u64, flush_fails);
-    let machine = fresh_machine(alloc, trace)?;
-    let events = trace.events.as_slice();
-    let served = serve_and_abort(alloc, Way::Calls, machine, events, writer)?;
-    let told = lines_of(alloc, served.replies.as_slice())?;
-    let expected = lines_for(alloc, take)?;
-    ensure!(told == expected, "other replies after {take} bytes");
+    let served = served_into(alloc, trace, place.as_mut_slice(), take, flush_fails)?;
+    are_told(alloc, served.replies.as_slice(), take)?;
     let taken = place.get(..take).context("no room")?;
     ensure!(stream.starts_with(taken), "other bytes after {take} bytes");
     arrives_again(alloc, served.machine)
+}
+
+/// The machine after the events of the trace, sent to a writer that takes `take` bytes into this place.
+fn served_into(
+    alloc: Global,
+    trace: &Trace,
+    place: &mut [u8],
+    take: usize,
+    flush_fails: bool,
+) -> Result<Served> {
+    let writer = FaultWriter::new(WriteSink::new(place), take as u64, flush_fails);
+    let machine = fresh_machine(alloc, trace)?;
+    serve_and_abort(alloc, Way::Calls, machine, trace.events.as_slice(), writer)
+}
+
+/// Fails unless these are the replies where the writer takes `take` bytes.
+fn are_told(alloc: Global, replies: &[LiveReply], take: usize) -> Result<()> {
+    let told = lines_of(alloc, replies)?;
+    let expected = lines_for(alloc, take)?;
+    ensure!(told == expected, "other replies after {take} bytes");
+    Ok(())
 }
 
 /// The replies to the events where the writer takes `take` bytes.
@@ -110,9 +125,19 @@ fn arrives_again(alloc: Global, machine: Machine<TestDisk>) -> Result<()> {
     let writer = WriteSink::new(Vec::new(alloc));
     let events = trace.events.as_slice();
     let (mut served, writer) = serve(alloc, Way::Calls, machine, events, writer)?;
-    let told = lines_of(alloc, served.replies.as_slice())?;
-    ensure!(told.as_slice() == REPLIES_AGAIN, "other replies again");
     let stream = writer.into_inner();
-    let mut copy = arrived(alloc, stream.as_slice(), 0)?;
-    are_same(alloc, &mut served.machine, &mut copy)
+    is_told_again(alloc, served.replies.as_slice())?;
+    arrives_as(alloc, stream.as_slice(), &mut served.machine)
+}
+
+fn is_told_again(alloc: Global, replies: &[LiveReply]) -> Result<()> {
+    let told = lines_of(alloc, replies)?;
+    ensure!(told.as_slice() == REPLIES_AGAIN, "other replies again");
+    Ok(())
+}
+
+/// Fails if another machine arrives.
+fn arrives_as(alloc: Global, stream: &[u8], machine: &mut Machine<TestDisk>) -> Result<()> {
+    let mut copy = arrived(alloc, stream, 0)?;
+    are_same(alloc, machine, &mut copy)
 }

@@ -78,23 +78,25 @@ impl<'t> Migration<'t> {
 
     /// Fails where a leg is not answered as its lines say, by calls and by the list.
     fn is_answered(&self, alloc: Global, at: usize) -> Result<()> {
+        let mut served = self.serve(alloc, Way::Calls, at, usize::MAX)?;
+        self.is_told(alloc, at, &mut served)?;
+        if self.is_counted {
+            return Ok(());
+        }
+        let listed = self.serve(alloc, Way::List, at, usize::MAX)?;
+        is_as_listed(&served, &listed)
+    }
+
+    /// Fails where the replies to a leg, and what is asked among them, are not as its lines say.
+    fn is_told(&self, alloc: Global, at: usize, served: &mut Served) -> Result<()> {
         let leg = self.legs.get(at).context("no such lines")?;
-        let all = leg.events().len();
-        let mut served = self.serve(alloc, Way::Calls, at, all)?;
         let mut lines = Vec::new(alloc);
         for (events, reply) in served.replies.iter().enumerate() {
             self.answer(alloc, at, events, &mut lines)?;
             write_reply(reply, &mut lines)?;
         }
-        leg.answer(&mut served, all, &mut lines)?;
-        are_lines(lines.as_slice(), leg.lines())?;
-        if self.is_counted {
-            return Ok(());
-        }
-        let listed = self.serve(alloc, Way::List, at, all)?;
-        ensure!(listed.replies == served.replies, "other replies");
-        ensure!(listed.written == served.written, "other bytes");
-        Ok(())
+        leg.answer(served, leg.events().len(), &mut lines)?;
+        are_lines(lines.as_slice(), leg.lines())
     }
 
     /// Answers what is asked in the middle of a leg. The machine that is asked is not migrated further.
@@ -109,27 +111,36 @@ impl<'t> Migration<'t> {
 
     /// Fails if another machine arrives.
     fn arrives(&self, alloc: Global) -> Result<()> {
-        let last = self.legs.len().saturating_sub(1);
-        let Served {
-            mut machine,
-            replies,
-            written,
-            remaining: _,
-        } = self.serve(alloc, Way::Calls, last, usize::MAX)?;
+        let mut served = self.serve(alloc, Way::Calls, self.last(), usize::MAX)?;
         let mut alone = self.machine_alone(alloc)?;
-        are_same(alloc, &mut machine, &mut alone).context("alone")?;
-        let mut listed = self.serve(alloc, Way::List, last, usize::MAX)?.machine;
-        are_same(alloc, &mut machine, &mut listed).context("by the list")?;
-        let Some(rounds) = rounds_of(replies.as_slice()) else {
+        self.agree(alloc, &mut served, &mut alone)
+    }
+
+    fn last(&self) -> usize {
+        self.legs.len().saturating_sub(1)
+    }
+
+    /// Fails if the machine is another one than it is alone and by the list, or if it arrives as another one.
+    fn agree(
+        &self,
+        alloc: Global,
+        served: &mut Served,
+        alone: &mut Machine<TestDisk>,
+    ) -> Result<()> {
+        are_same(alloc, &mut served.machine, alone).context("alone")?;
+        self.is_listed_alike(alloc, &mut served.machine)?;
+        let Some(rounds) = rounds_of(served.replies.as_slice()) else {
             return Ok(());
         };
-        self.is_sent_as(alloc, written.as_slice())?;
-        for size in PIECES {
-            let mut copy = arrived_in_pieces(alloc, written.as_slice(), rounds, size)?;
-            are_same(alloc, &mut machine, &mut copy).context("in pieces")?;
-        }
-        let copy = arrived(alloc, written.as_slice(), rounds)?;
-        self.go_on(alloc, machine, copy, alone)
+        self.is_sent_as(alloc, served.written.as_slice())?;
+        pieces_arrive(alloc, served, rounds)?;
+        let mut copy = arrived(alloc, served.written.as_slice(), rounds)?;
+        self.go_on(alloc, &mut served.machine, &mut copy, alone)
+    }
+
+    fn is_listed_alike(&self, alloc: Global, machine: &mut Machine<TestDisk>) -> Result<()> {
+        let mut listed = self.serve(alloc, Way::List, self.last(), usize::MAX)?;
+        are_same(alloc, machine, &mut listed.machine).context("by the list")
     }
 
     fn is_sent_as(&self, alloc: Global, written: &[u8]) -> Result<()> {
@@ -157,18 +168,33 @@ impl<'t> Migration<'t> {
     fn go_on(
         &self,
         alloc: Global,
-        mut machine: Machine<TestDisk>,
-        mut copy: Machine<TestDisk>,
-        mut alone: Machine<TestDisk>,
+        machine: &mut Machine<TestDisk>,
+        copy: &mut Machine<TestDisk>,
+        alone: &mut Machine<TestDisk>,
     ) -> Result<()> {
-        are_same(alloc, &mut machine, &mut copy).context("as it arrived")?;
-        plays_on(alloc, &mut machine, self.after).context("the source, then")?;
-        plays_on(alloc, &mut copy, self.after).context("what arrived, then")?;
-        plays_on(alloc, &mut alone, self.after).context("alone, then")?;
-        are_same(alloc, &mut machine, &mut copy).context("what arrived, in the end")?;
-        are_same(alloc, &mut machine, &mut alone).context("alone, in the end")?;
-        is_received_as_saved(alloc, &mut machine).context("saved, in the end")
+        are_same(alloc, machine, copy).context("as it arrived")?;
+        plays_on(alloc, machine, self.after).context("the source, then")?;
+        plays_on(alloc, copy, self.after).context("what arrived, then")?;
+        plays_on(alloc, alone, self.after).context("alone, then")?;
+        are_same(alloc, machine, copy).context("what arrived, in the end")?;
+        are_same(alloc, machine, alone).context("alone, in the end")?;
+        is_received_as_saved(alloc, machine).context("saved, in the end")
     }
+}
+
+fn is_as_listed(served: &Served, listed: &Served) -> Result<()> {
+    ensure!(listed.replies == served.replies, "other replies");
+    ensure!(listed.written == served.written, "other bytes");
+    Ok(())
+}
+
+/// Fails if another machine arrives in pieces of some size.
+fn pieces_arrive(alloc: Global, served: &mut Served, rounds: u32) -> Result<()> {
+    for size in PIECES {
+        let mut copy = arrived_in_pieces(alloc, served.written.as_slice(), rounds, size)?;
+        are_same(alloc, &mut served.machine, &mut copy).context("in pieces")?;
+    }
+    Ok(())
 }
 
 /// Fails if a machine is saved as the stream of another one.

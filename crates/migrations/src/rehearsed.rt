@@ -116,29 +116,33 @@ fn arrives<E: Disk + Drop>(
     let machine = Machine::new(alloc, trace.pages, shapes, own)?;
     match rehearse(alloc, machine, trace.events.as_slice(), disks, cuts) {
         Rehearsal::Arrived {
-            source,
-            arrived,
+            mut source,
+            mut arrived,
             replies,
             arrived_replies,
         } => {
-            let lines = lines_of(alloc, replies.as_slice())?;
-            are_lines(lines.as_slice(), script.replies())?;
+            are_replies_of(alloc, script, replies.as_slice())?;
             answered_alike(replies.as_slice(), arrived_replies.as_slice())?;
-            are_saved_alike(alloc, source, arrived)
+            are_saved_alike(alloc, &mut source, &mut arrived)
         }
         Rehearsal::NotStopped { .. } => bail!("no stop"),
         Rehearsal::Refused { error, .. } => bail!("{error}"),
     }
 }
 
-fn are_saved_alike<D: Disk + Drop, E: Disk + Drop>(
+fn are_saved_alike<D: Disk, E: Disk>(
     alloc: Global,
-    mut one: Machine<D>,
-    mut other: Machine<E>,
+    one: &mut Machine<D>,
+    other: &mut Machine<E>,
 ) -> Result<()> {
-    let stream = saved(alloc, &mut one)?;
-    ensure!(stream == saved(alloc, &mut other)?, "saved otherwise");
+    let stream = saved(alloc, one)?;
+    ensure!(stream == saved(alloc, other)?, "saved otherwise");
     Ok(())
+}
+
+fn are_replies_of(alloc: Global, script: &Script, replies: &[LiveReply]) -> Result<()> {
+    let lines = lines_of(alloc, replies)?;
+    are_lines(lines.as_slice(), script.replies())
 }
 
 /// The lines of replies.
