@@ -52,17 +52,30 @@ fn holds(alloc: Global, stream: &str, told: &str) -> Result<()> {
     for size in PIECES {
         let disks = disks_by(alloc, "", streams.whole())?;
         let mut receiver = Receiver::new(alloc, disks);
-        let mut fed = 0usize;
-        for (place, count) in places.iter().zip(counts.iter()) {
-            let part = streams.whole().get(fed..*place).context("an offset")?;
-            feed_in_pieces(&mut receiver, part, size)?;
-            let held = receiver.held();
-            ensure!(
-                held == *count as u64,
-                "{held} of {place} in pieces of {size}"
-            );
-            fed = *place;
-        }
+        let expected = (places.as_slice(), counts.as_slice());
+        holds_at(&mut receiver, streams.whole(), expected, size)?;
+    }
+    Ok(())
+}
+
+/// Fails if a receiver that is fed the stream in pieces of `size` bytes holds, at one of these offsets, another number of bytes than the one
+/// beside it.
+fn holds_at(
+    receiver: &mut Receiver<TestDisk>,
+    stream: &[u8],
+    expected: (&[usize], &[usize]),
+    size: usize,
+) -> Result<()> {
+    let mut fed = 0usize;
+    for (place, count) in expected.0.iter().zip(expected.1.iter()) {
+        let part = stream.get(fed..*place).context("an offset")?;
+        feed_in_pieces(receiver, part, size)?;
+        let held = receiver.held();
+        ensure!(
+            held == *count as u64,
+            "{held} of {place} in pieces of {size}"
+        );
+        fed = *place;
     }
     Ok(())
 }
