@@ -171,7 +171,7 @@ static vmig_status send_take(vmig_machine *m, int bad) { size_t got; return vmig
 #define OF_SENDER(DONE) {NO_MACHINE_YET, VMIG_NOT_SENDING, DONE, VMIG_SEND_FAILED, VMIG_STOPPED, WHILE_LENT}
 #define OF_SENT(DONE) {NO_MACHINE_YET, VMIG_NOT_SENDING, DONE, DONE, DONE, WHILE_LENT}
 
-/* A call that makes a machine, or goes on with one that arrives. */
+/* A call that makes a machine, or continues one that arrives. */
 #define IN_USE_7 VMIG_IN_USE, VMIG_IN_USE, VMIG_IN_USE, VMIG_IN_USE, VMIG_IN_USE, VMIG_IN_USE, VMIG_IN_USE
 #define OF_NONE {VMIG_OK, VMIG_IN_USE, VMIG_IN_USE, IN_USE_7}
 #define OF_ARRIVAL {VMIG_NO_MACHINE, VMIG_OK, VMIG_STREAM_FAILED, IN_USE_7}
