@@ -67,19 +67,22 @@
  *     describe, free           .           .                 .            .            .            .
  *     release                  NO_MACHINE  .                 .            .            .            LENT
  *     reg_read, reg_write,
- *       ram_write, input,
- *       resize, drop, reset,
- *       next, step, push,
- *       sync_failed, lend      NO_MACHINE  NO_MACHINE        .            .            STOPPED      LENT
- *     ram_read, pull, room     NO_MACHINE  NO_MACHINE        .            .            .            LENT
+ *       input, resize, drop,
+ *       reset, next,
+ *       sync_failed            NO_MACHINE  NO_MACHINE        .            .            STOPPED      .
+ *     room                     NO_MACHINE  NO_MACHINE        .            .            .            .
+ *     step, work, ram_write,
+ *       mark, push, lend       NO_MACHINE  NO_MACHINE        .            .            STOPPED      LENT
+ *     ram_read, pull           NO_MACHINE  NO_MACHINE        .            .            .            LENT
  *     lines                    0           0                 .            .            .            .
+ *     written                  NO_MACHINE  NO_MACHINE        .            .            .            .
  *     give_back                NO_MACHINE  NO_MACHINE        NOT_LENT     NOT_LENT     NOT_LENT     .
  *     sector_read, save        NO_MACHINE  NO_MACHINE        .            SENDING      SENDING      LENT
  *     send_begin               NO_MACHINE  NO_MACHINE        .            SENDING      STOPPED      LENT
  *     send_some, send_round,
  *       send_stop              NO_MACHINE  NO_MACHINE        NOT_SENDING  .            STOPPED      LENT
- *     send_abort, send_left    NO_MACHINE  NO_MACHINE        NOT_SENDING  .            .            LENT
- *     send_take                NO_MACHINE  NO_MACHINE        NOT_SENDING  .            .            as not lent
+ *     send_abort               NO_MACHINE  NO_MACHINE        NOT_SENDING  .            .            LENT
+ *     send_left, send_take     NO_MACHINE  NO_MACHINE        NOT_SENDING  .            .            as not lent
  *
  *     (1) After VMIG_SEND_FAILED too, where send_begin, send_some, send_round and send_stop are SEND_FAILED.
  *     (2) A machine that is idle or sending, and whose RAM is out.
@@ -90,35 +93,37 @@
  *
  * A TURN OF THE DEVICES, after each register write and each vmig_input, before the guest runs again. With RAM that is not lent:
  *
- *     static uint8_t dev, pick;                              of this machine: they stay from turn to turn
+ *     static vmig_turn turn = VMIG_TURN;                     of this machine: it stays from turn to turn
  *
  *     static vmig_status do_work(vmig_machine *m)            VMIG_IDLE: nothing is left to do. VMIG_WORK: there is more
  *     {
  *         static uint8_t buf[VMIG_SENT_MAX];
  *         uint32_t len = 0;
+ *         vmig_status s;
  *
- *         for (int left = 1000; left > 0; left--) {          a guest can give its devices work without end: bound the turn
- *             vmig_status s = vmig_next(m, &dev, &pick);
- *             if (s == VMIG_IDLE || vmig_refused(s)) return s;
- *             if (s == VMIG_SYNC && !bring_to_its_file(dev)) s = vmig_sync_failed(m, dev);         for good: see there
- *             else s = vmig_step(m, dev, pick, buf, sizeof buf, &len);
- *             if (vmig_refused(s)) return s;                 VMIG_NO_MEMORY: nothing changed. Let the guest run, and come again
- *             if (s == VMIG_SENT) hand_on(dev, buf, len);    before the next step, which overwrites it
- *             if (s == VMIG_COMPLETED && is_entropy(dev)) put_in_as_many_random_bytes(dev, len);
- *             tell_the_controller(vmig_lines(m));            of what changed, and of nothing else
- *         }
- *         return VMIG_WORK;
+ *         turn.left = 1000;                                  a guest can give its devices work without end: bound the turn
+ *         do {
+ *             s = vmig_work(m, &turn, buf, sizeof buf);
+ *             if (s == VMIG_SENT) hand_on(turn.dev, buf, turn.len);        before the next call, which overwrites it
+ *             if (s == VMIG_COMPLETED) put_in_as_many_random_bytes(turn.dev, turn.len);
+ *             if (s == VMIG_SYNC && !bring_to_its_file(turn.dev)) s = vmig_sync_failed(m, turn.dev);     for good: see there
+ *             else if (s == VMIG_SYNC) s = vmig_step(m, turn.dev, turn.pick, buf, sizeof buf, &len);
+ *         } while (s != VMIG_IDLE && s != VMIG_WORK && !vmig_refused(s));
+ *         tell_the_controller(vmig_lines(m));                of what changed, and of nothing else
+ *         if (s == VMIG_NO_MEMORY) s = vmig_next(m, &turn.dev, &turn.pick);     nothing changed: the next turn lets others go first
+ *         return s;
  *     }
  *
- * It ends whatever the guest and the disks do, and no device keeps the others from their work, as the next turn begins after the
- * last step that was named. A step raises lines and lowers none, so one look at them after the turn, before the guest runs, is as
- * good as one after each step. Do a console's steps before the register write returns to the guest: Linux waits for them with
- * interrupts off.
+ * It ends whatever the guest and the disks do, as each step counts, also one that is passed over; and no device keeps the others
+ * from their work, as the next turn begins after the last step of this one. A step raises lines and lowers none, so one look at
+ * them after the turn, before the guest runs, is as good as one after each step. Do a console's steps before the register write
+ * returns to the guest: Linux waits for them with interrupts off. A host that holds a device back, as for a rate, makes its steps
+ * singly, by vmig_next and vmig_step.
  *
  * DISKS IN YOUR MEMORY, as in a file that you mapped: a vmig_image says where the sectors of a disk are. What the guest writes is
  * there at once. From vmig_make or vmig_arrive until vmig_free or vmig_release the bytes are the machine's: nothing else reads or
  * writes them, and they stay mapped, at their address. A guest's flush does not reach the file: that is an msync of yours, before
- * each step of which vmig_next says VMIG_SYNC.
+ * each step of which vmig_next or vmig_work says VMIG_SYNC.
  * - Each image is a map of its own, MAP_SHARED, whose first byte is at a multiple of the system's page. Every block of the file is
  *   allocated before it is mapped (posix_fallocate), and the file is not cut: a store into a hole of a full file system, or past
  *   the end of the file, ends your process by SIGBUS, and a guest's write is such a store.
@@ -129,23 +134,27 @@
  *   two rounds failed, the machine does not run here: free it, and the source continues.
  *
  * RAM OF YOURS, as under hardware virtualization: the guest runs on memory of yours, and its devices read and write the same bytes:
- * nothing is copied. vmig_lend lends RAM to you, and you run the guest; vmig_give_back takes it back with the numbers of the pages
- * that were written:
+ * nothing is copied. vmig_lend lends RAM to you, and you run the guest; registers are served while it is lent, and so is what you
+ * put in; vmig_give_back takes RAM back for the devices' work:
  *
  *     vmig_ram ram = VMIG_NO_RAM;
  *     for (;;) {
- *         vmig_pages written = VMIG_NO_PAGES;
+ *         vmig_pages none = VMIG_NO_PAGES;
  *         if (vmig_lend(m, &ram) != VMIG_OK) return;
- *         run_guest(ram.at, ram.len);                        until it touches a device; then all its processors are outside
- *         read_dirty_log(&written);                          each page that the guest, or you, wrote since it was last read
- *         if (vmig_give_back(m, &ram, &written) != VMIG_OK) return;
- *         access_register(m);                                by vmig_reg_write or vmig_reg_read: why the guest came out
+ *         while (!has_work(m)) {                             vmig_next names a step, for a register write kicked a queue
+ *             run_guest(ram.at, ram.len);                    until one of its processors touches a device
+ *             access_register(m);                            by vmig_reg_write or vmig_reg_read; the others go on running
+ *         }
+ *         bring_all_processors_out();
+ *         if (vmig_give_back(m, &ram, &none) != VMIG_OK) return;
  *         do_work(m);
  *     }
  *
- * Every processor of the guest is outside while RAM is not lent, for the devices write into it then. The devices see what was
- * written at once, but a page is sent anew only once it is named: read the log once more before vmig_send_round and before
- * vmig_send_stop, and name what is in it. Who may touch the bytes, to read or to write them:
+ * Every processor of the guest is outside while RAM is not lent, for the devices write into it then: for steps, copies, the end of
+ * a round, the stop and RAM's own calls, and for nothing else. The devices see what was written at once, but a page is sent anew
+ * only once it is named: at a return, or by vmig_mark, which is given a log of dirty pages as it is. None needs a name before
+ * vmig_send_begin; each that was written needs one before vmig_send_round and before vmig_send_stop. vmig_send_left counts what was
+ * named: so mark, then ask what is left, then decide. Who may touch the bytes, to read or to write them:
  *
  *                         before make, arrive  idle, sending  lent  stopped  arriving, failed  after free, release
  *     you and the guest   yes                  no             yes   no       no                yes
@@ -178,14 +187,14 @@
  *
  * WHAT TAKES MEMORY from malloc: vmig_make, for devices, for RAM and disks where they are not yours, for a bit for each sector of
  * an image, and for 8 bytes for each page; vmig_arrive, for lists of the images and shapes, and for 8 bytes for each page of RAM
- * that is yours; vmig_feed, for the first bytes until the header is whole, fewer than 1,024, for a buffer of 128 KiB, in which the
- * front of a record waits for the rest, and, as soon as the header is whole and within the limits, for what vmig_make takes;
- * vmig_stream_describe, for a list of sixteen shapes, for the time of the call; vmig_save, for the whole stream, for the time of
- * the call; vmig_step, for a chain of more than four descriptors, or a message longer than those before it; vmig_give_back and
- * vmig_push with a bitmap or with all pages, for 4 bytes for each page that they name, which are kept for the next such call;
- * vmig_send_begin, for two bits for each page and sector; and vmig_send_begin, vmig_send_some, vmig_send_round and vmig_send_stop
- * for what they write, which waits until it is taken: a stop of a machine of which nothing was copied before writes the whole
- * machine. No other call does. */
+ * that is yours; both for 2 KiB where VMIG_LOG is asked for; vmig_feed, for the first bytes until the header is whole, fewer than
+ * 1,024, for a buffer of 128 KiB, in which the front of a record waits for the rest, and, as soon as the header is whole and within
+ * the limits, for what vmig_make takes; vmig_stream_describe, for a list of sixteen shapes, for the time of the call; vmig_save,
+ * for the whole stream, for the time of the call; vmig_step and vmig_work, for a chain of more than four descriptors, or a message
+ * longer than those before it; vmig_give_back, vmig_mark and vmig_push with a bitmap or with all pages, for 4 bytes for each page
+ * that they name, which are kept for the next such call; vmig_send_begin, for two bits for each page and sector; and
+ * vmig_send_begin, vmig_send_some, vmig_send_round and vmig_send_stop for what they write, which waits until it is taken: a stop of
+ * a machine of which nothing was copied before writes the whole machine. No other call does. */
 #ifndef VMIG_H
 #define VMIG_H
 
@@ -254,7 +263,7 @@ enum {
     VMIG_NOT_LENT = 24,                 /* RAM is in */
     VMIG_NOT_YOURS = 25,                /* RAM is in memory of the library, and is never lent */
     VMIG_BAD_RAM = 26,                  /* not 1 to 16,384 whole pages, or not as asked for or lent; lend: not VMIG_NO_RAM */
-    VMIG_NOT_KNOWN = 27,                /* a struct of another version, a flag, or a word that has to be 0 */
+    VMIG_NOT_KNOWN = 27,                /* a struct of another version, a flag, or a word that has to be 0; or no VMIG_LOG */
     VMIG_BAD_BASE = 30,                 /* not a multiple of 4,096, or RAM would reach past the last address */
 
     /* Refused: what arrives. The arrival is over, and the handle waits for vmig_free or vmig_release. */
@@ -278,7 +287,7 @@ enum {
     VMIG_STREAM_TOO_LARGE = 49,         /* at the header, before memory is taken: more than the arrival allows */
 
     /* Done, and this was done. */
-    VMIG_IDLE = 65,                     /* step: nothing to do; next: no step has anything to do */
+    VMIG_IDLE = 65,                     /* step: nothing to do; next, work: no step has anything to do */
     VMIG_TAKEN = 66,                    /* a block device took a request */
     VMIG_MOVED = 67,                    /* one unit of a request is done: a sector, a flush or the id */
     VMIG_BAD_SECTOR = 68,               /* the sector is bad: the request will end with an error; sector_read: it has no bytes */
@@ -289,9 +298,9 @@ enum {
     VMIG_NEEDS_RESET = 73,              /* the guest's chain is malformed; the device asks its driver for a reset */
     VMIG_ROUND_DONE = 76,               /* send_some: nothing is due any more in this round */
     VMIG_ROUND_OPEN = 77,               /* send_round: something is still due, and the round stays open */
-    VMIG_WORK = 78,                     /* next: the step that it names has something to do */
+    VMIG_WORK = 78,                     /* next: the step that it names has something to do; work: there is more to do */
     VMIG_MORE = 79,                     /* stream_describe: the header is not whole; save: the stream is longer than size */
-    VMIG_SYNC = 80,                     /* next: the step that it names needs its disk durable before */
+    VMIG_SYNC = 80,                     /* next, work: the step that it names needs its disk durable before */
     VMIG_WHOLE = 82                     /* feed: the stream has ended, and is right: call vmig_finish */
 };
 
@@ -387,12 +396,15 @@ typedef struct vmig_setup {
                                          * is past the last address. All addresses of the guest count from there: those that a
                                          * driver writes into registers and descriptors, and those of vmig_ram_read and
                                          * vmig_ram_write */
-    uint32_t flags;                     /* 0 */
+    uint32_t flags;                     /* VMIG_LOG, or 0 */
     uint32_t block;                     /* 0 */
     uint64_t reserved[4];               /* 0 */
 } vmig_setup;
 
 #define VMIG_SETUP {1, 0, VMIG_NULL_, 0, VMIG_NULL_, 0, VMIG_NULL_, 0, VMIG_NO_RAM, 0, 0, 0, {0, 0, 0, 0}}
+
+/* A flag: the pages that calls write are logged, for vmig_written. It takes 2 KiB, and some instructions more a step. */
+#define VMIG_LOG 2u
 
 /* A machine that arrives. Begin with VMIG_ARRIVAL: it allows nothing until you say what. VMIG_OK takes RAM and images, as above. */
 typedef struct vmig_arrival {
@@ -413,7 +425,7 @@ typedef struct vmig_arrival {
                                          * the stream does not say. With another one the addresses in it can be out of RAM: then it
                                          * is refused, else the driver finds its rings at other bytes. A multiple of 4,096. RAM of
                                          * the library that would reach past the last address is VMIG_STREAM_MISMATCH */
-    uint32_t flags;                     /* 0 */
+    uint32_t flags;                     /* VMIG_LOG, or 0 */
     uint32_t frame;                     /* 0 */
     uint64_t most_outside;              /* 0 */
     uint32_t block, zero;               /* 0 */
@@ -429,7 +441,7 @@ typedef struct vmig_description {
     uint32_t pages;                     /* of RAM; of what arrives from its header on, and 0 once it has failed */
     uint32_t count;                     /* of devices; likewise */
     uint64_t base;                      /* of RAM; of a stream 0, which does not say it */
-    uint32_t flags;                     /* 0 */
+    uint32_t flags;                     /* those that it was made, or let arrive, with: VMIG_LOG, or 0 */
     uint32_t calls_out;                 /* 0 */
     uint32_t rounds;                    /* sending: the number of the round that is open; arriving: how many have ended */
     uint32_t fault;                     /* failed, send failed: the status that was answered first */
@@ -494,7 +506,7 @@ vmig_status vmig_reg_write(vmig_machine *m, uint8_t dev, uint32_t off, uint8_t w
     VMIG_CHECKED_(1, 6);
 
 /* The interrupt lines, level triggered: bit d is set while device d has an interrupt that its driver has not acknowledged; 0 of no
- * machine, and of a lent one what it was before. No status. Read them after each call that may change them: a register write, a
+ * machine. No status. Read them after each call that may change them: a register write, a
  * step, a resize, a reset. Tell a controller of changes alone: some take a level that is told again for another interrupt. */
 uint32_t vmig_lines(const vmig_machine *m) VMIG_NONNULL_(1);
 
@@ -543,14 +555,35 @@ vmig_status vmig_next(const vmig_machine *m, uint8_t *dev, uint8_t *pick) VMIG_C
  * console, and 0 for a block or entropy device and for each pick but 1), NO_MEMORY. */
 vmig_status vmig_step(vmig_machine *m, uint8_t dev, uint8_t pick, uint8_t *buf, size_t size, uint32_t *len) VMIG_CHECKED_(1, 6);
 
+/* A turn of the devices. Begin with VMIG_TURN, keep it with the machine, and set `left` before each turn. */
+typedef struct vmig_turn {
+    uint8_t dev, pick;                  /* the step that was made or passed over last; the next one in turn comes after it */
+    uint16_t zero;
+    uint32_t left;                      /* how many steps may still be made or passed over; each of them counts it down */
+    uint32_t len;                       /* of SENT and COMPLETED: as vmig_step's *len */
+    uint32_t zero2;
+    uint64_t reserved[2];
+} vmig_turn;
+
+#define VMIG_TURN {0, 0, 0, 0, 0, 0, {0, 0}}
+
+/* The steps that vmig_next names, one after another, as vmig_step makes them, until one of these comes. Call it again to go on.
+ * VMIG_IDLE: no step has anything to do. VMIG_WORK: there is more to do; `left` is 0, or memory was refused to a step that was not
+ * the first of this call: that one is made by the next call. VMIG_SYNC: a step was passed over, see vmig_next; bring the disk to
+ * its file, and make the step by vmig_step, or call vmig_sync_failed. SENT, DROPPED, NEEDS_RESET, BAD_SECTOR, DISK_FAILED, and
+ * COMPLETED of an entropy device, which has room for bytes now: of the step `dev`, `pick`, which was made last.
+ * NOT_KNOWN (of the turn), TOO_SMALL (size is less than vmig_describe's message), NO_MEMORY (of the first step, and then nothing
+ * has changed; to let others go first, let vmig_next set dev and pick). */
+vmig_status vmig_work(vmig_machine *m, vmig_turn *turn, uint8_t *buf, size_t size) VMIG_CHECKED_(1, 2);
+
 /* The disk of this device could not be brought to its file: it is lost. That is for good: the system reports bytes that did not
  * reach the storage once, and the next sync answers 0 though they are gone. From here on each step that makes a flush is made as
  * one whose disk failed (DISK_FAILED), so the guest reads an error. A step that would end a write of a driver that did not accept
- * FLUSH is named and made no more (vmig_next passes it over, vmig_step is IDLE), so the guest reads no success. vmig_next says
- * VMIG_SYNC of this disk no more, and every other step is as ever. End the guest soon, or move it: a move sends what the page cache
- * still has. Make no machine over that file again: who opens it later gets no report. The disk stays lost until the machine is
- * freed, through vmig_reset and a driver's reset too, and in no stream: what arrives lies in another file. It is the call also for
- * a sync of your own that failed without a step.
+ * FLUSH is named and made no more (vmig_next and vmig_work pass it over, vmig_step is IDLE), so the guest reads no success. None of
+ * them says VMIG_SYNC of this disk any more, and every other step is as ever. End the guest soon, or move it: a move sends what the
+ * page cache still has. Make no machine over that file again: who opens it later gets no report. The disk stays lost until the
+ * machine is freed, through vmig_reset and a driver's reset too, and in no stream: what arrives lies in another file. It is the
+ * call also for a sync of your own that failed without a step.
  * NO_DEVICE, WRONG_KIND (it has no disk). */
 vmig_status vmig_sync_failed(vmig_machine *m, uint8_t dev) VMIG_CHECKED_(1);
 
@@ -574,12 +607,25 @@ vmig_status vmig_lend(vmig_machine *m, vmig_ram *ram) VMIG_CHECKED_(1, 2);
 /* Takes RAM back, with all the guest's processors outside; *ram is VMIG_NO_RAM then. Its address may be another, if the bytes moved
  * there: RAM lies there from then on. `written` names the pages that the guest or you wrote meanwhile: the machine takes each for
  * written whole, so a machine that is being sent sends it anew. A page that was written and is named neither here nor at a later
- * return, before the next vmig_send_round or vmig_send_stop, is lost at the target: nothing checks it. Before vmig_send_begin none
- * needs a name, but for vmig_pull. A list takes no memory, and time for its pages alone; a bitmap one look for each word and each
- * page that is marked.
+ * return nor by vmig_mark, before the next vmig_send_round or vmig_send_stop, is lost at the target: nothing checks it. Before
+ * vmig_send_begin none needs a name, but for vmig_pull. A list takes no memory, and time for its pages alone; a bitmap one look for
+ * each word and each page that is marked.
  * NOT_KNOWN, BAD_RAM (another length than what was lent), TOO_SMALL, OUT_OF_RAM (no such page), NO_MEMORY (a bitmap, or all). After
  * a refusal RAM is still lent. */
 vmig_status vmig_give_back(vmig_machine *m, vmig_ram *ram, const vmig_pages *written) VMIG_CHECKED_(1, 2, 3);
+
+/* Names pages that were written while RAM was lent, and not named when it came back, as vmig_give_back does: each is taken for
+ * written whole, with the bytes that lie there. Pages may be named in pieces, and more of them than were written.
+ * NOT_KNOWN, TOO_SMALL, OUT_OF_RAM (no such page), NO_MEMORY (a bitmap, or all). */
+vmig_status vmig_mark(vmig_machine *m, const vmig_pages *written) VMIG_CHECKED_(1, 2);
+
+/* Hands out the numbers of the pages that vmig_step, vmig_ram_write and vmig_push wrote, also with the same bytes, and that were
+ * not handed out yet: ascending, at most size of them, and it forgets these. *count of them are at the front of pages, and what is
+ * after them is as it was; where *count is less than size, they were all. Exactly these: none that vmig_give_back or vmig_mark
+ * named, and none that arrived. For a host that translates code, keeps a dirty log of its own, or shows a frame buffer. It takes no
+ * memory.
+ * NOT_KNOWN (it was made, or let arrive, without VMIG_LOG). */
+vmig_status vmig_written(vmig_machine *m, uint32_t *pages, size_t size, size_t *count) VMIG_CHECKED_(1, 4);
 
 /* RAM that is mirrored: the machine's page n becomes the 4,096 bytes at ram + 4096 * n, for each page that is named, as if the
  * guest wrote it whole, so a machine that is being sent sends it anew; and seen[n] becomes its version. ram has len bytes and seen

@@ -107,6 +107,7 @@ public:
     {
         return status{vmig_step(&held, dev, pick, buf, size, len)};
     }
+    status work(vmig_turn *turn, std::uint8_t *buf, std::size_t size) { return status{vmig_work(&held, turn, buf, size)}; }
     status sync_failed(std::uint8_t dev) { return status{vmig_sync_failed(&held, dev)}; }
     status sector_read(std::uint8_t dev, std::uint64_t sector, std::uint8_t (&buf)[512]) const
     {
@@ -124,6 +125,11 @@ public:
     /* Lends RAM: if it is ok the machine is in *loan, in the place of what was there, and this is none until it comes back. */
     status lend(lent *loan) &&;
 
+    status mark(const vmig_pages &written) { return status{vmig_mark(&held, &written)}; }
+    status written(std::uint32_t *pages, std::size_t size, std::size_t *count)
+    {
+        return status{vmig_written(&held, pages, size, count)};
+    }
     status push(const vmig_pages &written, const std::uint8_t *ram, std::size_t len, std::uint64_t *seen, std::size_t count)
     {
         return status{vmig_push(&held, &written, ram, len, seen, count)};
@@ -153,8 +159,8 @@ private:
     vmig_machine held = VMIG_NONE;
 };
 
-/* A machine whose RAM is lent, or none: the bytes of RAM, and the calls that such a machine has an answer for. For the others it
- * comes back. It is freed with its owner, and can be moved. */
+/* A machine whose RAM is lent, or none: the bytes of RAM, and the calls that need no byte of it. For the others it comes back. It is
+ * freed with its owner, and can be moved. */
 class lent {
 public:
     lent() noexcept = default;
@@ -170,8 +176,28 @@ public:
     std::uint8_t *data() const noexcept { return static_cast<std::uint8_t *>(ram.at); }
     std::size_t size_bytes() const noexcept { return ram.len; }
 
-    std::uint32_t lines() const { return held.lines(); }
     vmig_description describe() const { return held.describe(); }
+    status reg_read(std::uint8_t dev, std::uint32_t off, std::uint8_t width, std::uint32_t *value) const
+    {
+        return held.reg_read(dev, off, width, value);
+    }
+    status reg_write(std::uint8_t dev, std::uint32_t off, std::uint8_t width, std::uint32_t value, std::uint32_t *byte)
+    {
+        return held.reg_write(dev, off, width, value, byte);
+    }
+    std::uint32_t lines() const { return held.lines(); }
+    status input(std::uint8_t dev, const std::uint8_t *bytes, std::size_t len, std::size_t *kept)
+    {
+        return held.input(dev, bytes, len, kept);
+    }
+    status room(std::uint8_t dev, std::size_t *left) const { return held.room(dev, left); }
+    status resize(std::uint8_t dev, std::uint16_t cols, std::uint16_t rows) { return held.resize(dev, cols, rows); }
+    status drop(std::uint8_t dev) { return held.drop(dev); }
+    status reset() { return held.reset(); }
+    status next(std::uint8_t *dev, std::uint8_t *pick) const { return held.next(dev, pick); }
+    status sync_failed(std::uint8_t dev) { return held.sync_failed(dev); }
+    status written(std::uint32_t *pages, std::size_t size, std::size_t *count) { return held.written(pages, size, count); }
+    status send_left(vmig_left *left) const { return held.send_left(left); }
     status send_take(std::uint8_t *buf, std::size_t size, std::size_t *got) { return held.send_take(buf, size, got); }
 
     /* Gives RAM back: if it is ok the machine is in *back, in the place of what was there, and this is none. */

@@ -234,29 +234,21 @@ static inline void set_up(vmig_machine *m, uint32_t queues)
     set_up_with(m, queues, 0);
 }
 
-/* Whether a step has something to do, which *dev and *pick name then. A disk in memory of the library needs no sync before it. */
-static inline int has_work(const vmig_machine *m, uint8_t *dev, uint8_t *pick)
-{
-    vmig_status status = vmig_next(m, dev, pick);
-    return status == VMIG_WORK || status == VMIG_SYNC;
-}
-
-/* Makes each step that has something to do, until none has. Returns the number of steps. */
+/* A turn of the devices, until no step has anything to do. Messages are not looked at. Returns the number of steps. */
 static inline uint32_t serve(vmig_machine *m)
 {
+    enum { MOST = 1000 };
     static uint8_t buf[VMIG_SENT_MAX];
-    uint8_t dev = 0, pick = 0;
-    uint32_t len, steps = 0;
+    vmig_turn turn = VMIG_TURN;
+    vmig_status status;
 
-    while (has_work(m, &dev, &pick)) {
-        vmig_status status = vmig_step(m, dev, pick, buf, sizeof buf, &len);
-        if (vmig_refused(status)) {
-            expect("a step of its work", status, VMIG_COMPLETED);
-            break;
-        }
-        steps++;
-    }
-    return steps;
+    turn.left = MOST;
+    do {
+        status = vmig_work(m, &turn, buf, sizeof buf);
+        if (status == VMIG_SYNC) status = vmig_step(m, turn.dev, turn.pick, buf, sizeof buf, &turn.len);
+    } while (status != VMIG_IDLE && status != VMIG_WORK && !vmig_refused(status));
+    expect("no step is left", status, VMIG_IDLE);
+    return MOST - turn.left;
 }
 
 /* The driver of an entropy device asks for 16 bytes, as its `count`-th chain. Returns the used length. */

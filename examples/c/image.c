@@ -7,9 +7,6 @@ enum { HEADER = 0x7000, OUTCOME = 0x7100, READ = 0, WRITE = 1, FIRST = 3, SECOND
 /* One request of one sector of the first disk, as a driver makes it. Returns the status that the device wrote. */
 static uint64_t request(vmig_machine *m, uint32_t count, uint32_t type, uint64_t sector)
 {
-    uint32_t len = 77;
-    uint8_t none[1];
-
     put(m, HEADER, type, 4);
     put(m, HEADER + 4, 0, 4);
     put(m, HEADER + 8, sector, 8);
@@ -18,9 +15,7 @@ static uint64_t request(vmig_machine *m, uint32_t count, uint32_t type, uint64_t
     describe(m, 0, 1, DATA, SECTOR, HAS_NEXT | (type == READ ? WRITABLE : 0), 2);
     describe(m, 0, 2, OUTCOME, 1, WRITABLE, 0);
     offer(m, 0, count, 0);
-    expect("taken", vmig_step(m, 0, 0, none, 0, &len), VMIG_TAKEN);
-    expect("moved", vmig_step(m, 0, 1, none, 0, &len), VMIG_MOVED);
-    expect("completed", vmig_step(m, 0, 1, none, 0, &len), VMIG_COMPLETED);
+    serve(m);
     return get(m, OUTCOME, 1);
 }
 

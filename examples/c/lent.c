@@ -1,9 +1,10 @@
 /* A guest that writes its RAM itself, as under hardware virtualization: RAM is memory of this program, which is lent while the
- * guest runs, and given back with the pages that it wrote, at the latest before a round ends and before the stop. It moves live a
- * hundred times, in ways that a seeded generator draws, into other memory of this program. Its twin never moves, has RAM in the
- * library, and is handed each page that the guest wrote. Both answer alike all the time, and after each move RAM and disk are the
- * same. In every tenth move one page that the guest wrote is left out of the log, after it was sent: then this page, and no
- * other, is not the same. */
+ * guest runs. Its accesses to registers, and what the host puts in, are done while RAM is lent; it is given back for the devices'
+ * work and for what a move reads of it. The pages that the guest wrote are named before a round ends and before the stop: in half of
+ * the moves by vmig_mark alone, in the others as RAM is given back, and in some in both ways. It moves live a hundred times, in ways
+ * that a seeded generator draws, into other memory of this program. Its twin never moves, has RAM in the library, and is handed each
+ * page that the guest wrote. Both answer alike all the time, and after each move RAM and disk are the same. In every fifth move one
+ * page that the guest wrote is left out of the log, after it was sent: then this page, and no other, is not the same. */
 #include <string.h>
 #include "driver.h"
 
@@ -17,6 +18,15 @@ enum { BUFFERS = 0xa000, AT_OUTCOME = 0x40, AT_SECTOR = 0x200 };
 /* The guest's other pages, from this one on. The last one it writes once in each move, after it was sent. */
 enum { HEAP = 16, LATE = PAGES - 1 };
 
+/* Where the second of two memory slots begins, each of which has a log of its own. */
+enum { SLOT = 13 };
+
+/* More than what can wait. */
+enum { ALL = 1 << 20 };
+
+/* How the pages of the log are named. */
+enum { AT_RETURNS, BY_MARK, IN_BOTH_WAYS };
+
 static const vmig_shape SHAPES[DEVICES] = {
     {.kind = VMIG_ENTROPY}, {.kind = VMIG_CONSOLE}, {.kind = VMIG_BLOCK, .sectors = SECTORS}};
 static const uint8_t DEVICE_OF[QUEUES] = {ENTROPY, CONSOLE, CONSOLE, BLOCK}, NUMBER_OF[QUEUES] = {0, 0, 1, 0};
@@ -29,10 +39,11 @@ struct host {
     vmig_machine machine, twin;
     vmig_ram ram;            /* RAM while it is lent */
     int room, disk;          /* where RAM and the disk lie */
-    uint8_t written[PAGES];  /* the pages that the guest wrote since it last came out */
-    uint8_t dirty[PAGES];    /* and since the log was last read */
+    uint8_t written[PAGES];  /* the pages that the guest wrote since RAM was lent */
+    uint8_t dirty[PAGES];    /* and since they were last named */
     uint16_t made[QUEUES];   /* how many chains the guest made available */
     int kicks[QUEUES];       /* whether it kicks once it is outside */
+    int names;               /* how pages are named in this move */
     int leaves_out;          /* whether the log lacks the page LATE */
 };
 
@@ -107,44 +118,89 @@ static void act(struct host *h)
     else for (uint32_t i = 0; i < PAGE; i++) store(h, page + i, 0, 1);
 }
 
-/* RAM is given back with the log: a list, from the last page on, which it names twice; a bitmap, with bits past the last page; or
- * all pages. */
-static vmig_status give_back_log(struct host *h)
+/* The pages of the log from the first of a slot on, as a host hands them in: a list, from the last page on, which names one twice; or a
+ * bitmap with bits past the slot. They are in the log no more. */
+static vmig_pages pages_of(struct host *h, uint32_t first, uint32_t count)
 {
-    uint64_t words[] = {~(uint64_t)0 << PAGES, ~(uint64_t)0};
-    uint32_t pages[PAGES + 1];
-    size_t count = 0;
+    static uint64_t words[2];
+    static uint32_t list[PAGES + 1];
+    vmig_pages pages = VMIG_NO_PAGES, marked = {.words = words, .count_words = 1 + draw(2), .first = first, .span = count};
 
-    for (uint32_t page = PAGES; page-- > 0;) {
-        words[0] |= (uint64_t)h->dirty[page] << page;
-        if (h->dirty[page]) pages[count++] = page;
+    words[0] = ~(uint64_t)0 << count, words[1] = ~(uint64_t)0;
+    pages.list = list;
+    for (uint32_t page = count; page-- > 0;) {
+        words[0] |= (uint64_t)h->dirty[first + page] << page;
+        if (h->dirty[first + page]) list[pages.count++] = first + page;
     }
-    if (count > 0) pages[count++] = pages[0];
-    if (!h->leaves_out && draw(8) == 0) return give_back_all(&h->machine, &h->ram);
-    if (draw(2) == 0) return give_back_marked(&h->machine, &h->ram, words, 1 + draw(2));
-    return give_back_list(&h->machine, &h->ram, pages, count);
+    if (pages.count > 0) list[pages.count++] = list[0];
+    memset(h->dirty + first, 0, count);
+    return draw(2) == 0 ? marked : pages;
 }
 
-/* The twin is handed what the guest wrote, and RAM is given back, with the log or before it is read. */
-static void give_back(struct host *h, int reads_log)
+/* The whole log, or where none is left out also all pages. */
+static vmig_pages pages_of_all(struct host *h)
+{
+    vmig_pages pages = pages_of(h, 0, PAGES), all = VMIG_ALL_PAGES;
+
+    return !h->leaves_out && draw(8) == 0 ? all : pages;
+}
+
+/* What is named as RAM is given back: nothing, the pages of one slot, or all of the log. */
+static vmig_pages pages_at_return(struct host *h)
+{
+    vmig_pages none = VMIG_NO_PAGES;
+
+    if (h->names == BY_MARK || draw(4) == 0) return none;
+    if (h->names == IN_BOTH_WAYS && draw(2) == 0) return pages_of(h, 0, SLOT);
+    return pages_of_all(h);
+}
+
+/* RAM is given back with these pages, if it is lent, and the twin is handed what the guest wrote. */
+static void give_back_with(struct host *h, vmig_pages named)
 {
     for (uint32_t page = 0; page < PAGES; page++)
         if (h->written[page])
             expect("handed", vmig_ram_write(&h->twin, page * PAGE, rooms[h->room] + page * PAGE, PAGE), VMIG_OK);
     memset(h->written, 0, sizeof h->written);
-    if (h->leaves_out) h->dirty[LATE] = 0;
-    expect("give back", reads_log ? give_back_log(h) : give_back_list(&h->machine, &h->ram, NULL, 0), VMIG_OK);
-    if (reads_log) memset(h->dirty, 0, sizeof h->dirty);
+    expect("give back", vmig_give_back(&h->machine, &h->ram, &named), VMIG_OK);
     expect("no RAM is out", h->ram.at == NULL && h->ram.len == 0, 1);
 }
 
+static void give_back(struct host *h)
+{
+    if (h->ram.at == NULL) return;
+    if (h->leaves_out) h->dirty[LATE] = 0;
+    give_back_with(h, pages_at_return(h));
+}
+
+/* The guest runs on RAM that is lent to it. */
 static void lend(struct host *h)
 {
     uint32_t lines = vmig_lines(&h->machine);
 
+    if (h->ram.at != NULL) return;
     expect("lend", vmig_lend(&h->machine, &h->ram), VMIG_OK);
     expect("RAM", h->ram.at == rooms[h->room] && h->ram.len == RAM, 1);
     expect("lines while it is lent", vmig_lines(&h->machine), lines);
+}
+
+static void mark(struct host *h, vmig_pages named)
+{
+    expect("mark", vmig_mark(&h->machine, &named), VMIG_OK);
+}
+
+/* All that is left in the log is named, so that a round can end: by marks, of one slot after the other or of RAM as a whole, or as RAM is
+ * given back once more. */
+static void name_all(struct host *h)
+{
+    give_back(h);
+    if (h->names == AT_RETURNS) {
+        lend(h);
+        give_back_with(h, pages_of_all(h));
+    } else if (draw(2) == 0) {
+        mark(h, pages_of(h, SLOT, PAGES - SLOT));
+        mark(h, pages_of(h, 0, SLOT));
+    } else mark(h, pages_of_all(h));
 }
 
 /* RAM moves while it is lent: it lies in another room from then on. */
@@ -182,61 +238,103 @@ static void input_both(struct host *h, uint8_t dev)
     expect("as many kept", twin_kept, kept);
 }
 
-/* The steps that have something to do, of both. */
-static void serve_both(struct host *h)
+/* The host resizes the console, or empties a device's input, and asks how much the devices still take. */
+static void change_both(struct host *h)
 {
-    static uint8_t sent[VMIG_SENT_MAX], twin_sent[VMIG_SENT_MAX];
-    uint8_t dev = 0, pick = 0, twin_dev = 0, twin_pick = 0;
-    uint32_t len = 77, twin_len = 77;
-    vmig_status status;
+    uint16_t columns = (uint16_t)draw(3);
+    uint8_t dev = (uint8_t)draw(BLOCK);
+    size_t room = 77, twin_room = 77;
 
-    while ((status = vmig_next(&h->machine, &dev, &pick)) == VMIG_WORK || status == VMIG_SYNC) {
-        expect("work", vmig_next(&h->twin, &twin_dev, &twin_pick), status);
-        expect("the same step", twin_dev == dev && twin_pick == pick, 1);
-        status = vmig_step(&h->machine, dev, pick, sent, sizeof sent, &len);
-        expect("answers alike", vmig_step(&h->twin, dev, pick, twin_sent, sizeof twin_sent, &twin_len), status);
-        expect("a length", twin_len, len);
-        if (status == VMIG_SENT) expect("a message", (uint64_t)memcmp(sent, twin_sent, len), 0);
-        expect("lines", vmig_lines(&h->twin), vmig_lines(&h->machine));
-        if (vmig_refused(status) || failures != 0) break;
+    if (draw(4) == 0) {
+        expect("drop", vmig_drop(&h->machine, dev), VMIG_OK);
+        expect("drop", vmig_drop(&h->twin, dev), VMIG_OK);
     }
-    expect("no work is left", vmig_next(&h->twin, &twin_dev, &twin_pick), status);
+    expect("resize", vmig_resize(&h->machine, CONSOLE, columns, 25), VMIG_OK);
+    expect("resize", vmig_resize(&h->twin, CONSOLE, columns, 25), VMIG_OK);
+    expect("room", vmig_room(&h->machine, dev, &room), VMIG_OK);
+    expect("room", vmig_room(&h->twin, dev, &twin_room), VMIG_OK);
+    expect("the same room", twin_room, room);
 }
 
-/* Takes some of what waits, and feeds it to the machine that arrives. Returns whether there was any. */
-static int hand_over(struct host *h, vmig_machine *target)
+/* What happens to both while RAM is lent. */
+static void touch_both(struct host *h)
 {
-    uint8_t piece[9000];
-    size_t got = 0;
-
-    expect("take", vmig_send_take(&h->machine, piece, 1 + draw(sizeof piece), &got), VMIG_OK);
-    expect("feed", (uint64_t)vmig_refused(vmig_feed(target, piece, got)), 0);
-    return got > 0;
-}
-
-/* The guest runs and comes out, and its devices do their work. If the machine is being sent, target is the one that arrives. */
-static void turn(struct host *h, vmig_machine *target, int is_late)
-{
-    lend(h);
-    for (uint32_t acts = draw(6); acts > 0; acts--) act(h);
-    if (is_late) store_random(h, LATE * PAGE, PAGE);
-    if (target != NULL && draw(4) == 0) hand_over(h, target);
-    if (target == NULL && draw(8) == 0) move_ram(h);
-    give_back(h, draw(4) != 0);
     for (int queue = 0; queue < QUEUES; queue++)
         if (h->kicks[queue]) write_both(h, DEVICE_OF[queue], 0x050, NUMBER_OF[queue]);
     memset(h->kicks, 0, sizeof h->kicks);
     if (draw(3) == 0) input_both(h, ENTROPY);
     if (draw(3) == 0) input_both(h, CONSOLE);
-    serve_both(h);
-    write_both(h, (uint8_t)draw(DEVICES), 0x064, 3);
+    if (draw(6) == 0) change_both(h);
+    if (draw(2) == 0) write_both(h, (uint8_t)draw(DEVICES), 0x064, 3);
+    expect("lines while it is lent", vmig_lines(&h->twin), vmig_lines(&h->machine));
 }
 
-/* The log is read once more. */
-static void read_log(struct host *h)
+/* Whether a step has something to do. */
+static int has_work(const vmig_machine *m)
+{
+    uint8_t dev = 0, pick = 0;
+
+    return vmig_next(m, &dev, &pick) != VMIG_IDLE;
+}
+
+/* A turn of the devices, of both. */
+static void serve_both(struct host *h)
+{
+    static uint8_t sent[VMIG_SENT_MAX], twin_sent[VMIG_SENT_MAX];
+    vmig_turn turn = VMIG_TURN, twin_turn = VMIG_TURN;
+    vmig_status status;
+
+    turn.left = twin_turn.left = 1000;
+    do {
+        status = vmig_work(&h->machine, &turn, sent, sizeof sent);
+        expect("ends alike", vmig_work(&h->twin, &twin_turn, twin_sent, sizeof twin_sent), status);
+        expect("the same steps", (uint64_t)memcmp(&turn, &twin_turn, sizeof turn), 0);
+        if (status == VMIG_SENT) expect("a message", (uint64_t)memcmp(sent, twin_sent, turn.len), 0);
+        if (status == VMIG_SYNC) {
+            status = vmig_step(&h->machine, turn.dev, turn.pick, sent, sizeof sent, &turn.len);
+            expect("answers alike", vmig_step(&h->twin, turn.dev, turn.pick, sent, sizeof sent, &twin_turn.len), status);
+        }
+        expect("lines", vmig_lines(&h->twin), vmig_lines(&h->machine));
+    } while (status != VMIG_IDLE && status != VMIG_WORK && !vmig_refused(status));
+    expect("no work is left", status, VMIG_IDLE);
+}
+
+/* Takes so many of the bytes that wait, and feeds them to the machine that arrives. Returns whether there were any. */
+static int hand_over(struct host *h, vmig_machine *target, size_t size)
+{
+    static uint8_t piece[ALL];
+    size_t got = 0;
+
+    expect("take", vmig_send_take(&h->machine, piece, size, &got), VMIG_OK);
+    expect("feed", (uint64_t)vmig_refused(vmig_feed(target, piece, got)), 0);
+    return got > 0;
+}
+
+/* At a random moment: none of them, one, about a page, or all. */
+static void hand_over_some(struct host *h, vmig_machine *target)
+{
+    static const size_t sizes[] = {0, 1, 4100, ALL};
+
+    hand_over(h, target, sizes[draw(4)]);
+}
+
+/* The guest runs, and comes out again and again. RAM is given back where its devices have work to do, and now and then besides. If the
+ * machine is being sent, target is the one that arrives. */
+static void turn(struct host *h, vmig_machine *target, int is_late)
 {
     lend(h);
-    give_back(h, 1);
+    for (uint32_t acts = draw(6); acts > 0; acts--) {
+        act(h);
+        if (draw(3) == 0) touch_both(h);
+    }
+    if (is_late) store_random(h, LATE * PAGE, PAGE);
+    if (target != NULL && draw(4) == 0) hand_over_some(h, target);
+    if (target == NULL && draw(8) == 0) move_ram(h);
+    touch_both(h);
+    if (!has_work(&h->machine) && draw(2) == 0) return;
+    give_back(h);
+    serve_both(h);
+    write_both(h, (uint8_t)draw(DEVICES), 0x064, 3);
 }
 
 /* Sends what is due in this round, some items at a time, while the guest runs. Some of what waits is handed over. */
@@ -246,9 +344,11 @@ static void send_round(struct host *h, vmig_machine *target)
 
     do {
         turn(h, target, 0);
+        give_back(h);
+        if (h->names != AT_RETURNS && draw(4) == 0) mark(h, pages_of(h, 0, 1 + draw(PAGES)));
         for (uint32_t times = draw(8); (status = vmig_send_some(&h->machine, draw(12))) != VMIG_ROUND_DONE && times > 0; times--) {
             expect("copied", status, VMIG_OK);
-            if (draw(3) == 0) hand_over(h, target);
+            if (draw(3) == 0) hand_over_some(h, target);
         }
     } while (status != VMIG_ROUND_DONE);
 }
@@ -269,9 +369,10 @@ static uint32_t differing(struct host *h, const uint8_t *bytes)
 /* RAM but for these pages, the disk and the lines are those of the twin. */
 static void is_twin(struct host *h, uint32_t but)
 {
+    give_back(h);
     lend(h);
     expect("pages that are not the twin's", differing(h, h->ram.at), but);
-    give_back(h, 0);
+    give_back(h);
     expect("the same disk", (uint64_t)memcmp(disks[h->disk], twin_disk, DISK), 0);
     expect("the same lines", vmig_lines(&h->twin), vmig_lines(&h->machine));
 }
@@ -300,25 +401,28 @@ static int move(struct host *h)
     vmig_image image = {disks[1 - h->disk], SECTORS};
     uint64_t pages = 77, sectors = 77;
 
+    give_back(h);
     expect("arrive", arrive_over(&ram, &image, 1, &target), VMIG_OK);
     expect("all is taken", ram.at == NULL && ram.len == 0 && image.sectors == 0, 1);
     expect("begin", vmig_send_begin(&h->machine), VMIG_OK);
+    memset(h->dirty, 0, sizeof h->dirty);
     send_round(h, &target);
     turn(h, &target, 1);
     for (uint32_t rounds = draw(4); rounds > 0; rounds--) {
-        read_log(h);
+        name_all(h);
         expect("end of the round", vmig_send_round(&h->machine), VMIG_OK);
         send_round(h, &target);
     }
     if (!h->leaves_out && draw(8) == 0) {
+        give_back(h);
         expect("abort", vmig_send_abort(&h->machine), VMIG_OK);
         vmig_free(&target);
         return 0;
     }
     turn(h, &target, 0);
-    read_log(h);
+    name_all(h);
     expect("stop", vmig_send_stop(&h->machine, &pages, &sectors), VMIG_OK);
-    while (hand_over(h, &target)) continue;
+    while (hand_over(h, &target, 1 + draw(9000))) continue;
     expect("finish", vmig_finish(&target), VMIG_OK);
     go_on_with(h, target, room);
     return 1;
@@ -353,7 +457,8 @@ int main(void)
 
     make(&h);
     for (int moves = 0; moves < MOVES;) {
-        h.leaves_out = moves % 10 == 9;
+        h.names = moves % 2 == 0 ? BY_MARK : draw(3) == 0 ? IN_BOTH_WAYS : AT_RETURNS;
+        h.leaves_out = moves % 5 == 4;
         for (uint32_t turns = draw(6); turns > 0; turns--) turn(&h, NULL, 0);
         if (!move(&h)) continue;
         is_twin(&h, h.leaves_out ? (uint32_t)1 << LATE : 0);

@@ -225,22 +225,20 @@ static void fails_between(const vmig_shape *shapes, uint8_t *at)
 
 static uint8_t buf[VMIG_SENT_MAX];
 
-/* The step that had something to do last. It stays from turn to turn. */
-static uint8_t work_dev, work_pick;
-
-/* The work of a turn, until none is left. Returns the number of messages that were handed on. */
+/* A turn of the devices, until none has work. Returns the number of messages that were handed on. */
 static uint32_t do_work(vmig_machine *m, uint8_t *at)
 {
-    vmig_status status = VMIG_WORK;
-    uint32_t len = 0, messages = 0;
+    static vmig_turn turn = VMIG_TURN;
+    vmig_status status;
+    uint32_t messages = 0;
 
-    for (int left = 1000; left > 0 && !vmig_refused(status); left--) {
-        status = vmig_next(m, &work_dev, &work_pick);
-        if (status == VMIG_IDLE) return messages;
-        if (status == VMIG_SYNC && bring(at) != 0) status = vmig_sync_failed(m, work_dev);
-        else status = vmig_step(m, work_dev, work_pick, buf, sizeof buf, &len);
+    turn.left = 1000;
+    do {
+        status = vmig_work(m, &turn, buf, sizeof buf);
         if (status == VMIG_SENT) messages++;
-    }
+        if (status == VMIG_SYNC && bring(at) != 0) status = vmig_sync_failed(m, turn.dev);
+        else if (status == VMIG_SYNC) status = vmig_step(m, turn.dev, turn.pick, buf, sizeof buf, &turn.len);
+    } while (status != VMIG_IDLE && status != VMIG_WORK && !vmig_refused(status));
     expect("no work is left", status, VMIG_IDLE);
     return messages;
 }

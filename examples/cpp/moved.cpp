@@ -70,12 +70,11 @@ machine console_that_prints(const char (&text)[6])
 std::string printed(machine &m)
 {
     static std::uint8_t buf[VMIG_SENT_MAX];
-    std::uint8_t dev = 0, pick = 0;
-    std::uint32_t len = 0;
+    vmig_turn turn = VMIG_TURN;
 
-    expect("work", m.next(&dev, &pick), status::work);
-    expect("step", m.step(dev, pick, buf, sizeof buf, &len), status::sent);
-    return std::string(reinterpret_cast<const char *>(buf), len);
+    turn.left = 100;
+    expect("a message", m.work(&turn, buf, sizeof buf), status::sent);
+    return std::string(reinterpret_cast<const char *>(buf), turn.len);
 }
 
 std::vector<std::uint8_t> stream_of(const machine &m)

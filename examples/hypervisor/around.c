@@ -9,8 +9,8 @@
 #include "say.h"
 #include "terminal.h"
 
-/* A guest that waits looks around this often, for a signal may have come before the wait. */
-enum { FRAMES_A_TURN = 64, WAIT_MS_MAX = 20, STATUS_REGISTER = 0x070, DRIVER_OK = 4 };
+/* A guest that waits looks around this often, for a signal may have come before the wait; and while it is moved. */
+enum { FRAMES_A_TURN = 64, WAIT_MS_MAX = 20, MOVE_MS_MAX = 1, STATUS_REGISTER = 0x070, DRIVER_OK = 4 };
 
 /* All that the pool of the entropy device could hold. */
 enum { POOL_MAX = 4096 };
@@ -26,10 +26,10 @@ static int is_driven(struct host *h, unsigned device)
 /* How long the guest may wait: until its timer is due, and not at all where there is something to do. */
 static int milliseconds(const struct host *h)
 {
-    uint64_t left = processor_ticks_left(&h->processor) / (TICKS_A_SECOND / 1000);
+    uint64_t left = processor_ticks_left(&h->processor) / (TICKS_A_SECOND / 1000), most = h->move.is_on ? MOVE_MS_MAX : WAIT_MS_MAX;
 
     if (h->processor.exit.kind != EXIT_WAIT || due_interrupts(&h->processor) != 0 || h->steps_wait || move_is_due(h)) return 0;
-    return left < WAIT_MS_MAX ? (int)left : WAIT_MS_MAX;
+    return (int)(left < most ? left : most);
 }
 
 /* On a terminal the keys for the program are read also while the guest takes none; what it does not take is lost. */
@@ -73,6 +73,7 @@ static void take_typed(struct host *h)
 
     if (h->typed.count == 0 || !is_driven(h, CONSOLE)) return;
     must(vmig_input(&h->machine, CONSOLE, h->typed.bytes, h->typed.count, &kept), "vmig_input");
+    h->steps_wait = 1;
     h->typed.count -= (uint32_t)kept;
     memmove(h->typed.bytes, h->typed.bytes + kept, h->typed.count);
 }
@@ -93,6 +94,7 @@ static void take_frames(struct host *h)
         if (hears && vmig_input(&h->machine, (uint8_t)h->devices.network, h->frame, h->frame_length, &kept) == VMIG_BAD_FRAME)
             say("a frame of %zu bytes is dropped", h->frame_length);
         h->frame_length = 0;
+        h->steps_wait = 1;
     }
 }
 

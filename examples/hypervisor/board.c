@@ -69,6 +69,12 @@ void set_lines(struct host *h)
 {
     uint32_t uart = uart_interrupts(&h->uart, &h->typed) ? UINT32_C(1) << UART_INTERRUPT : 0;
 
-    h->interrupts.lines = vmig_lines(&h->machine) << FIRST_INTERRUPT | uart;
+    h->interrupts.lines = h->lines << FIRST_INTERRUPT | uart;
     h->processor.external_pending = interrupts_are_due(&h->interrupts) ? EXTERNAL_BIT : 0;
+}
+
+void read_lines(struct host *h)
+{
+    h->lines = vmig_lines(&h->machine);
+    set_lines(h);
 }

@@ -1,4 +1,5 @@
-/* The loop: the guest runs on RAM that is lent to it, and what it comes out for is done. docs/host-loop.md quotes it. */
+/* The loop: the guest runs on RAM that is lent to it, and what it comes out for is done, with RAM lent or taken back. docs/host-loop.md
+ * quotes it. */
 #include "host.h"
 #include "memory.h"
 #include "say.h"
@@ -22,7 +23,7 @@ static int run_guest(struct host *h)
     return is_answered;
 }
 
-/* A driver's access to a register of its device. A window without a device reads 0. */
+/* A driver's access to a register of its device, while RAM is lent. A window without a device reads 0. */
 static void access_register(struct host *h)
 {
     struct guest_exit *exit = &h->processor.exit;
@@ -33,22 +34,26 @@ static void access_register(struct host *h)
     if (exit->kind == EXIT_READ) {
         vmig_status status = vmig_reg_read(&h->machine, dev, off, exit->width, &value);
         processor_loads(&h->processor, status == VMIG_OK ? value : 0);
-    } else if (vmig_reg_write(&h->machine, dev, off, exit->width, (uint32_t)exit->value, &byte) == VMIG_OK && byte != VMIG_NO_BYTE) {
+    } else if (vmig_reg_write(&h->machine, dev, off, exit->width, (uint32_t)exit->value, &byte) == VMIG_OK) {
         printed = (uint8_t)byte;
-        hand_on(h, dev, &printed, 1);
+        if (byte != VMIG_NO_BYTE) hand_on(h, dev, &printed, 1);
+        h->steps_wait = 1;
     }
+    h->statistics.accesses++;
 }
 
-/* Before a reboot, with RAM still lent: what the guest boots from is loaded anew. False where it cannot be, and the guest ends: a guest that
+/* Before a reboot, with RAM lent: what the guest boots from is loaded anew. False where it cannot be, and the guest ends: a guest that
  * was moved here has no image here, and a disk that is lost would be used by one that does not know. */
 static int load_again(struct host *h)
 {
     vmig_description found;
 
+    enter_library(h);
     vmig_describe(&h->machine, &found);
+    leave_library(h);
     h->has_ended = h->options.kernel == NULL || found.lost != 0;
     if (h->has_ended) say("the guest asks for a reboot, and ends: %s", found.lost != 0 ? "a disk is lost" : "there is no --kernel here");
-    else load_guest(h, h->ram.at, h->ram.len);
+    else load_guest(h);
     return !h->has_ended;
 }
 
@@ -61,77 +66,82 @@ static void reboot(struct host *h)
     h->reboots = 0;
 }
 
-/* The step that is next. Before one that makes a flush, or ends a write that its driver then takes for durable, the disk is brought to its
- * file. Where that fails the disk is lost: the guest's flush ends with an error, now and later. Such a write cannot fail any more, and does
- * not end: the guest ends. */
-static vmig_status make_step(struct host *h, vmig_status next, uint8_t *sent, size_t size, uint32_t *len)
+/* Makes the step that was passed over: it makes a flush, or ends a write that its driver then takes for durable, so the disk is brought to its
+ * file before. Where that fails the disk is lost: the guest's flush ends with an error, now and later. Such a write cannot fail any more, and
+ * does not end: the guest ends. */
+static vmig_status sync_and_step(struct host *h, uint8_t *sent, size_t size)
 {
-    int is_lost = next == VMIG_SYNC && !disk_bring(devices_disk(&h->devices, h->dev));
+    vmig_turn *t = &h->work;
+    int is_lost = !disk_bring(devices_disk(&h->devices, t->dev));
     vmig_status status;
 
-    if (is_lost) must(vmig_sync_failed(&h->machine, h->dev), "vmig_sync_failed");
-    status = vmig_step(&h->machine, h->dev, h->pick, sent, size, len);
+    if (is_lost) must(vmig_sync_failed(&h->machine, t->dev), "vmig_sync_failed");
+    status = vmig_step(&h->machine, t->dev, t->pick, sent, size, &t->len);
     if (is_lost && status == VMIG_IDLE) fail("the guest ends: it would take what is lost for durable");
     if (is_lost) say("each flush of this disk fails from now on: move the guest soon, or end it");
     return status;
 }
 
-/* The devices do their work, in turn from where they were. What is more than a turn has waits for the next one, which begins after the last
- * step: so one that is refused memory keeps no other waiting. */
+void take_ram(struct host *h)
+{
+    if (h->ram.at == NULL) return;
+    must(vmig_give_back(&h->machine, &h->ram, &(vmig_pages)VMIG_NO_PAGES), "vmig_give_back");
+    h->statistics.loans++;
+}
+
+static void lend_ram(struct host *h)
+{
+    if (h->ram.at == NULL) must(vmig_lend(&h->machine, &h->ram), "vmig_lend");
+}
+
+/* Whether a step has something to do, which needs no byte of RAM to be told. */
+static int has_work(const struct host *h)
+{
+    uint8_t dev = h->work.dev, pick = h->work.pick;
+
+    return vmig_next(&h->machine, &dev, &pick) != VMIG_IDLE;
+}
+
+/* The devices do their work, in turn from where they were, with RAM taken back. What is more than a turn has waits for the next one, which
+ * begins after the last step, and behind one that was refused memory: so none keeps the others waiting. */
 static void do_work(struct host *h)
 {
     static uint8_t sent[VMIG_SENT_MAX];
-    uint32_t len = 0;
+    vmig_turn *t = &h->work;
+    vmig_status status;
 
-    h->steps_wait = 1;
-    for (int left = STEPS_A_TURN; left > 0; left--) {
-        vmig_status status = vmig_next(&h->machine, &h->dev, &h->pick);
-        if (status == VMIG_IDLE) {
-            h->steps_wait = 0;
-            return;
-        }
-        if (!vmig_refused(status)) status = make_step(h, status, sent, sizeof sent, &len);
-        if (status == VMIG_NO_MEMORY) return;
-        if (vmig_refused(status)) fail("a step: %s", vmig_status_name(status));
-        if (status == VMIG_SENT) hand_on(h, h->dev, sent, len);
-        if (status == VMIG_COMPLETED && h->dev == ENTROPY) fill_pool(h);
-        h->statistics.steps++;
-    }
+    take_ram(h);
+    t->left = STEPS_A_TURN;
+    do {
+        status = vmig_work(&h->machine, t, sent, sizeof sent);
+        if (status == VMIG_SYNC) status = sync_and_step(h, sent, sizeof sent);
+        if (status == VMIG_SENT) hand_on(h, t->dev, sent, t->len);
+        if (status == VMIG_COMPLETED && t->dev == ENTROPY) fill_pool(h);
+    } while (status != VMIG_IDLE && status != VMIG_WORK && !vmig_refused(status));
+    h->statistics.steps += STEPS_A_TURN - t->left;
+    h->steps_wait = status != VMIG_IDLE;
+    if (status == VMIG_NO_MEMORY) status = vmig_next(&h->machine, &t->dev, &t->pick);
+    if (vmig_refused(status)) fail("a turn of the devices: %s", vmig_status_name(status));
 }
 
-/* RAM is given back, what waits is done, and RAM is lent anew. The guest is outside all this time, so one look at the lines at the end
- * is enough. The pages that it wrote are named where a round of a move ends, or the guest is to be paused, and not before; all of them,
- * where RAM was loaded anew. */
-static void serve(struct host *h, int is_answered)
-{
-    struct memory *log = &h->processor.memory;
-    vmig_pages written = VMIG_NO_PAGES;
-
-    written.list = log->written;
-    written.count = move_needs_log(h) ? log->count_written : 0;
-    written.all = (uint32_t)h->reboots;
-    must(vmig_give_back(&h->machine, &h->ram, &written), "vmig_give_back");
-    if (written.count > 0) memory_empty_log(log);
-    if (h->reboots) reboot(h);
-    if (!is_answered) access_register(h);
-    take_input(h);
-    do_work(h);
-    if (!move_further(h)) return;
-    set_lines(h);
-    must(vmig_lend(&h->machine, &h->ram), "vmig_lend");
-}
-
-/* One turn. The guest runs on RAM that is lent to it until it comes out. Where nothing is to be done that needs the machine, RAM stays
- * lent, and the turn ends. */
+/* One turn. The guest runs on RAM that is lent to it until it comes out. What it came out for and what waits is done while RAM is lent; only
+ * steps and parts of a move take it back. The guest is outside from then on, so one look at the lines at the end is enough. */
 static void turn(struct host *h)
 {
     int is_answered = run_guest(h);
 
     if (h->reboots && !load_again(h)) return;
     if (is_answered && !h->steps_wait && !h->input_waits && !h->reboots && !move_is_due(h)) return;
-    h->statistics.loans++;
     enter_library(h);
-    serve(h, is_answered);
+    if (!is_answered) access_register(h);
+    if (h->reboots) reboot(h);
+    take_input(h);
+    h->steps_wait = h->steps_wait && has_work(h);
+    if (h->steps_wait) do_work(h);
+    if (move_further(h)) {
+        read_lines(h);
+        lend_ram(h);
+    }
     leave_library(h);
 }
 
@@ -142,11 +152,14 @@ void host_run(struct host *h)
     enter_library(h);
     fill_pool(h);
     do_work(h);
-    set_lines(h);
-    must(vmig_lend(&h->machine, &h->ram), "vmig_lend");
+    read_lines(h);
+    lend_ram(h);
     leave_library(h);
     if (h->options.listen != NULL) announce(h);
     h->left = SLICE;
     while (!h->has_ended && !h->is_gone && !operator_words.ends) turn(h);
+    enter_library(h);
+    leave_line(h);
+    leave_library(h);
     if (operator_words.ends) say("ended by its operator");
 }

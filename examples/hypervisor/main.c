@@ -10,17 +10,18 @@
 #include "terminal.h"
 #include "tree.h"
 
-/* Reads a file whole into RAM, at an offset of at most the length. Returns its length, or ends the program. */
-static uint64_t load_file(const char *name, uint8_t *ram, uint64_t length, uint64_t offset)
+/* Reads a file whole into RAM, between two offsets. Returns its length, or ends the program. */
+static uint64_t load_file(const char *name, struct memory *m, uint64_t offset, uint64_t end)
 {
     FILE *file = fopen(name, "rb");
     size_t got;
 
     if (file == NULL) fail("%s: %s", name, strerror(errno));
-    got = fread(ram + offset, 1, length - offset, file);
+    got = fread(m->ram + offset, 1, end - offset, file);
     if (ferror(file)) fail("%s: %s", name, strerror(errno));
-    if (fgetc(file) != EOF) fail("%s: it does not fit into %llu MiB of RAM", name, (unsigned long long)(length / MIB));
+    if (fgetc(file) != EOF) fail("%s: it does not fit into %llu MiB of RAM", name, (unsigned long long)(m->length / MIB));
     fclose(file);
+    memory_note(m, offset, got);
     return got;
 }
 
@@ -36,24 +37,26 @@ static uint64_t pages_of(const char *name)
 }
 
 /* The initial RAM disk is at the end of RAM, and the device tree before it. */
-void load_guest(struct host *h, uint8_t *ram, uint64_t length)
+void load_guest(struct host *h)
 {
     const struct options *o = &h->options;
-    uint64_t end = length, initrd_length = o->initrd == NULL ? 0 : pages_of(o->initrd), tree, tree_length;
-    struct tree_facts facts = {.ram_length = length, .devices = h->devices.count, .arguments = o->append == NULL ? "" : o->append};
+    struct memory *m = &h->processor.memory;
+    uint64_t end = m->length, initrd_length = o->initrd == NULL ? 0 : pages_of(o->initrd), tree, tree_length;
+    struct tree_facts facts = {.ram_length = m->length, .devices = h->devices.count, .arguments = o->append == NULL ? "" : o->append};
     uint8_t blob[TREE_MAX];
 
-    if (length < LOAD_OFFSET + TREE_MAX || initrd_length > length - LOAD_OFFSET - TREE_MAX) fail("--mem %u is too little RAM", o->mib);
+    if (end < LOAD_OFFSET + TREE_MAX || initrd_length > end - LOAD_OFFSET - TREE_MAX) fail("--mem %u is too little RAM", o->mib);
     end -= initrd_length;
     if (o->initrd != NULL) {
         facts.initrd = RAM_BASE + end;
-        facts.initrd_end = facts.initrd + load_file(o->initrd, ram, length, end);
+        facts.initrd_end = facts.initrd + load_file(o->initrd, m, end, m->length);
     }
     tree = end - TREE_MAX;
-    load_file(o->kernel, ram, tree, LOAD_OFFSET);
+    load_file(o->kernel, m, LOAD_OFFSET, tree);
     tree_length = tree_write(blob, &facts);
     if (tree_length == 0) fail("--append: the text is too long");
-    memcpy(ram + tree, blob, tree_length);
+    memcpy(m->ram + tree, blob, tree_length);
+    memory_note(m, tree, tree_length);
     processor_reset(&h->processor, RAM_BASE + tree);
 }
 
@@ -63,7 +66,7 @@ static void begin_guest(struct host *h)
     uint8_t *ram = devices_take_ram(length);
 
     if (!memory_begin(&h->processor.memory, ram, length)) fail("no memory for the log of RAM");
-    load_guest(h, ram, length);
+    load_guest(h);
     devices_make(&h->devices, ram, length, &h->machine);
 }
 
@@ -73,7 +76,7 @@ static void end(struct host *h)
     vmig_image images[DISKS_MAX] = {VMIG_NO_IMAGE};
     uint8_t *ram = h->processor.memory.ram;
 
-    if (h->ram.at != NULL) must(vmig_give_back(&h->machine, &h->ram, &(vmig_pages)VMIG_NO_PAGES), "vmig_give_back");
+    take_ram(h);
     must(vmig_release(&h->machine, images, DISKS_MAX), "vmig_release");
     for (unsigned i = 0; i < h->devices.count_disks; i++) disk_close(&h->devices.disks[i]);
     devices_give_ram(ram, h->processor.memory.length);
@@ -82,7 +85,7 @@ static void end(struct host *h)
 
 int main(int count, char **words)
 {
-    static struct host h = {.wire = -1};
+    static struct host h = {.wire = -1, .next = PTHREAD_MUTEX_INITIALIZER, .library = PTHREAD_MUTEX_INITIALIZER, .copied = PTHREAD_COND_INITIALIZER};
 
     options_read(&h.options, count, words);
     terminal_begin();

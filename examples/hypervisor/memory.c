@@ -43,6 +43,11 @@ static void note_written(struct memory *m, uint64_t offset)
     m->written[m->count_written++] = page;
 }
 
+void memory_note(struct memory *m, uint64_t offset, uint64_t length)
+{
+    for (uint64_t at = offset / PAGE * PAGE; at < offset + length; at += PAGE) note_written(m, at);
+}
+
 void memory_empty_log(struct memory *m)
 {
     while (m->count_written > 0) m->is_written[m->written[--m->count_written]] = 0;

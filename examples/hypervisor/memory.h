@@ -16,6 +16,9 @@ void memory_end(struct memory *m);
 /* No page counts as found any more. */
 void memory_forget(struct memory *m);
 
+/* Notes in the log what was written here. */
+void memory_note(struct memory *m, uint64_t offset, uint64_t length);
+
 /* Empties the log. What is written from now on is noted anew. */
 void memory_empty_log(struct memory *m);
 

@@ -8,8 +8,12 @@
 #include "say.h"
 #include "terminal.h"
 
-/* What is copied between two slices of the guest: pages, or sectors once no page is due. It takes about as long as the slice. */
-enum { PAGES_A_TURN = 16, SECTORS_A_TURN = 128 };
+/* What is copied between two slices of the guest, once the carrier has carried what was copied before: pages, or sectors once no page is due.
+ * The guest is outside for some 0.1 ms. And what the carrier takes at once, for whose digest the library is its own: as long. */
+enum { PAGES_A_TURN = 64, SECTORS_A_TURN = 512, PIECE = 16384 };
+
+/* The rounds, one after another, that leave hardly less than one before, until the guest is paused. */
+enum { STALLS_MAX = 3 };
 
 static const char BROKEN[] = "the line is broken", OUT_OF_MEMORY[] = "out of memory";
 
@@ -20,20 +24,62 @@ static int is_between_slices(const struct host *h)
 
 int move_is_due(const struct host *h)
 {
-    return h->move.is_on || operator_words.moves;
+    const struct move *m = &h->move;
+
+    return operator_words.moves || (m->is_on && (m->is_carried || m->is_broken || line_has_come(&m->line)));
 }
 
-/* The log is read before a round ends and before the stop, and not before: each time the guest finds its pages anew. */
-int move_needs_log(const struct host *h)
+/* The carrier, a thread: what waits in the machine goes over the line while the guest runs. It is digested as it is taken. */
+static void *carry(void *of)
 {
-    return h->move.is_on && h->move.round_is_sent && is_between_slices(h);
+    static uint8_t bytes[PIECE];
+    struct host *h = of;
+    struct move *m = &h->move;
+    int goes_on = line_finish(&m->line);
+    size_t got = 0;
+
+    lock_library(h);
+    while (goes_on && !m->stops) {
+        must(vmig_send_take(&h->machine, bytes, sizeof bytes, &got), "vmig_send_take");
+        m->is_carried = got == 0;
+        if (got == 0) {
+            pthread_cond_wait(&h->copied, &h->library);
+            continue;
+        }
+        unlock_library(h);
+        goes_on = line_send(&m->line, STREAM, bytes, got);
+        lock_library(h);
+    }
+    m->is_broken = !goes_on;
+    unlock_library(h);
+    return NULL;
+}
+
+/* The carrier ends, once it has sent what it took. */
+static void end_carrier(struct host *h)
+{
+    if (!h->move.has_carrier) return;
+    h->move.stops = 1;
+    pthread_cond_signal(&h->copied);
+    unlock_library(h);
+    pthread_join(h->move.carrier, NULL);
+    lock_library(h);
+    h->move.has_carrier = 0;
+}
+
+void leave_line(struct host *h)
+{
+    if (h->move.has_carrier) line_cut(&h->move.line);
+    end_carrier(h);
 }
 
 /* The move is over, and the guest continues here. */
 static int give_up(struct host *h, const char *why)
 {
     if (h->move.is_on) {
+        leave_line(h);
         line_close(&h->move.line);
+        take_ram(h);
         must(vmig_send_abort(&h->machine), "vmig_send_abort");
     }
     h->move.is_on = 0;
@@ -73,6 +119,7 @@ static const char *begin_move(struct host *h)
         say("move: there is no line to %s", h->options.connect);
         return why;
     }
+    take_ram(h);
     if (vmig_send_begin(&h->machine) != VMIG_OK) {
         line_close(&h->move.line);
         return OUT_OF_MEMORY;
@@ -80,15 +127,20 @@ static const char *begin_move(struct host *h)
     memory_empty_log(&h->processor.memory);
     line_be_patient(&h->move.line);
     h->move.is_on = 1;
+    h->move.stops = 0;
+    h->move.is_carried = 0;
+    h->move.is_broken = 0;
     h->move.round = 1;
     h->move.round_is_sent = 0;
     h->move.pages = h->move.sectors = 0;
-    h->move.left_before = UINT64_MAX;
+    h->move.least = UINT64_MAX;
+    h->move.stalls = 0;
     say("move: to %s begins", h->options.connect);
     hello[8] = LINE_VERSION;
     hello[12] = (uint8_t)h->options.mib;
     line_begin(&h->move.line, HELLO, hello, sizeof hello);
-    return NULL;
+    h->move.has_carrier = pthread_create(&h->move.carrier, NULL, carry, h) == 0;
+    return h->move.has_carrier ? NULL : "there is no thread for the line";
 }
 
 /* Fills the frame that goes next with what waits in the machine. False where nothing does. */
@@ -103,35 +155,47 @@ static int begin_stream(struct host *h)
 }
 
 /* Copies some of what is due. Returns why the move is over, or NULL. */
-static const char *copy_some(struct move *m, vmig_machine *machine)
+static const char *copy_some(struct host *h)
 {
+    struct move *m = &h->move;
     vmig_left before, after;
     vmig_status status;
 
-    must(vmig_send_left(machine, &before), "vmig_send_left");
-    status = vmig_send_some(machine, before.due_pages > 0 ? PAGES_A_TURN : SECTORS_A_TURN);
+    must(vmig_send_left(&h->machine, &before), "vmig_send_left");
+    take_ram(h);
+    status = vmig_send_some(&h->machine, before.due_pages > 0 ? PAGES_A_TURN : SECTORS_A_TURN);
     if (vmig_refused(status)) return OUT_OF_MEMORY;
-    must(vmig_send_left(machine, &after), "vmig_send_left");
+    must(vmig_send_left(&h->machine, &after), "vmig_send_left");
     m->pages += before.due_pages - after.due_pages;
     m->sectors += before.due_sectors - after.due_sectors;
     m->round_is_sent = status == VMIG_ROUND_DONE;
+    m->is_carried = 0;
+    pthread_cond_signal(&h->copied);
     return NULL;
 }
 
-/* Sends what was copied, and copies more once the line took it all. */
-static const char *send_some(struct host *h)
+/* Names the pages that the guest wrote, or was loaded into, since the log was last read. The guest finds its pages anew after it, so the log
+ * is read at the end of a round and not before. */
+static void name_pages(struct host *h)
 {
-    int pushed;
+    struct memory *log = &h->processor.memory;
+    vmig_pages written = VMIG_NO_PAGES;
 
-    while ((pushed = line_push(&h->move.line)) > 0 && begin_stream(h)) continue;
-    if (pushed < 0) return BROKEN;
-    return pushed == 0 ? NULL : copy_some(&h->move, &h->machine);
+    written.list = log->written;
+    written.count = log->count_written;
+    must(vmig_mark(&h->machine, &written), "vmig_mark");
+    memory_empty_log(log);
 }
 
-/* Whether the rounds are to end: few items are left, or it was the last round, or rounds shrink no more. */
-static int is_enough(const struct host *h, uint64_t left)
+/* Whether the rounds are to end: few items are left, or it was the last round, or rounds shrink no more. One round says little about that, as
+ * guests write in bursts. */
+static int is_enough(struct host *h, uint64_t left)
 {
-    return left <= h->options.few || h->move.round >= h->options.rounds || left > h->move.left_before / 10 * 9;
+    struct move *m = &h->move;
+
+    m->stalls = left > m->least / 10 * 9 ? m->stalls + 1 : 0;
+    if (left < m->least) m->least = left;
+    return left <= h->options.few || m->round >= h->options.rounds || m->stalls == STALLS_MAX;
 }
 
 /* The machine's stream ends, and its rest goes over the line, with all that is not in it. */
@@ -177,6 +241,7 @@ static int finish_move(struct host *h)
     const char *why;
 
     stop_clock(h);
+    end_carrier(h);
     why = send_rest(h);
     if (why != NULL) return continue_here(h, why);
     line_hurry(l);
@@ -187,12 +252,15 @@ static int finish_move(struct host *h)
     return 0;
 }
 
-/* A round was sent, and the log was read: the next one begins, or the last. */
+/* A round was sent. What is left counts pages that were named, so these are named before it is asked; then the next round begins, or the
+ * guest is paused. */
 static int end_round(struct host *h)
 {
     vmig_left found;
     uint64_t left;
 
+    take_ram(h);
+    name_pages(h);
     must(vmig_send_left(&h->machine, &found), "vmig_send_left");
     left = found.dirty_pages + found.dirty_sectors;
     say("move: round %u sent %llu pages and %llu sectors; %llu are left", h->move.round, (unsigned long long)h->move.pages,
@@ -202,19 +270,21 @@ static int end_round(struct host *h)
     h->move.round++;
     h->move.round_is_sent = 0;
     h->move.pages = h->move.sectors = 0;
-    h->move.left_before = left;
     return 1;
 }
 
 int move_further(struct host *h)
 {
+    struct move *m = &h->move;
     const char *why = NULL;
 
-    if (!h->move.is_on && !operator_words.moves) return 1;
-    if (!h->move.is_on) why = begin_move(h);
+    if (!m->is_on && !operator_words.moves) return 1;
+    if (!m->is_on) why = begin_move(h);
     else if (!is_between_slices(h)) return 1;
-    else if (line_has_come(&h->move.line)) why = what_came(&h->move.line);
-    else if (h->move.round_is_sent) return end_round(h);
-    else why = send_some(h);
+    else if (line_has_come(&m->line)) why = what_came(&m->line);
+    else if (m->is_broken) why = BROKEN;
+    else if (!m->is_carried) return 1;
+    else if (m->round_is_sent) return end_round(h);
+    else why = copy_some(h);
     return why == NULL ? 1 : give_up(h, why);
 }

@@ -14,12 +14,14 @@ void begin_statistics(struct host *h)
 /* The clock is read only for who asks for it. */
 void enter_library(struct host *h)
 {
+    lock_library(h);
     if (h->options.stats) h->statistics.entered = clock_nanoseconds();
 }
 
 void leave_library(struct host *h)
 {
     if (h->options.stats) h->statistics.in_library += clock_nanoseconds() - h->statistics.entered;
+    unlock_library(h);
 }
 
 void print_statistics(const struct host *h)
@@ -32,6 +34,7 @@ void print_statistics(const struct host *h)
     if (!h->options.stats) return;
     say("%.3f s, of which the guest waited %.3f", all, waited);
     say("%llu instructions, %.1f million a second", (unsigned long long)count, (double)count / works / 1e6);
-    say("%llu loans of RAM, %llu steps of devices", (unsigned long long)s->loans, (unsigned long long)s->steps);
+    say("%llu accesses to registers, %llu steps of devices, %llu loans of RAM", (unsigned long long)s->accesses, (unsigned long long)s->steps,
+        (unsigned long long)s->loans);
     say("%.3f s in the library with the bytes that it moves: %.1f percent", library, 100 * library / works);
 }

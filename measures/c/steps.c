@@ -1,10 +1,12 @@
-/* What a step costs, by kind of device, layout and chain: `steps CASE LAYOUT` makes one ring of chains, and steps through it.
- * `count` counts the instructions of these steps. Without words it goes through all cases, and checks that each step served. */
+/* What a step costs, by kind of device, layout and chain: `steps CASE LAYOUT` makes one ring of chains, and steps through it; `steps
+ * CASE LAYOUT kept` does so on a machine with a log of the pages that it writes, which are most often in it already, and `steps CASE
+ * LAYOUT emptied` empties the log after each chain. `count` counts the instructions of these steps. Without words it goes through all
+ * cases, and checks that each step served. */
 #include <stdlib.h>
 #include "driver.h"
 
-/* A ring of 256 entries, and where it and its buffers lie. */
-enum { RING = 256, DRIVER = 0x3000, DEVICE = 0x4000, TABLE = 0x6000, HEADER = 0x7000, STATUS = 0x7100 };
+/* A ring of 256 entries in a small RAM, and where it and its buffers lie. */
+enum { PAGES = 16, RING = 256, DRIVER = 0x3000, DEVICE = 0x4000, TABLE = 0x6000, HEADER = 0x7000, STATUS = 0x7100 };
 
 /* The bytes of a frame. In a buffer 12 bytes of a header come before it (VIRTIO 1.2, 5.1.6). */
 enum { FRAME = 60 };
@@ -79,23 +81,47 @@ static void offer_all(vmig_machine *m, const Case *c, int packed, uint32_t chain
     put(m, DRIVER + 2, chains, 2);
 }
 
+/* What is done with a log of the pages that steps write. */
+enum { NONE, KEPT, EMPTIED, LOGS };
+static const char *const LOG_NAMES[LOGS] = {"none", "kept", "emptied"};
+
+static vmig_machine make_one(const Case *c, int log)
+{
+    vmig_shape shape = {.kind = (uint8_t)c->kind, .sectors = c->kind == VMIG_BLOCK ? 8 : 0};
+    vmig_setup setup = VMIG_SETUP;
+    vmig_machine m = VMIG_NONE;
+
+    setup.pages = PAGES, setup.shapes = &shape, setup.count = 1, setup.flags = log == NONE ? 0 : VMIG_LOG;
+    expect("make", vmig_make(&setup, &m), VMIG_OK);
+    return m;
+}
+
+/* Empties the log. What a chain wrote is in it: at least the page of the ring. */
+static void empty_log(vmig_machine *m)
+{
+    uint32_t pages[PAGES];
+    size_t count = 0;
+
+    expect("written", vmig_written(m, pages, PAGES, &count), VMIG_OK);
+    expect("a page that was written", count > 0, 1);
+}
+
 /* Returns how many calls of vmig_step there were. */
-static uint32_t run(const Case *c, int packed)
+static uint32_t run(const Case *c, int packed, int log)
 {
     static const uint8_t bytes[RING * 16];
     static uint8_t buf[65536];
-    vmig_shape shape = {.kind = (uint8_t)c->kind, .sectors = c->kind == VMIG_BLOCK ? 8 : 0};
     /* An entropy device holds 4,096 bytes: 16 for each descriptor of a ring, and fewer chains where each is a table. */
     uint32_t chains = RING / (c->entries > 0 ? c->entries : c->descriptors), served = 0, calls = 0, number = 0;
     size_t kept = 0;
-    vmig_machine m = VMIG_NONE;
+    vmig_machine m = make_one(c, log);
 
-    expect("make", make_new(16, &shape, 1, &m), VMIG_OK);
     set_up_ring(&m, c, packed);
     offer_all(&m, c, packed, chains);
     if (c->kind == VMIG_ENTROPY || c->kind == VMIG_CONSOLE)
         expect("input", vmig_input(&m, 0, bytes, sizeof bytes, &kept), VMIG_OK);
     write_reg(&m, 0x050, c->queue);
+    if (log == EMPTIED) empty_log(&m);
     for (uint32_t chain = 0; chain < chains; chain++) {
         if (c->kind == VMIG_NETWORK && c->queue == 0) expect("a frame", vmig_input(&m, 0, bytes, FRAME, &kept), VMIG_OK);
         uint32_t status = vmig_step(&m, 0, (uint8_t)c->queue, buf, sizeof buf, &number);
@@ -106,6 +132,7 @@ static uint32_t run(const Case *c, int packed)
             status = vmig_step(&m, 0, 1, buf, sizeof buf, &number);
         }
         served += status == (c->queue == 1 ? VMIG_SENT : VMIG_COMPLETED);
+        if (log == EMPTIED) empty_log(&m);
     }
     expect("all served", served, chains);
     vmig_free(&m);
@@ -118,8 +145,11 @@ int main(int argc, char **argv)
         if (argc > 1 && strcmp(argv[1], CASES[i].name) != 0) continue;
         for (int packed = 0; packed < 2; packed++) {
             if (argc > 2 && strcmp(argv[2], packed ? "packed" : "split") != 0) continue;
-            uint32_t calls = run(&CASES[i], packed);
-            if (argc > 1) printf("%u\n", calls);
+            for (int log = 0; log < LOGS; log++) {
+                if (argc > 1 && strcmp(argc > 3 ? argv[3] : "none", LOG_NAMES[log]) != 0) continue;
+                uint32_t calls = run(&CASES[i], packed, log);
+                if (argc > 1) printf("%u\n", calls);
+            }
         }
     }
     if (argc > 1) return failures != 0;

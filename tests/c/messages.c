@@ -40,22 +40,23 @@ static int bring(uint8_t dev)
 
 /* What a host does after each kick and each input, in turn from where it was: VMIG_IDLE where nothing is left to do, and VMIG_WORK where
  * there is more. The bound is for a guest that gives its devices work without end. A step that is refused memory ends the turn, and the
- * next turn begins after it: so it keeps no other waiting. */
+ * next turn begins behind it: so it keeps no other waiting. */
 static vmig_status do_work(vmig_machine *m)
 {
-    static uint8_t dev, pick;
+    static vmig_turn turn = VMIG_TURN;
     uint32_t len = 0;
+    vmig_status status;
 
-    for (int left = 1000; left > 0; left--) {
-        vmig_status status = vmig_next(m, &dev, &pick);
-        if (status == VMIG_IDLE || vmig_refused(status)) return status;
-        if (status == VMIG_SYNC && !bring(dev)) status = vmig_sync_failed(m, dev);
-        else status = vmig_step(m, dev, pick, buf, sizeof buf, &len);
-        if (vmig_refused(status)) return status;
-        if (status == VMIG_SENT) hand_on(buf, len);
-        lines = vmig_lines(m);
-    }
-    return VMIG_WORK;
+    turn.left = 1000;
+    do {
+        status = vmig_work(m, &turn, buf, sizeof buf);
+        if (status == VMIG_SENT) hand_on(buf, turn.len);
+        if (status == VMIG_SYNC && !bring(turn.dev)) status = vmig_sync_failed(m, turn.dev);
+        else if (status == VMIG_SYNC) status = vmig_step(m, turn.dev, turn.pick, buf, sizeof buf, &len);
+    } while (status != VMIG_IDLE && status != VMIG_WORK && !vmig_refused(status));
+    lines = vmig_lines(m);
+    if (status == VMIG_NO_MEMORY) status = vmig_next(m, &turn.dev, &turn.pick);
+    return status;
 }
 
 /* The rule kept. */

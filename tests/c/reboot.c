@@ -17,8 +17,6 @@ static uint8_t ram[PAGES * 4096], stream[PAGES * 4101 + 10000];
 static void run(vmig_machine *m)
 {
     static const uint8_t frame[64];
-    uint8_t none[1];
-    uint32_t len;
     size_t kept;
 
     for (uint8_t dev = 0; dev < DEVICES; dev++) set_up_device(m, dev, FIRST[dev], QUEUES[dev], 0);
@@ -28,7 +26,7 @@ static void run(vmig_machine *m)
         describe(m, FIRST[dev], 0, 0x18000 + dev * 0x1000u, 100, WRITABLE, 0);
         make_available(m, FIRST[dev], 1, 0);
         write_reg_of(m, dev, 0x050, 0);
-        expect("a step", vmig_step(m, dev, 0, none, 0, &len), VMIG_COMPLETED);
+        serve(m);
         expect("more input", vmig_input(m, dev, frame, sizeof frame, &kept), VMIG_OK);
         expect("all of it", kept, sizeof frame);
     }

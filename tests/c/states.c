@@ -119,6 +119,20 @@ static vmig_status push(vmig_machine *m, int bad)
     return vmig_push(m, &written, ram, bad ? 0 : sizeof ram, seen, PAGES);
 }
 
+static vmig_status mark(vmig_machine *m, int bad)
+{
+    vmig_pages written = VMIG_ALL_PAGES;
+    written.zero = (uint32_t)bad;
+    return vmig_mark(m, &written);
+}
+
+static vmig_status written(vmig_machine *m, int bad)
+{
+    uint32_t page;
+    size_t count;
+    return vmig_written(m, &page, bad ? 0 : 1, &count);
+}
+
 static vmig_status lend(vmig_machine *m, int bad)
 {
     vmig_ram more = {other_room, bad ? sizeof other_room : 0};
@@ -136,6 +150,13 @@ static vmig_status step(vmig_machine *m, int bad)
 {
     uint32_t len;
     return bad ? vmig_step(m, CONSOLE, 1, NULL, 0, &len) : vmig_step(m, ENTROPY, 0, bytes, sizeof bytes, &len);
+}
+
+static vmig_status work(vmig_machine *m, int bad)
+{
+    vmig_turn turn = VMIG_TURN;
+    turn.left = 1, turn.zero = (uint16_t)bad;
+    return vmig_work(m, &turn, bytes, bad ? 0 : sizeof bytes);
 }
 
 static uint8_t device(int bad, uint8_t dev) { return bad ? NO_DEVICE : dev; }
@@ -165,11 +186,12 @@ static vmig_status send_take(vmig_machine *m, int bad) { size_t got; return vmig
 /* A call of an idle machine, and of one that is sent, that answers DONE there, with what it answers in the other states. */
 #define NO_MACHINE_YET VMIG_NO_MACHINE, VMIG_NO_MACHINE, VMIG_NO_MACHINE
 #define WHILE_LENT VMIG_LENT, VMIG_LENT, VMIG_LENT
-#define OF_GUEST(DONE) {NO_MACHINE_YET, DONE, DONE, DONE, VMIG_STOPPED, WHILE_LENT}
+#define OF_GUEST(DONE) {NO_MACHINE_YET, DONE, DONE, DONE, VMIG_STOPPED, DONE, DONE, DONE}
+#define OF_RAM(DONE) {NO_MACHINE_YET, DONE, DONE, DONE, VMIG_STOPPED, WHILE_LENT}
 #define OF_LOOK(DONE) {NO_MACHINE_YET, DONE, DONE, DONE, DONE, WHILE_LENT}
 #define OF_IDLE {NO_MACHINE_YET, VMIG_OK, VMIG_SENDING, VMIG_SENDING, VMIG_SENDING, WHILE_LENT}
 #define OF_SENDER(DONE) {NO_MACHINE_YET, VMIG_NOT_SENDING, DONE, VMIG_SEND_FAILED, VMIG_STOPPED, WHILE_LENT}
-#define OF_SENT(DONE) {NO_MACHINE_YET, VMIG_NOT_SENDING, DONE, DONE, DONE, WHILE_LENT}
+#define OF_SENT(DONE) {NO_MACHINE_YET, VMIG_NOT_SENDING, DONE, DONE, DONE, VMIG_NOT_SENDING, DONE, DONE}
 
 /* A call that makes a machine, or continues one that arrives. */
 #define IN_USE_7 VMIG_IN_USE, VMIG_IN_USE, VMIG_IN_USE, VMIG_IN_USE, VMIG_IN_USE, VMIG_IN_USE, VMIG_IN_USE
@@ -191,19 +213,23 @@ static const Row ROWS[] = {
      {VMIG_NO_MACHINE, VMIG_OK, VMIG_OK, VMIG_OK, VMIG_OK, VMIG_OK, VMIG_OK, WHILE_LENT}},
     {"vmig_reg_read", reg_read, OF_GUEST(VMIG_OK)},
     {"vmig_reg_write", reg_write, OF_GUEST(VMIG_OK)},
-    {"vmig_ram_write", ram_write, OF_GUEST(VMIG_OK)},
+    {"vmig_ram_write", ram_write, OF_RAM(VMIG_OK)},
     {"vmig_input", input, OF_GUEST(VMIG_OK)},
     {"vmig_resize", resize, OF_GUEST(VMIG_OK)},
     {"vmig_drop", drop, OF_GUEST(VMIG_OK)},
     {"vmig_reset", reset, OF_GUEST(VMIG_OK)},
     {"vmig_next", next, OF_GUEST(VMIG_IDLE)},
-    {"vmig_step", step, OF_GUEST(VMIG_IDLE)},
-    {"vmig_push", push, OF_GUEST(VMIG_OK)},
+    {"vmig_step", step, OF_RAM(VMIG_IDLE)},
+    {"vmig_work", work, OF_RAM(VMIG_IDLE)},
+    {"vmig_push", push, OF_RAM(VMIG_OK)},
+    {"vmig_mark", mark, OF_RAM(VMIG_OK)},
     {"vmig_sync_failed", sync_failed, OF_GUEST(VMIG_OK)},
-    {"vmig_lend", lend, OF_GUEST(VMIG_OK)},
+    {"vmig_written", written,
+     {NO_MACHINE_YET, VMIG_NOT_KNOWN, VMIG_NOT_KNOWN, VMIG_NOT_KNOWN, VMIG_NOT_KNOWN, VMIG_NOT_KNOWN, VMIG_NOT_KNOWN, VMIG_NOT_KNOWN}},
+    {"vmig_lend", lend, OF_RAM(VMIG_OK)},
     {"vmig_ram_read", ram_read, OF_LOOK(VMIG_OK)},
     {"vmig_pull", pull, OF_LOOK(VMIG_OK)},
-    {"vmig_room", room_of, OF_LOOK(VMIG_OK)},
+    {"vmig_room", room_of, {NO_MACHINE_YET, VMIG_OK, VMIG_OK, VMIG_OK, VMIG_OK, VMIG_OK, VMIG_OK, VMIG_OK}},
     {"vmig_give_back", give_back,
      {NO_MACHINE_YET, VMIG_NOT_LENT, VMIG_NOT_LENT, VMIG_NOT_LENT, VMIG_NOT_LENT, VMIG_OK, VMIG_OK, VMIG_OK}},
     {"vmig_sector_read", sector_read, OF_IDLE},
@@ -212,10 +238,9 @@ static const Row ROWS[] = {
     {"vmig_send_some", send_some, OF_SENDER(VMIG_OK)},
     {"vmig_send_round", send_round, OF_SENDER(VMIG_ROUND_OPEN)},
     {"vmig_send_stop", send_stop, OF_SENDER(VMIG_OK)},
-    {"vmig_send_abort", send_abort, OF_SENT(VMIG_OK)},
+    {"vmig_send_abort", send_abort, {NO_MACHINE_YET, VMIG_NOT_SENDING, VMIG_OK, VMIG_OK, VMIG_OK, WHILE_LENT}},
     {"vmig_send_left", send_left, OF_SENT(VMIG_OK)},
-    {"vmig_send_take", send_take,
-     {NO_MACHINE_YET, VMIG_NOT_SENDING, VMIG_OK, VMIG_OK, VMIG_OK, VMIG_NOT_SENDING, VMIG_OK, VMIG_OK}},
+    {"vmig_send_take", send_take, OF_SENT(VMIG_OK)},
 };
 
 /* The handle is as it is described. Its lines can be read in each state. */

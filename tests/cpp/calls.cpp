@@ -34,10 +34,11 @@ void expect(int line, bool holds)
 
 #define EXPECT(...) expect(__LINE__, __VA_ARGS__)
 
-// What each call answers that looks at a machine or changes it, where the table of states has one answer for all of them.
-void in_state(machine &m, status wanted)
+// What each call answers that needs no byte of RAM, where the table of states has one answer for all of them.
+template <typename Handle>
+void without_ram(Handle &m, status wanted)
 {
-    std::uint32_t value = 0, len = 0;
+    std::uint32_t value = 0;
     std::size_t kept = 0;
     std::uint8_t dev = 0, pick = 0, byte = 0;
 
@@ -48,23 +49,51 @@ void in_state(machine &m, status wanted)
     EXPECT(m.drop(0), wanted);
     EXPECT(m.reset(), wanted);
     EXPECT(m.next(&dev, &pick), wanted == status::ok ? status::idle : wanted);
-    EXPECT(m.step(0, 0, &byte, 1, &len), wanted == status::ok ? status::idle : wanted);
     EXPECT(m.sync_failed(0), wanted == status::ok ? status::wrong_kind : wanted);
+}
+
+// And those that change RAM.
+void in_state(machine &m, status wanted)
+{
+    static std::uint8_t message[VMIG_SENT_MAX];
+    const std::uint32_t first = 0;
+    vmig_pages named = VMIG_NO_PAGES;
+    vmig_turn turn = VMIG_TURN;
+    std::uint32_t len = 0;
+    std::uint8_t byte = 0;
+
+    named.list = &first, named.count = 1;
+    without_ram(m, wanted);
+    turn.left = 1;
+    EXPECT(m.step(0, 0, &byte, 1, &len), wanted == status::ok ? status::idle : wanted);
+    EXPECT(m.work(&turn, &byte, 1), wanted == status::ok ? status::too_small : wanted);
+    EXPECT(m.work(&turn, message, sizeof message), wanted == status::ok ? status::idle : wanted);
     EXPECT(m.ram_write(0, &byte, 1), wanted);
+    EXPECT(m.mark(named), wanted);
     EXPECT(m.push(vmig_pages VMIG_NO_PAGES, nullptr, 0, nullptr, 0), wanted == status::ok ? status::too_small : wanted);
 }
 
-// Those that a machine that was stopped answers too.
-void looks(machine &m, status wanted)
+// Those that a machine that was stopped answers too, and one whose RAM is lent.
+template <typename Handle>
+void looks(Handle &m, status wanted)
+{
+    std::size_t room = 0, count = 0;
+    std::uint32_t page = 0;
+
+    EXPECT(m.room(0, &room), wanted);
+    EXPECT(m.written(&page, 1, &count), wanted);
+    EXPECT(m.lines() == 0);
+}
+
+// And those that read RAM.
+void looks_at_ram(machine &m, status wanted)
 {
     std::uint8_t byte = 0;
-    std::size_t room = 0;
     std::uint32_t pulled = 0;
 
+    looks(m, wanted);
     EXPECT(m.ram_read(0, &byte, 1), wanted);
-    EXPECT(m.room(0, &room), wanted);
     EXPECT(m.pull(nullptr, 0, nullptr, 0, &pulled), wanted == status::ok ? status::too_small : wanted);
-    EXPECT(m.lines() == 0);
 }
 
 void none()
@@ -77,7 +106,7 @@ void none()
     vmig_left left;
 
     in_state(m, status::no_machine);
-    looks(m, status::no_machine);
+    looks_at_ram(m, status::no_machine);
     EXPECT(m.describe().state == VMIG_IS_NONE);
     EXPECT(m.release(nullptr, 0), status::no_machine);
     EXPECT(m.sector_read(0, 0, sector), status::no_machine);
@@ -102,7 +131,7 @@ machine made(std::vector<std::uint8_t> &memory)
     vmig_setup setup = VMIG_SETUP;
     machine m;
 
-    setup.shapes = &shape, setup.count = 1, setup.ram = {memory.data(), memory.size()};
+    setup.shapes = &shape, setup.count = 1, setup.ram = {memory.data(), memory.size()}, setup.flags = VMIG_LOG;
     EXPECT(m.make(&setup), status::ok);
     EXPECT(m.make(&setup), status::in_use);
     return m;
@@ -114,16 +143,22 @@ void idle_and_lent()
     machine m = made(memory);
     lent loan, other;
     std::uint8_t sector[512] = {};
+    std::size_t len = 0;
+    vmig_left left;
 
     in_state(m, status::ok);
-    looks(m, status::ok);
+    looks_at_ram(m, status::ok);
     EXPECT(m.sector_read(0, 0, sector), status::wrong_kind);
     EXPECT(m.send_some(1), status::not_sending);
     EXPECT(m.get() != nullptr && std::as_const(m).get()->at != nullptr);
     EXPECT(std::move(m).lend(&loan), status::ok);
     other = std::move(loan);
     EXPECT(other.data() == memory.data() && other.size_bytes() == memory.size() && loan.data() == nullptr);
-    EXPECT(other.describe().lent == 1 && other.lines() == 0);
+    EXPECT(other.describe().lent == 1);
+    without_ram(other, status::ok);
+    looks(other, status::ok);
+    EXPECT(other.send_left(&left), status::not_sending);
+    EXPECT(other.send_take(sector, 1, &len), status::not_sending);
     EXPECT(std::move(other).give_back(VMIG_NO_PAGES, &m), status::ok);
     EXPECT(m.release(nullptr, 0), status::ok);
     EXPECT(m.describe().state == VMIG_IS_NONE);
@@ -155,7 +190,7 @@ void moved()
     EXPECT(m.send_stop(&pages, &sectors), status::ok);
     EXPECT(pages == 1 && sectors == 0);
     in_state(m, status::stopped);
-    looks(m, status::ok);
+    looks_at_ram(m, status::ok);
     EXPECT(arrived.arrive(&arrival), status::ok);
     in_state(arrived, status::no_machine);
     while (!vmig::refused(told) && m.send_take(piece, sizeof piece, &got) == status::ok && got != 0) told = arrived.feed(piece, got);

@@ -1,7 +1,7 @@
 //! A driver that reads entropy over a split ring (VIRTIO 1.2, 2.7). Its machine then moves to another one while it runs.
 
 use std::error::Error;
-use vmig::{Arrival, Device, Machine, Next, Pick, Step};
+use vmig::{Arrival, Device, Machine, Step, Turn, TurnEnd};
 
 /// Where the driver keeps its queue, and its buffer.
 const DESCRIPTORS: u32 = 0x1000;
@@ -29,12 +29,9 @@ fn set_up(machine: &mut Machine) -> Result<(), vmig::Error> {
 /// The host puts entropy in, and the device fills the driver's buffer.
 fn serve(machine: &mut Machine) -> Result<[u8; 16], vmig::Error> {
     assert_eq!(machine.input(0, b"sixteen random bytes")?, 20);
-    let mut last = Pick::default();
-    while let Next::Work(pick) | Next::Sync(pick) = machine.next(last)? {
-        last = pick;
-        if let Step::Completed(len) = machine.step(pick, &mut [])? {
-            println!("entropy: {len} bytes are the driver's, interrupt lines {:#x}", machine.lines());
-        }
+    let mut turn = Turn::new(100);
+    while let TurnEnd::Answer(_, Step::Completed(len)) = machine.work(&mut turn, &mut [])? {
+        println!("entropy: {len} bytes are the driver's, interrupt lines {:#x}", machine.lines());
     }
     let mut bytes = [0; 16];
     machine.read_ram(BUFFER.into(), &mut bytes)?;

@@ -54,6 +54,7 @@ pub struct ArrivalBuilder {
     most_pages: u32,
     most_sectors: u64,
     base: u64,
+    flags: u32,
     parts: Parts,
 }
 
@@ -98,6 +99,12 @@ impl ArrivalBuilder {
         ArrivalBuilder { base, ..self }
     }
 
+    /// The pages that the calls of the library write are logged, for [`Machine::hand_out`], from the arrival's end on. None of those that arrive
+    /// is: all of RAM is new then.
+    pub fn log_written(self) -> ArrivalBuilder {
+        ArrivalBuilder { flags: self.flags | raw::LOG, ..self }
+    }
+
     /// The arrival begins. Refusals, in their order: `BadRam` (the memory is not 1 to 16,384 whole pages, or `most_pages` beside it),
     /// `BadShape`, `BadBase`, `BadImages` (not those of the devices), `NoMemory`.
     pub fn begin(mut self) -> Result<Arrival, Refused<ArrivalBuilder>> {
@@ -127,6 +134,7 @@ impl ArrivalBuilder {
             count_images: slots.len(),
             ram: self.parts.memory.as_mut().map_or(raw::NO_RAM, Memory::slot),
             base: self.base,
+            flags: self.flags,
             ..raw::ARRIVAL
         };
         // SAFETY: the slices are valid for the call, and the handle is of no machine. RAM and images are owned by what the machine's owner

@@ -23,6 +23,7 @@ pub struct MachineBuilder {
     pages: u32,
     base: u64,
     contents: Vec<u8>,
+    flags: u32,
     parts: Parts,
 }
 
@@ -68,6 +69,11 @@ impl MachineBuilder {
         self
     }
 
+    /// The pages that the calls of the library write are logged, for [`Machine::hand_out`]: a step then takes some instructions more.
+    pub fn log_written(self) -> MachineBuilder {
+        MachineBuilder { flags: self.flags | raw::LOG, ..self }
+    }
+
     /// Makes the machine. Refusals, in their order: `BadRam` (not 1 to 16,384 whole pages, or `pages` and the memory differ), `BadShape`,
     /// `BadBase`, `BadImages` (contents and images; not one for each disk, or of other lengths), `NoMemory`.
     pub fn build(mut self) -> Result<Machine, Refused<MachineBuilder>> {
@@ -98,6 +104,7 @@ impl MachineBuilder {
             count_images: slots.len(),
             ram: self.parts.memory.as_mut().map_or(raw::NO_RAM, Memory::slot),
             base: self.base,
+            flags: self.flags,
             ..raw::SETUP
         };
         // SAFETY: the slices are valid for the call, and the handle is of no machine. RAM and images are owned by what the machine's owner

@@ -1,13 +1,44 @@
 //! A machine whose RAM is lent to the caller.
 
 use crate::device::Device;
-use crate::error::{Error, Refused, done};
-use crate::machine::Machine;
+use crate::error::{Error, Refused, SyncError, done};
+use crate::machine::{Machine, Next, Pick, State};
+use crate::migration::Left;
 use crate::pages::Pages;
 use crate::raw;
 use std::slice;
 
-/// A machine whose RAM is lent: the caller and its guest read and write the bytes. It has these calls alone until RAM is given back.
+/// A machine whose RAM is lent: the caller and its guest read and write the bytes. Until RAM is given back it has the calls that need no byte of
+/// it: registers, what the host puts in, the lines, the next step, and the bytes of a move.
+///
+/// ```
+/// use vmig::{Device, Lent, Machine, Memory, Next, Pages, SENT_MAX, Step, Turn, TurnEnd};
+///
+/// /// A processor of the guest came out, for a write of a register. The others come out for steps alone.
+/// fn writes(mut lent: Lent, turn: &mut Turn, dev: u8, offset: u32, value: u32) -> Result<Lent, Box<dyn std::error::Error>> {
+///     lent.write_register(dev, offset, 4, value)?;
+///     if lent.next(turn.last)? != Next::Idle {
+///         let mut machine = lent.give_back(Pages::NONE)?;   // all processors are outside from here on
+///         let mut buf = vec![0; SENT_MAX];
+///         turn.left = 1000;
+///         loop {
+///             match machine.work(turn, &mut buf)? {
+///                 TurnEnd::Idle | TurnEnd::Unfinished => break,
+///                 TurnEnd::Answer(_, Step::Sent(message)) => println!("{} bytes for the terminal", message.len()),
+///                 end => println!("{end:?}"),
+///             }
+///         }
+///         lent = machine.lend()?;
+///     }
+///     println!("interrupt lines: {:#x}", lent.lines());
+///     Ok(lent)
+/// }
+///
+/// let machine = Machine::builder().memory(Memory::zeros(16)?).device(Device::Console).build()?;
+/// let lent = writes(machine.lend()?, &mut Turn::default(), 0, 0x070, 3)?;
+/// assert_eq!(lent.read_register(0, 0x070, 4)?, 3);
+/// # Ok::<(), Box<dyn std::error::Error>>(())
+/// ```
 #[derive(Debug)]
 pub struct Lent {
     machine: Machine,
@@ -51,36 +82,9 @@ impl Lent {
         unsafe { slice::from_raw_parts_mut(self.ram.at.cast(), self.ram.len) }
     }
 
-    /// The interrupt lines, as they were when RAM was lent.
-    #[must_use]
-    pub fn lines(&self) -> u32 {
-        self.machine.lines()
-    }
-
-    /// How many pages of RAM it has.
-    #[must_use]
-    pub fn pages(&self) -> u32 {
-        self.machine.pages()
-    }
-
-    /// The guest-physical address at which its RAM begins.
-    #[must_use]
-    pub fn base(&self) -> u64 {
-        self.machine.base()
-    }
-
-    /// What its devices were made as.
-    pub fn devices(&self) -> Result<Vec<Device>, Error> {
-        self.machine.devices()
-    }
-
-    /// Takes the first of the bytes that wait, of a machine that is being sent.
-    pub fn send_take(&mut self, buf: &mut [u8]) -> Result<usize, Error> {
-        self.machine.send_take(buf)
-    }
-
-    /// Gives RAM back, with the pages that were written meanwhile: in Rust or by the guest. Of a machine that is being sent, a page that was
-    /// written and is not named is lost at the target.
+    /// Gives RAM back, with pages that were written meanwhile: in Rust or by the guest. Of a machine that is being sent, a page that was written
+    /// is lost at the target, unless it is named here, at a later return or by [`Machine::mark`] before [`Machine::send_round`] and
+    /// [`Machine::send_stop`].
     ///
     /// Refusals: `TooSmall` (a bitmap of too few words), `OutOfRam` (no such page), `NoMemory` (a bitmap, or all). RAM is still lent then.
     pub fn give_back(mut self, written: Pages<'_>) -> Result<Machine, Refused<Lent>> {
@@ -89,5 +93,119 @@ impl Lent {
             Ok(_) => Ok(self.machine),
             Err(error) => Err(Refused { error, value: self }),
         }
+    }
+}
+
+/// The calls of a [`Machine`] that need no byte of RAM. They do the same, and other processors of the guest run on meanwhile.
+impl Lent {
+    /// As [`Machine::pages`].
+    #[must_use]
+    pub fn pages(&self) -> u32 {
+        self.machine.pages()
+    }
+
+    /// As [`Machine::base`].
+    #[must_use]
+    pub fn base(&self) -> u64 {
+        self.machine.base()
+    }
+
+    /// As [`Machine::devices`].
+    pub fn devices(&self) -> Result<Vec<Device>, Error> {
+        self.machine.devices()
+    }
+
+    /// As [`Machine::state`].
+    #[must_use]
+    pub fn state(&self) -> State {
+        self.machine.state()
+    }
+
+    /// As [`Machine::is_logged`].
+    #[must_use]
+    pub fn is_logged(&self) -> bool {
+        self.machine.is_logged()
+    }
+
+    /// As [`Machine::read_register`].
+    pub fn read_register(&self, dev: u8, offset: u32, width: u8) -> Result<u32, Error> {
+        self.machine.read_register(dev, offset, width)
+    }
+
+    /// As [`Machine::write_register`]. Where [`Lent::next`] names a step after it, RAM is given back for the step, with all processors outside.
+    pub fn write_register(&mut self, dev: u8, offset: u32, width: u8, value: u32) -> Result<Option<u8>, Error> {
+        self.machine.write_register(dev, offset, width, value)
+    }
+
+    /// As [`Machine::lines`].
+    #[must_use]
+    pub fn lines(&self) -> u32 {
+        self.machine.lines()
+    }
+
+    /// As [`Machine::input`].
+    pub fn input(&mut self, dev: u8, bytes: &[u8]) -> Result<usize, Error> {
+        self.machine.input(dev, bytes)
+    }
+
+    /// As [`Machine::room`].
+    pub fn room(&self, dev: u8) -> Result<usize, Error> {
+        self.machine.room(dev)
+    }
+
+    /// As [`Machine::resize`].
+    pub fn resize(&mut self, dev: u8, columns: u16, rows: u16) -> Result<(), Error> {
+        self.machine.resize(dev, columns, rows)
+    }
+
+    /// As [`Machine::drop_input`].
+    pub fn drop_input(&mut self, dev: u8) -> Result<(), Error> {
+        self.machine.drop_input(dev)
+    }
+
+    /// As [`Machine::reset`].
+    pub fn reset(&mut self) -> Result<(), Error> {
+        self.machine.reset()
+    }
+
+    /// As [`Machine::next`]. RAM is given back before the step.
+    pub fn next(&self, after: Pick) -> Result<Next, Error> {
+        self.machine.next(after)
+    }
+
+    /// As [`Machine::sync`].
+    pub fn sync(&mut self, dev: u8) -> Result<(), SyncError> {
+        self.machine.sync(dev)
+    }
+
+    /// As [`Machine::sync_failed`].
+    pub fn sync_failed(&mut self, dev: u8) -> Result<(), Error> {
+        self.machine.sync_failed(dev)
+    }
+
+    /// As [`Machine::is_lost`].
+    #[must_use]
+    pub fn is_lost(&self, dev: u8) -> bool {
+        self.machine.is_lost(dev)
+    }
+
+    /// As [`Machine::hand_out`].
+    pub fn hand_out(&mut self, pages: &mut [u32]) -> Result<usize, Error> {
+        self.machine.hand_out(pages)
+    }
+
+    /// As [`Machine::written`].
+    pub fn written(&mut self) -> Result<Vec<u32>, Error> {
+        self.machine.written()
+    }
+
+    /// As [`Machine::send_left`]. What was written and not named is not counted.
+    pub fn send_left(&self) -> Result<Left, Error> {
+        self.machine.send_left()
+    }
+
+    /// As [`Machine::send_take`]: in pieces of some 64 KiB, since each call waits for the one before.
+    pub fn send_take(&mut self, buf: &mut [u8]) -> Result<usize, Error> {
+        self.machine.send_take(buf)
     }
 }

@@ -4,13 +4,15 @@
 //! - [`Machine::builder`] makes a [`Machine`]; [`Arrival::builder`] lets one arrive. RAM lies in memory of the library, or in a [`Memory`];
 //!   disks in memory of the library, or in [`Image`]s.
 //! - [`Machine::read_register`], [`Machine::write_register`] and [`Machine::input`] hand in what the guest and the host do,
-//!   [`Machine::next`] and [`Machine::step`] do the devices' work, [`Machine::lines`] are the interrupts.
-//! - [`Machine::lend`] gives RAM to a guest that runs on it, [`Lent::give_back`] takes it back.
+//!   [`Machine::work`] does the devices' work, [`Machine::lines`] are the interrupts. [`Machine::next`] and [`Machine::step`] do the work step by
+//!   step.
+//! - [`Machine::lend`] gives RAM to a guest that runs on it, [`Lent::give_back`] takes it back for steps; all that needs no byte of RAM is done
+//!   by a [`Lent`]. [`Machine::mark`] names pages that the guest wrote, [`Machine::written`] those that the library did.
 //! - [`Machine::send_begin`] and the calls that begin with `send` move it.
 //! - [`Machine::into_parts`] frees it, and gives back what was the caller's.
 //!
 //! # What does not compile
-//! A machine that was freed or lent has no calls:
+//! A machine that was freed or lent has no calls by its old name:
 //! ```compile_fail,E0382
 //! # use vmig::{Device, Machine};
 //! let machine = Machine::builder().pages(1).device(Device::Console).build().unwrap();
@@ -22,6 +24,25 @@
 //! let machine = Machine::builder().memory(Memory::zeros(1).unwrap()).device(Device::Console).build().unwrap();
 //! let lent = machine.lend().unwrap();
 //! machine.lines();
+//! ```
+//! One that is lent makes no step, and its RAM is read and written where it lies:
+//! ```compile_fail,E0599
+//! # use vmig::{Lent, Pick};
+//! # fn program(mut lent: Lent) {
+//! lent.step(Pick::default(), &mut []).unwrap();
+//! # }
+//! ```
+//! ```compile_fail,E0599
+//! # use vmig::{Lent, Turn};
+//! # fn program(mut lent: Lent) {
+//! lent.work(&mut Turn::new(1), &mut []).unwrap();
+//! # }
+//! ```
+//! ```compile_fail,E0599
+//! # use vmig::Lent;
+//! # fn program(mut lent: Lent) {
+//! lent.write_ram(0, b"bytes").unwrap();
+//! # }
 //! ```
 //! Nor has one that was finished, refused or given back a second life:
 //! ```compile_fail,E0382
@@ -72,13 +93,22 @@
 //! ram[0] = 1;
 //! # }
 //! ```
-//! A message is handed on before the next step overwrites it:
+//! A message is handed on before the next step, or the rest of the turn, overwrites it:
 //! ```compile_fail,E0499
 //! # use vmig::{Machine, Pick, SENT_MAX, Step};
 //! # fn program(mut machine: Machine) {
 //! let mut buf = vec![0; SENT_MAX];
 //! let first = machine.step(Pick::default(), &mut buf).unwrap();
 //! let second = machine.step(Pick::default(), &mut buf).unwrap();
+//! println!("{first:?}");
+//! # }
+//! ```
+//! ```compile_fail,E0499
+//! # use vmig::{Machine, SENT_MAX, Turn};
+//! # fn program(mut machine: Machine) {
+//! let (mut buf, mut turn) = (vec![0; SENT_MAX], Turn::new(1000));
+//! let first = machine.work(&mut turn, &mut buf).unwrap();
+//! let second = machine.work(&mut turn, &mut buf).unwrap();
 //! println!("{first:?}");
 //! # }
 //! ```
@@ -125,6 +155,7 @@ mod migration;
 mod pages;
 mod raw;
 mod region;
+mod turn;
 
 pub use arrival::{Announced, Arrival, ArrivalBuilder, announced};
 pub use builder::MachineBuilder;
@@ -136,6 +167,7 @@ pub use machine::{Machine, Next, Parts, Pick, State, Step};
 pub use memory::Memory;
 pub use migration::Left;
 pub use pages::Pages;
+pub use turn::{Turn, TurnEnd};
 
 /// The most bytes that a step can put into the buffer of its caller: a console's message.
 pub const SENT_MAX: usize = raw::SENT_MAX;

@@ -87,6 +87,24 @@ pub enum Step<'a> {
     NeedsReset,
 }
 
+impl<'a> Step<'a> {
+    /// What a step was answered by this status. `len` is that of a message, at the front of the buffer, or the used length.
+    pub(crate) fn of(status: u32, len: u32, buf: &'a [u8]) -> Result<Step<'a>, Error> {
+        Ok(match status {
+            raw::IDLE => Step::Idle,
+            raw::TAKEN => Step::Taken,
+            raw::MOVED => Step::Moved,
+            raw::BAD_SECTOR => Step::BadSector,
+            raw::DISK_FAILED => Step::DiskFailed,
+            raw::COMPLETED => Step::Completed(len),
+            raw::SENT => Step::Sent(&buf[..len as usize]),
+            raw::DROPPED => Step::Dropped,
+            raw::NEEDS_RESET => Step::NeedsReset,
+            _ => return Err(Error::Unknown),
+        })
+    }
+}
+
 /// Where a machine stands between the beginning and the end of a move.
 #[derive(Clone, Copy, Debug, PartialEq, Eq, Hash)]
 #[non_exhaustive]
@@ -182,6 +200,12 @@ impl Machine {
         self.describe().message as usize
     }
 
+    /// Whether the pages that calls write are logged ([`MachineBuilder::log_written`]).
+    #[must_use]
+    pub fn is_logged(&self) -> bool {
+        self.describe().flags & raw::LOG != 0
+    }
+
     /// Whether the disk of a device is lost, by [`Machine::sync`] or [`Machine::sync_failed`].
     #[must_use]
     pub fn is_lost(&self, dev: u8) -> bool {
@@ -251,7 +275,7 @@ impl Machine {
     }
 }
 
-/// Work of the devices.
+/// Work of the devices: [`Machine::work`] makes a turn of it, and the other calls make it step by step.
 impl Machine {
     /// A step that has something to do: the first in turn after this one. Begin with `Pick::default()`, and hand in the last one that was
     /// named: so no device keeps the others from their work.
@@ -269,22 +293,14 @@ impl Machine {
     /// A device does one piece of its work. Of a block device pick 0 takes the next request, and pick k, from 1 to 8, brings the k-th request
     /// that it has taken one unit on. Of the others pick 0 fills the next buffer of the driver, and pick 1 takes its next message, which goes
     /// to the front of the buffer. [`SENT_MAX`](crate::SENT_MAX) bytes, or [`Machine::message_len`], always suffice.
+    ///
+    /// For a host that holds a device back, as for a rate: [`Machine::work`] makes steps without being asked for each.
     pub fn step<'a>(&mut self, pick: Pick, buf: &'a mut [u8]) -> Result<Step<'a>, Error> {
         let Pick { dev, pick } = pick;
         let mut len = 0;
         // SAFETY: see `describe`.
-        Ok(match done(unsafe { raw::vmig_step(&mut self.held, dev, pick, buf.as_mut_ptr(), buf.len(), &mut len) })? {
-            raw::IDLE => Step::Idle,
-            raw::TAKEN => Step::Taken,
-            raw::MOVED => Step::Moved,
-            raw::BAD_SECTOR => Step::BadSector,
-            raw::DISK_FAILED => Step::DiskFailed,
-            raw::COMPLETED => Step::Completed(len),
-            raw::SENT => Step::Sent(&buf[..len as usize]),
-            raw::DROPPED => Step::Dropped,
-            raw::NEEDS_RESET => Step::NeedsReset,
-            _ => return Err(Error::Unknown),
-        })
+        let status = done(unsafe { raw::vmig_step(&mut self.held, dev, pick, buf.as_mut_ptr(), buf.len(), &mut len) })?;
+        Step::of(status, len, buf)
     }
 }
 
@@ -349,6 +365,39 @@ impl Machine {
     pub fn write_ram(&mut self, addr: u64, bytes: &[u8]) -> Result<(), Error> {
         // SAFETY: see `describe`.
         done(unsafe { raw::vmig_ram_write(&mut self.held, addr, bytes.as_ptr(), bytes.len()) }).map(drop)
+    }
+
+    /// Names pages that were written while RAM was lent and were not named when it came back: each counts as written once more, whole, with the
+    /// bytes that are there. Pages may be named in pieces, and more of them than were written. Of a machine that is being sent each page that
+    /// was written is named before the next [`Machine::send_round`] and [`Machine::send_stop`], and [`Machine::send_left`] counts those that were.
+    ///
+    /// Refusals: `TooSmall` (a bitmap of too few words), `OutOfRam` (no such page), `Stopped`, `NoMemory` (a bitmap, or all).
+    pub fn mark(&mut self, written: Pages<'_>) -> Result<(), Error> {
+        // SAFETY: see `describe`; the list and the bitmap are valid for the call.
+        done(unsafe { raw::vmig_mark(&mut self.held, &written.raw()) }).map(drop)
+    }
+
+    /// Hands out the numbers of the pages that [`Machine::step`], [`Machine::write_ram`] and [`Machine::push`] wrote, and forgets them: as many
+    /// as the slice has room for, ascending. It tells how many; where these are fewer than there is room for, they were all. Exactly these: not
+    /// those that the caller named, and none that arrived. For a host that translates code, or shows a frame buffer.
+    ///
+    /// `NotKnown` where it was made, or arrived, without [`MachineBuilder::log_written`].
+    pub fn hand_out(&mut self, pages: &mut [u32]) -> Result<usize, Error> {
+        let mut count = 0;
+        // SAFETY: see `describe`; the slice is valid for the call.
+        done(unsafe { raw::vmig_written(&mut self.held, pages.as_mut_ptr(), pages.len(), &mut count) })?;
+        Ok(count)
+    }
+
+    /// All of them, as [`Machine::hand_out`] hands them out.
+    pub fn written(&mut self) -> Result<Vec<u32>, Error> {
+        let (mut pages, mut count) = (Vec::new(), 0);
+        while count == pages.len() {
+            pages.resize(count + 64, 0);
+            count += self.hand_out(&mut pages[count..])?;
+        }
+        pages.truncate(count);
+        Ok(pages)
     }
 
     /// Of RAM that is mirrored: hands in pages that the guest wrote in a RAM of the caller's own, and notes their versions in `seen`, which

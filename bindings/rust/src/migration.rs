@@ -12,7 +12,7 @@ pub struct Left {
     pub due_pages: u64,
     /// Due in this round.
     pub due_sectors: u64,
-    /// Written since they were sent.
+    /// Written since they were sent; of RAM that was lent, as far as named.
     pub dirty_pages: u64,
     /// Written since they were sent.
     pub dirty_sectors: u64,
@@ -28,7 +28,8 @@ impl Machine {
         done(unsafe { raw::vmig_send_begin(&mut self.held) }).map(drop)
     }
 
-    /// Copies up to `most` of the pages and sectors that are due in this round. Whether something is due after it.
+    /// Copies up to `most` of the pages and sectors that are due in this round. Whether something is due after it. Their bytes wait until they
+    /// are taken, and are digested then.
     pub fn send_some(&mut self, most: u32) -> Result<bool, Error> {
         // SAFETY: as above.
         let status = done(unsafe { raw::vmig_send_some(&mut self.held, most) })?;
@@ -42,7 +43,8 @@ impl Machine {
         Ok(status != raw::ROUND_OPEN)
     }
 
-    /// Copies all that is left, and closes the stream: how many pages and sectors it copied. The guest is paused from here on.
+    /// Copies all that is left, and closes the stream: how many pages and sectors it copied. The guest is paused from here on. Take what waits
+    /// before it: what was not taken is digested in this call, while the guest stands.
     pub fn send_stop(&mut self) -> Result<(u64, u64), Error> {
         let (mut pages, mut sectors) = (0, 0);
         // SAFETY: as above.

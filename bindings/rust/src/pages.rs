@@ -2,8 +2,8 @@
 
 use crate::raw;
 
-/// Pages of RAM that were written, as [`Lent::give_back`](crate::Lent::give_back) and [`Machine::push`](crate::Machine::push) take them:
-/// those of a list, those of a bitmap, both, all or none.
+/// Pages of RAM that were written, as [`Lent::give_back`](crate::Lent::give_back), [`Machine::mark`](crate::Machine::mark) and
+/// [`Machine::push`](crate::Machine::push) take them: those of a list, those of a bitmap, both, all or none.
 ///
 /// Pages have the numbers 0, 1 and so on from RAM's first byte, whatever its base: that of a guest-physical address is
 /// `(address - base) / 4096`.

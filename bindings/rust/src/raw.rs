@@ -122,7 +122,7 @@ pub struct Setup {
     pub ram: Ram,
     /// The guest-physical address of RAM's first byte.
     pub base: u64,
-    /// 0.
+    /// `LOG`, or 0.
     pub flags: u32,
     /// 0.
     pub block: u32,
@@ -169,7 +169,7 @@ pub struct Arrival {
     pub ram: Ram,
     /// The guest-physical address of RAM's first byte.
     pub base: u64,
-    /// 0.
+    /// `LOG`, or 0.
     pub flags: u32,
     /// 0.
     pub frame: u32,
@@ -216,7 +216,7 @@ pub struct Description {
     pub count: u32,
     /// Of RAM.
     pub base: u64,
-    /// 0.
+    /// `LOG`, or 0.
     pub flags: u32,
     /// 0.
     pub calls_out: u32,
@@ -240,6 +240,26 @@ pub struct Description {
     pub shapes: [Shape; 16],
 }
 
+/// A turn of the devices.
+#[repr(C)]
+#[derive(Clone, Copy, Debug, Default)]
+pub struct Turn {
+    /// The device of the step that was made or passed over last.
+    pub dev: u8,
+    /// Its pick.
+    pub pick: u8,
+    /// 0.
+    pub zero: u16,
+    /// How many steps may still be made or passed over.
+    pub left: u32,
+    /// Of a message its bytes, of a chain that was completed its used length.
+    pub len: u32,
+    /// 0.
+    pub zero2: u32,
+    /// 0.
+    pub reserved: [u64; 2],
+}
+
 /// What is left to be sent.
 #[repr(C)]
 #[derive(Clone, Copy, Debug, Default)]
@@ -257,6 +277,9 @@ pub struct Left {
     /// 0.
     pub reserved: [u64; 3],
 }
+
+/// A flag of a setup and of an arrival: the pages that calls write are logged.
+pub const LOG: u32 = 2;
 
 /// A network device.
 pub const NETWORK: u8 = 1;
@@ -433,6 +456,8 @@ unsafe extern "C" {
     pub fn vmig_next(machine: *const Machine, dev: *mut u8, pick: *mut u8) -> u32;
     /// A device does one piece of its work.
     pub fn vmig_step(machine: *mut Machine, dev: u8, pick: u8, buf: *mut u8, size: usize, len: *mut u32) -> u32;
+    /// A turn of the devices.
+    pub fn vmig_work(machine: *mut Machine, turn: *mut Turn, buf: *mut u8, size: usize) -> u32;
     /// The disk of this device could not be brought to its file: it is lost.
     pub fn vmig_sync_failed(machine: *mut Machine, dev: u8) -> u32;
     /// Reads a sector of a disk.
@@ -445,6 +470,10 @@ unsafe extern "C" {
     pub fn vmig_lend(machine: *mut Machine, ram: *mut Ram) -> u32;
     /// Takes RAM back, with the pages that were written.
     pub fn vmig_give_back(machine: *mut Machine, ram: *mut Ram, written: *const Pages) -> u32;
+    /// Names pages that were written while RAM was lent.
+    pub fn vmig_mark(machine: *mut Machine, written: *const Pages) -> u32;
+    /// Hands out the pages that calls wrote.
+    pub fn vmig_written(machine: *mut Machine, pages: *mut u32, size: usize, count: *mut usize) -> u32;
     /// Hands pages in to RAM that is mirrored.
     pub fn vmig_push(machine: *mut Machine, written: *const Pages, ram: *const u8, len: usize, seen: *mut u64, count: usize) -> u32;
     /// Hands out the pages that the caller has not seen.

@@ -1,10 +1,12 @@
 //! Memory that is refused: a malloc of this program's own refuses the large requests, while a call of the library is being made. It is alone in
 //! its program, as it is the malloc of all of it.
 
+mod common;
+use common::{Ring, ready};
 use std::ffi::c_void;
 use std::ptr;
 use std::sync::atomic::{AtomicUsize, Ordering};
-use vmig::{Arrival, Device, Error, Machine, Memory, Pages, State, announced};
+use vmig::{Arrival, Device, Error, Machine, Memory, Pages, Pick, SENT_MAX, State, Step, Turn, TurnEnd, announced};
 
 unsafe extern "C" {
     fn __libc_malloc(size: usize) -> *mut c_void;
@@ -44,6 +46,7 @@ fn memory_that_is_refused_costs_nothing() {
     a_move_fails_and_another_succeeds();
     an_arrival_fails_and_another_succeeds();
     a_loan_stays();
+    a_turn_tells_it_alone();
 }
 
 fn a_machine_is_not_made() {
@@ -88,4 +91,29 @@ fn a_loan_stays() {
     let refused = without(4096, || lent.give_back(Pages::ALL)).unwrap_err();
     assert_eq!((refused.error, refused.value.pages()), (Error::NoMemory, 4096));
     assert_eq!(refused.value.give_back(Pages::list(&[4095])).unwrap().pages(), 4096);
+}
+
+/// A console sends more than memory is given for. The step is told where it is the first of a call, and is made once there is memory.
+fn a_turn_tells_it_alone() {
+    let mut machine = Machine::builder().pages(16).devices(&[Device::Console, Device::Entropy]).build().unwrap();
+    let (mut said, mut pool) = (Ring::new(0, 1, 0x1000), Ring::new(1, 0, 0x4000));
+    ready(&mut machine, 0, &[&said]);
+    ready(&mut machine, 0, &[&pool]);
+    said.publish(&mut machine, &[(0x8000, 0x4000, false)]);
+    pool.publish(&mut machine, &[(0xc000, 8, true)]);
+    machine.input(1, &[1; 64]).unwrap();
+    let (mut turn, mut buf) = (Turn::new(9), vec![0; SENT_MAX]);
+    let (console, entropy) = (Pick { dev: 0, pick: 1 }, Pick { dev: 1, pick: 0 });
+
+    // The steps after the console's are those of the entropy device: it completes, and then it finds its queue empty.
+    assert!(without(1 << 12, || machine.work(&mut turn, &mut buf) == Err(Error::NoMemory)));
+    assert_eq!(turn, Turn::new(9));
+    turn.last = console;
+    assert!(without(1 << 12, || machine.work(&mut turn, &mut buf) == Ok(TurnEnd::Answer(entropy, Step::Completed(8)))));
+    turn.last = console;
+    assert!(without(1 << 12, || machine.work(&mut turn, &mut buf) == Ok(TurnEnd::Unfinished)));
+    assert_eq!(turn, Turn { last: entropy, left: 7 });
+    assert!(without(1 << 12, || machine.work(&mut turn, &mut buf) == Err(Error::NoMemory)));
+    assert_eq!(machine.work(&mut turn, &mut buf), Ok(TurnEnd::Answer(console, Step::Sent(&[0; 0x4000]))));
+    assert_eq!(machine.work(&mut turn, &mut buf), Ok(TurnEnd::Idle));
 }

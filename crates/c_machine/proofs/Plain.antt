@@ -71,7 +71,7 @@ honest_for m (Input dev bytes) plain = tt
 honest_for m (Resize dev cols rows) plain = tt
 honest_for m (Drop dev) plain = tt
 
-is_refusal : (reply : Reply) → 1 ≤ status_of reply → status_of reply < 64 → IsRefusal reply
+pub is_refusal : (reply : Reply) → 1 ≤ status_of reply → status_of reply < 64 → IsRefusal reply
 is_refusal (Value v) some few = absurd (omega (arith, some))
 is_refusal Done some few = absurd (omega (arith, some))
 is_refusal (OutByte byte) some few = absurd (omega (arith, few))

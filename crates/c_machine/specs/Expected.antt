@@ -3,7 +3,7 @@ use Rattle.std.specs.Prelude.{◌≡◌, ℕ, ◌==◌, ◌&&◌, ◌||◌, not,
 use Rattle.machine.specs.First.{are_same, is_base}
 use Rattle.machine.specs.Shapes.{disk_sizes}
 use Rattle.machine.specs.declared.machine.TheConstants.{DEVICES_MAX}
-use Rattle.c_machine.specs.Made.{has_bytes, is_ram}
+use Rattle.c_machine.specs.Made.{are_known, has_bytes, is_ram}
 use Rattle.c_machine.specs.Making.{are_plain, shapes_of}
 use Rattle.c_machine.specs.Mapping.{counts}
 use Rattle.c_machine.specs.Named.{are_zeros}
@@ -20,7 +20,7 @@ has_images e = not (length e.images.now == 0)
 
 -- The version is 1, and what no version gives a meaning yet is 0.
 abbrev pub is_known_arrival : Expected → Bool
-is_known_arrival e = e.version == 1 && (e.flags == 0 && (e.frame == 0 && (e.most_outside == 0 && (e.block == 0 && (e.zero == 0 && are_zeros e.reserved)))))
+is_known_arrival e = e.version == 1 && (are_known e.flags && (e.frame == 0 && (e.most_outside == 0 && (e.block == 0 && (e.zero == 0 && are_zeros e.reserved)))))
 
 -- These bytes of the caller, where there are any, are no RAM, or pages are allowed beside them.
 abbrev pub is_unfit_ram : ℕ → ℕ → Bool

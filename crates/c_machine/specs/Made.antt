@@ -35,9 +35,16 @@ has_contents s = not (length s.contents.now == 0)
 abbrev pub has_images : Setup → Bool
 has_images s = not (length s.images.now == 0)
 
+-- A log of the pages that calls write is asked for. No other flag is known.
+abbrev pub asks_log : ℕ → Bool
+asks_log flags = flags == 2
+
+abbrev pub are_known : ℕ → Bool
+are_known flags = flags == 0 || asks_log flags
+
 -- The version is 1, and what no version gives a meaning yet is 0.
 abbrev pub is_known_setup : Setup → Bool
-is_known_setup s = s.version == 1 && (s.flags == 0 && (s.block == 0 && are_zeros s.reserved))
+is_known_setup s = s.version == 1 && (are_known s.flags && (s.block == 0 && are_zeros s.reserved))
 
 -- The bytes of RAM that are asked for: those of the caller's memory, or those of the pages, where there is none.
 abbrev pub ram_bytes : ℕ → ℕ → ℕ

@@ -25,10 +25,10 @@ mod setup;
 pub mod status;
 
 pub use description::{Description, FRAME_MAX, SENT_MAX, message_of};
-pub use device_shape::DeviceShape;
+pub use device_shape::{DeviceShape, are_zeros};
 pub use images::count_in;
 pub use making::{machine_on, own_disks, shapes_of, zero_disks};
 pub use mapping::{give_back, mapped_disks};
 pub use over_ram::{put_back, taken_ram};
 pub use pages::Pages;
-pub use setup::{Expected, Setup, arrival_refusal, is_none, setup_refusal};
+pub use setup::{Expected, LOG, Setup, arrival_refusal, asks_log, is_none, setup_refusal};

@@ -13,7 +13,7 @@
 
 ghost use Rattle.std.specs.Prelude.{◌≡◌, ◌==◌, length};
 ghost use Rattle.c_machine.specs.Expected.{are_other_images, are_unfit_shapes, arrival_refusal_of, is_known_arrival, is_unfit_ram};
-ghost use Rattle.c_machine.specs.Made.{are_other_disks, is_bad_ram, is_known_setup, ram_bytes, setup_refusal_of};
+ghost use Rattle.c_machine.specs.Made.{are_known, are_other_disks, asks_log, is_bad_ram, is_known_setup, ram_bytes, setup_refusal_of};
 
 use crate::device_shape::{DeviceShape, are_zeros};
 use crate::images::are_images;
@@ -28,6 +28,9 @@ use region::Slot;
 
 /// The version of both structs that this library knows.
 const KNOWN: u32 = 1;
+
+/// The flag that asks for a log of the pages that calls write.
+pub const LOG: u32 = 2;
 
 /// How a machine is made.
 #[repr(C)]
@@ -53,7 +56,7 @@ pub struct Setup<'a, 'i> {
     /// The guest-physical address at which RAM begins.
     pub base: u64,
 
-    /// 0, until a later version gives it a meaning.
+    /// What else is asked for: `LOG`, or 0.
     pub flags: u32,
 
     /// 0, until a later version gives it a meaning.
@@ -88,7 +91,7 @@ pub struct Expected<'a, 'i> {
     /// The guest-physical address at which RAM begins.
     pub base: u64,
 
-    /// 0, until a later version gives it a meaning.
+    /// What else is asked for: `LOG`, or 0.
     pub flags: u32,
 
     /// 0, until a later version gives it a meaning.
@@ -136,7 +139,24 @@ fn is_known_setup(setup: &mut Setup) -> bool
     ensures same { setup.new ≡ setup.old }
     ensures known { result ≡ is_known_setup setup.old }
 {
-    setup.version == KNOWN && setup.flags == 0 && setup.block == 0 && are_zeros(&setup.reserved)
+    setup.version == KNOWN
+        && are_known(setup.flags)
+        && setup.block == 0
+        && are_zeros(&setup.reserved)
+}
+
+/// Whether the flags ask for what this library knows.
+fn are_known(flags: u32) -> bool
+    ensures { result ≡ are_known flags }
+{
+    flags == 0 || flags == LOG
+}
+
+/// Whether the flags ask for a log of the pages that calls write.
+pub fn asks_log(flags: u32) -> bool
+    ensures { result ≡ asks_log flags }
+{
+    flags == LOG
 }
 
 /// Whether `pages` pages, or `bytes` bytes of the caller, where there are any, are no RAM; or both are there and differ.
@@ -200,7 +220,7 @@ fn is_known_arrival(expected: &mut Expected) -> bool
     ensures known { result ≡ is_known_arrival expected.old }
 {
     expected.version == KNOWN
-        && expected.flags == 0
+        && are_known(expected.flags)
         && expected.frame == 0
         && expected.most_outside == 0
         && expected.block == 0

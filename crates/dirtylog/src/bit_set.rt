@@ -1,6 +1,6 @@
 //! A set of numbers.
 
-ghost use Rattle.std.specs.Prelude.{◌≡◌, ◌<◌, ◌≤◌, ◌↔◌, ◌+◌, ◌*◌, ◌/◌, ◌^◌, [], IsTrue, drop, length, replicate, slice_set, take, true, false, IfOk};
+ghost use Rattle.std.specs.Prelude.{◌≡◌, ◌<◌, ◌≤◌, ◌↔◌, ◌+◌, ◌*◌, ◌/◌, ◌^◌, IsTrue, drop, length, replicate, slice_set, take, true, false, IfOk};
 ghost use Rattle.dirtylog.specs.Members.{has, HasNone, IsLeastFrom, LooksThrough, member_count};
 ghost use Rattle.dirtylog.specs.Words.{HasRoomFor};
 
@@ -49,18 +49,6 @@ impl BitSet {
         })
     }
 
-    /// A set of no numbers. It takes no memory.
-    pub fn none(alloc: Global) -> BitSet
-        ensures { result ≡ [] }
-    {
-        BitSet {
-            len: 0,
-            words: Vec::new(alloc),
-            marks: Vec::new(alloc),
-            members: 0,
-        }
-    }
-
     /// The length: members are below it.
     pub fn len(&self) -> u64
         ensures { result ≡ length self.now }
@@ -76,6 +64,16 @@ impl BitSet {
         if self.contains(n) {
             return;
         }
+        self.take_in(n);
+    }
+
+    /// Makes a number a member that is none. It is a call of its own: most that are named are members.
+    #[inline(never)]
+    fn take_in(&mut self, n: u64)
+        requires inside { n < length self.old }
+        requires out { has self.old n ≡ false }
+        ensures { self.new ≡ slice_set self.old n true }
+    {
         set_bit(&mut self.words, n);
         set_bit(&mut self.marks, n / WORD_BITS);
         self.members += 1;

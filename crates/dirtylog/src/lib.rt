@@ -9,8 +9,7 @@
 //!   `fill` and `clear` are what their names say of this list. `count` and `is_empty` read one number. `first_counted` is `first_from` with the
 //!   number of words that were looked at: at most 16 and one for each 4,096 numbers, and none where the set has no members.
 //! - `bit_from` is the lowest bit of a word that is set, from a place on.
-//! - All its room is made with it: only `BitSet::new` takes memory. `BitSet::none` has no room, and stands where a set is for the time that it is
-//!   elsewhere.
+//! - All its room is made with it: only `BitSet::new` takes memory.
 //! - The caller's part: numbers below the length (for `first_from` and `count_below` at most the length); for `swap_out` a set of the same length
 //!   without members.
 //!

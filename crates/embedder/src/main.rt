@@ -12,6 +12,7 @@ mod own_sink;
 mod streams;
 mod takings;
 mod texts;
+mod written;
 
 use anyhow::Result;
 use std::io::Write;
@@ -28,7 +29,9 @@ fn machines_agree(rt: &HostRuntime) -> Result<()> {
     machines::agree(alloc)?;
     say(rt, "machines")?;
     durable::ends_after_its_flush(alloc)?;
-    say(rt, "a write that ends after its flush")
+    say(rt, "a write that ends after its flush")?;
+    written::agree(alloc)?;
+    say(rt, "the pages that are written")
 }
 
 /// A machine on its way to another host.

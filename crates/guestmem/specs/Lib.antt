@@ -16,3 +16,4 @@ pub mod Write
 pub mod Writes
 pub mod Zeros
 pub mod Both
+pub mod Maybe

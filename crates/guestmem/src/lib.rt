@@ -47,7 +47,8 @@
 //! above name that definition wherever they hold addresses as the guest wrote them; `is_within` is its test, and `access_refusal` says why an
 //! access is refused.
 //!
-//! Logs are told of items by the trait `TouchLog`. `NoLog` keeps none, and `Both` is two logs that take in the same items.
+//! Logs are told of items by the trait `TouchLog`. `NoLog` keeps none, `Both` is two logs that take in the same items, and an `Option` of a log
+//! keeps nothing where there is none.
 //!
 //! `is_zero` tells whether a page has zeros alone (`specs/Zeros`).
 //!
@@ -71,6 +72,7 @@ mod fresh;
 pub mod laws;
 mod limits;
 mod log;
+mod maybe;
 mod parked;
 mod ram;
 mod storage;

@@ -220,6 +220,7 @@ impl Ram {
 
     /// Writes bytes of any number from an index on, for code that knows them to lie inside RAM, and reports to the
     /// log the pages that they went into.
+    #[inline(always)]
     #[tactic(auto, using(crate::proofs::WriteLaws::put_at_set_all))]
     pub fn put<L: TouchLog>(&mut self, index: u64, bytes: &[u8], log: &mut L)
         requires inside { index + length bytes.now ≤ length self.old.bytes }
@@ -324,7 +325,23 @@ impl Ram {
     }
 }
 
+/// Tells a log of the pages from `first` to `last`, both included. A write seldom goes into more than one.
 fn tell_pages<L: TouchLog>(log: &mut L, first: u64, last: u64)
+    requires order { first ≤ last }
+    requires small { last < 2 ^ 52 }
+    requires may { (n : ℕ) → n ≤ last → L.may log.old (page_item n) }
+    ensures { log.new ≡ after_all L.after log.old (pages_between first last) }
+{
+    log.page(first);
+    if first == last {
+        return;
+    }
+    tell_each(log, first + 1, last);
+}
+
+/// Tells a log of each of these pages.
+#[inline(never)]
+fn tell_each<L: TouchLog>(log: &mut L, first: u64, last: u64)
     requires order { first ≤ last }
     requires small { last < 2 ^ 52 }
     requires may { (n : ℕ) → n ≤ last → L.may log.old (page_item n) }

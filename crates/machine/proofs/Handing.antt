@@ -1,7 +1,7 @@
 -- Pages that are handed out one after another, and items that a log of pages is told of.
-use Rattle.std.proofs.Common.{◌≡◌, ◌≤◌, ◌<◌, ℕ, zero, suc, ◌+◌, true, false, List, [], ◌∷◌, ◌++◌, Bool, inl, inr, ◌⊎◌, length, take, drop, set, get_or, refl, sym, ap, subst, ◌∙◌, arith}
-use Rattle.std.specs.Prelude.{◌↔◌, slice_set}
-use Rattle.std.proofs.lemmas.List.{drop_more, length-set, take_more_set}
+use Rattle.std.proofs.Common.{◌≡◌, ◌<◌, ℕ, zero, suc, ◌+◌, true, false, List, [], ◌∷◌, ◌++◌, Bool, inl, inr, ◌⊎◌, length, take, drop, set, get_or, refl, sym, ap, subst, ◌∙◌, arith}
+use Rattle.std.specs.Prelude.{slice_set}
+use Rattle.std.proofs.lemmas.List.{drop_more, take_more_set}
 use Rattle.dirtylog.specs.Members.{IsLeast, has}
 use Rattle.guestmem.specs.Among.{Among}
 use Rattle.guestmem.specs.Item.{Item, after_all, page, sector}

@@ -1,4 +1,5 @@
 mod Turns
+pub mod DeviceTurns
 mod Advancing
 pub mod Agreeing
 mod Answering

@@ -30,4 +30,5 @@ pub mod State
 pub mod Step
 pub mod StepLaws
 pub mod Stepped
+pub mod Turn
 pub mod Unsynced

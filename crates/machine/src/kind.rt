@@ -57,7 +57,7 @@ pub enum Kind {
 
 /// What a step at a queue is told.
 #[derive(Clone, Copy)]
-pub(crate) struct Turn {
+pub(crate) struct Visit {
     pub site: Site,
 
     /// The features that the driver accepted.
@@ -213,34 +213,34 @@ impl Kind {
     #[inline(always)]
     pub(crate) fn serve<R: Ring, L: TouchLog>(
         &mut self,
-        turn: Turn,
+        visit: Visit,
         ring: &mut R,
         sent: &mut Vec<u8>,
         ram: &mut Ram,
         log: &mut L,
     ) -> Result<Served, Unserved>
         requires ready { MayLook L.may ram.old (R.state ring.old) (R.decoder ring.old) log.old }
-        requires base { turn.site.base ≡ (R.state ring.old).base }
-        requires room { has_work self.old turn.number ≡ true }
-        requires sound { AreSoundBeside (length ram.old.bytes) (R.state ring.old) turn.features self.old }
-        ensures served { HasRun L.after (scene ram.old log.old (R.state ring.old) self.old) (scene ram.new log.new (R.state ring.new) self.new) (wanted_of self.old turn.number) (λ ram q kind seen. serve turn.features kind turn.number ram q seen) result sent.new.items }
+        requires base { visit.site.base ≡ (R.state ring.old).base }
+        requires room { has_work self.old visit.number ≡ true }
+        requires sound { AreSoundBeside (length ram.old.bytes) (R.state ring.old) visit.features self.old }
+        ensures served { HasRun L.after (scene ram.old log.old (R.state ring.old) self.old) (scene ram.new log.new (R.state ring.new) self.new) (wanted_of self.old visit.number) (λ ram q kind seen. serve visit.features kind visit.number ram q seen) result sent.new.items }
         ensures after { HasLooked L.may ram.old ram.new (R.decoder ring.new) log.new }
     {
         match self {
             Kind::Network { inbox, .. } => {
-                if turn.number > 0 {
-                    return net::transmit(turn.site, ring, sent, ram, log);
+                if visit.number > 0 {
+                    return net::transmit(visit.site, ring, sent, ram, log);
                 }
-                net::receive(turn.site, ring, inbox, ram, log)
+                net::receive(visit.site, ring, inbox, ram, log)
             }
-            Kind::Block(block) => block.take(turn.site, turn.features, ring, ram, log),
+            Kind::Block(block) => block.take(visit.site, visit.features, ring, ram, log),
             Kind::Console { held, .. } => {
-                if turn.number > 0 {
-                    return console::transmit(turn.site, ring, sent, ram, log);
+                if visit.number > 0 {
+                    return console::transmit(visit.site, ring, sent, ram, log);
                 }
-                receive(turn.site, ring, held, ram, log)
+                receive(visit.site, ring, held, ram, log)
             }
-            Kind::Entropy(pool) => receive(turn.site, ring, pool, ram, log),
+            Kind::Entropy(pool) => receive(visit.site, ring, pool, ram, log),
         }
     }
 

@@ -9,7 +9,7 @@ ghost use Rattle.machine.specs.Parked.{BackIsWritten, MarkIsWritten, ParkedFlush
 ghost use Rattle.machine.specs.EffectLaws.{UntouchedStays, TouchedExists, ShapeStays};
 ghost use Rattle.machine.specs.StepLaws.{EffectsAgree, StepsAgree, RunsAgree, StepStaysWithin, StepKeepsShape, StepStaysSound, RefusalsChangeNothing, MalformedIsContained, MalformedAsksForReset};
 
-pub use work::{idle_without_work, work_gets_on};
+pub use work::{idle_without_work, turn_is_steps, work_gets_on};
 
 /// What an effect does not touch stays as it was.
 pub fn untouched_stays()

@@ -88,6 +88,7 @@ mod reply;
 mod shape;
 mod state;
 mod stepped;
+mod turn;
 mod work;
 
 pub use blk::{Disk, DiskFault, FaultDisk, FileDisk, MemDisk, SECTOR_SIZE, SECTORS_MAX, SyncOwed};
@@ -104,4 +105,5 @@ pub use reply::{Refusal, Reply};
 pub use shape::Shape;
 pub use state::{DeviceState, offered};
 pub use stepped::Stepped;
+pub use turn::{Turn, TurnEnd, goes_on};
 pub use work::Work;

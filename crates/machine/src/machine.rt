@@ -9,6 +9,7 @@ mod making;
 mod next_work;
 mod room;
 mod unsynced;
+mod working;
 
 use crate::any_ring::AnyRing;
 use crate::device::Device;

@@ -13,7 +13,8 @@ use std::marker::Model;
 /// The pages that were written and are not handed out yet. Contracts see for each page whether it is one of them. It takes in no sector.
 #[derive(Drop)]
 pub struct PageLog {
-    pages: BitSet,
+    // In a box, so that a log is moved at no cost: a `Live` takes it in for a call.
+    pages: Box<BitSet>,
 }
 
 impl Model for PageLog {
@@ -21,18 +22,21 @@ impl Model for PageLog {
 
     ghost Value = { List Bool };
 
-    ghost view = { λ l. l.pages };
+    ghost view = { λ l. l.pages.value };
 
-    ghost invariant = { λ l. length l.pages ≤ 2 ^ 32 };
+    ghost invariant = { λ l. length l.pages.value ≤ 2 ^ 32 };
 }
 
 impl PageLog {
-    /// One of a RAM of so many pages, none of which was written. Its only error is out of memory.
+    /// A log for a RAM of `pages` pages, none of which was written. Its only error is out of memory.
     pub fn new(alloc: Global, pages: u32) -> Result<PageLog, NoMemory>
         ensures { IfOk result (λ log. log ≡ replicate pages false) }
     {
         let pages = BitSet::new(alloc, pages as u64)?;
-        Ok(PageLog { pages })
+        match Box::new(alloc, pages) {
+            Ok(pages) => Ok(PageLog { pages }),
+            Err(_) => Err(NoMemory),
+        }
     }
 
     /// Hands out the numbers of pages, from the least on, as many as there is room for, and forgets these pages. The result is how many they

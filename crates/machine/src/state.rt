@@ -18,7 +18,7 @@ ghost use Rattle.machine.specs.Shapes.{device_id_of, offered_of, queues_of};
 ghost use Rattle.machine.specs.Stepped.{looked_registers, reply_in};
 
 use crate::any_ring::AnyRing;
-use crate::kind::{Kind, Turn};
+use crate::kind::{Kind, Visit};
 use crate::reply::Refusal;
 use crate::shape::Shape;
 use crate::stepped::Stepped;
@@ -221,7 +221,7 @@ impl DeviceState {
         ensures later { IsLater ram.old ram.new }
         ensures fits { Fits (R.decoder ring.new) ram.new }
     {
-        let turn = Turn {
+        let visit = Visit {
             site: Site {
                 alloc,
                 base: self.registers.ram_base(),
@@ -229,7 +229,7 @@ impl DeviceState {
             features: self.registers.features(),
             number: pick,
         };
-        let served = self.kind.serve(turn, ring, sent, ram, log);
+        let served = self.kind.serve(visit, ring, sent, ram, log);
         self.positions[pick as usize] = ring.positions();
         tell(&mut self.registers, pick, served);
         Stepped::of_served(served)

@@ -59,7 +59,7 @@ taking_stays_behind m h out writer digest taken more pages l b held count honest
     record { late = b.late; among = b.among; relates = relates_taken m h out taken more (if_dirty b.late l) digest writer b.relates held count honest takes }
 
 -- An event of the guest may come whatever is missing.
-may_guest : (pages : List ℕ) (e : Event) → MayCall pages (Guest e)
+pub may_guest : (pages : List ℕ) (e : Event) → MayCall pages (Guest e)
 may_guest [] e = tt
 may_guest (n ∷ pages) e = tt
 

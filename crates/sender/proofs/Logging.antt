@@ -11,7 +11,7 @@ use Rattle.machine.specs.Seen.{Seen}
 use Rattle.machine.specs.declared.event.Event.{Event}
 use Rattle.machine.specs.declared.reply.Reply.{Reply}
 use Rattle.wire.specs.Sinks.{Digested, SinkState}
-use Rattle.sender.specs.Calls.{Does, Guests, Serves}
+use Rattle.sender.specs.Calls.{Does, Guests}
 use Rattle.sender.specs.Dirty.{after_taking}
 use Rattle.sender.specs.LiveState.{LiveSeen, refusal_for}
 use Rattle.sender.specs.Logged.{GuestsLogged, LoggedIsServed, ServesLogged}

@@ -3,6 +3,7 @@ pub mod Saving
 pub mod Dirty
 pub mod LiveState
 pub mod Told
+pub mod Turns
 pub mod Calls
 pub mod Logged
 pub mod Reads

@@ -1,5 +1,5 @@
 -- Events of the guest with a log of the caller's.
-use Rattle.std.specs.Prelude.{◌≡◌, List, MatchOption}
+use Rattle.std.specs.Prelude.{◌≡◌, MatchOption}
 use Rattle.guestmem.specs.Item.{Item, after_all}
 use Rattle.machine.specs.Effect.{items_of}
 use Rattle.machine.specs.declared.event.Event.{Event}
@@ -10,7 +10,7 @@ use Rattle.sender.specs.declared.event.LiveEvent.TheVariants.{Guest}
 use Rattle.sender.specs.declared.event.LiveReply.{LiveReply}
 use Rattle.sender.specs.declared.event.LiveReply.TheVariants as r
 
--- An event of the guest was applied, and the log has taken in exactly the items that it writes into, which became dirty.
+-- An event of the guest was applied, and the log was told of exactly the items that it writes into, which became dirty.
 pub record AfterGuestLogged {L : Type 0} (taking : L → Item → L) (old : LiveSeen) (log : L) (e : Event) (reply : Reply) (new : LiveSeen) (new_log : L) : Type 0 where
   pub guest : AfterGuest old e reply new
   pub logged : new_log ≡ after_all taking log (items_of guest.is_applied.effect)

@@ -1,8 +1,8 @@
 //! The set of dirty items, which records what a step writes.
 
 use dirtylog::BitSet;
-use guestmem::TouchLog;
-use std::alloc::Global;
+use guestmem::{Both, TouchLog};
+use machine::PageLog;
 
 /// The dirty items by their numbers, and the item number of the first sector of each device's disk.
 #[derive(Drop)]
@@ -11,15 +11,8 @@ pub(crate) struct Dirty {
     pub(crate) firsts: Vec<u64>,
 }
 
-impl Dirty {
-    /// One that names no item. It takes no memory.
-    pub(crate) fn none(alloc: Global) -> Dirty {
-        Dirty {
-            set: BitSet::none(alloc),
-            firsts: Vec::new(alloc),
-        }
-    }
-}
+/// The dirty items, and a log of the caller's that is told the same.
+pub(crate) type Logs = Both<Dirty, Option<PageLog>>;
 
 impl TouchLog for Dirty {
     ghost use Rattle.sender.specs.Dirty.{after_taking, may_stay, may_take, takes_any_order, takes_once};

@@ -2,18 +2,20 @@
 
 use crate::live::LiveOver;
 use crate::mig_error::MigError;
-use machine::{Disk, DiskFault, Event, Machine, Reply, Stepped};
+use machine::{Disk, DiskFault, Event, Machine, Reply, Stepped, Turn, TurnEnd};
 use wire::Digesting;
 
 /// A machine whose guest runs. Only one that is being migrated refuses: once it is stopped.
 pub trait Guest<D: Disk> {
-    ghost use Rattle.std.specs.Prelude.{◌≡◌, ℕ, Bool, Result};
+    ghost use Rattle.std.specs.Prelude.{◌≡◌, ℕ, Bool, List, Result};
     ghost use Rattle.blk.specs.declared.disk.DiskFault.{DiskFault};
     ghost use Rattle.machine.specs.Seen.{Seen};
     ghost use Rattle.machine.specs.Unsynced.{FlushesDisk};
     ghost use Rattle.machine.specs.declared.event.Event.{Event};
     ghost use Rattle.machine.specs.declared.event.Event.TheVariants as events;
     ghost use Rattle.machine.specs.declared.reply.Reply.{Reply};
+    ghost use Rattle.machine.specs.declared.turn.Turn.{Turn};
+    ghost use Rattle.machine.specs.declared.turn.TurnEnd.{TurnEnd};
     ghost use Rattle.sender.specs.Calls.{stepped_result};
     ghost use Rattle.sender.specs.declared.mig_error.MigError.{MigError};
 
@@ -25,6 +27,9 @@ pub trait Guest<D: Disk> {
 
     /// What a flush that fails in place of its step does, by the device, the pick and its answer.
     ghost tries_flush: { Self → ℕ → ℕ → Result Bool MigError → Self → Type 0 };
+
+    /// What a turn of the devices does, by its answer and the bytes that are in the buffer after it.
+    ghost turns: { Self → Turn → Result TurnEnd MigError → List ℕ → Self → Turn → Type 0 };
 
     /// Applies an event of the guest, or a step.
     fn apply(&mut self, event: &Event) -> Result<Reply, MigError>
@@ -65,6 +70,11 @@ pub trait Guest<D: Disk> {
     fn step_into(&mut self, dev: u8, pick: u8, sent: &mut Vec<u8>) -> Result<Stepped, MigError>
         ensures { serves self.old (events.Step dev pick) (stepped_result result sent.new.items) self.new };
 
+    /// The devices' turn: the steps that have something to do, one after another, until the host has to do something (`Machine::work`). The
+    /// bytes of a message go into the buffer.
+    fn work(&mut self, turn: &mut Turn, sent: &mut Vec<u8>) -> Result<TurnEnd, MigError>
+        ensures { turns self.old turn.old result sent.new.items self.new turn.new };
+
     /// In place of a step that flushes a disk: makes it as a step whose disk failed, and calls no disk (`Machine::fail_flush`). The
     /// result says whether the step with this pick flushes; if not, nothing has changed.
     fn fail_flush(&mut self, dev: u8, pick: u8) -> Result<bool, MigError>
@@ -80,13 +90,15 @@ pub trait Guest<D: Disk> {
 }
 
 impl<D: Disk> Guest<D> for Machine<D> {
-    ghost use Rattle.sender.specs.Guests.{IsFlushTried, IsServed};
+    ghost use Rattle.sender.specs.Guests.{IsFlushTried, IsServed, IsTurnTaken};
 
     ghost seen = { λ m. m };
 
     ghost serves = { IsServed };
 
     ghost tries_flush = { IsFlushTried };
+
+    ghost turns = { IsTurnTaken D.called };
 
     fn apply(&mut self, event: &Event) -> Result<Reply, MigError> {
         Ok(Machine::apply(self, event))
@@ -128,6 +140,10 @@ impl<D: Disk> Guest<D> for Machine<D> {
         Ok(Machine::step_into(self, dev, pick, sent))
     }
 
+    fn work(&mut self, turn: &mut Turn, sent: &mut Vec<u8>) -> Result<TurnEnd, MigError> {
+        Ok(Machine::work(self, turn, sent))
+    }
+
     fn fail_flush(&mut self, dev: u8, pick: u8) -> Result<bool, MigError> {
         Ok(Machine::fail_flush(self, dev, pick))
     }
@@ -144,6 +160,7 @@ impl<D: Disk> Guest<D> for Machine<D> {
 /// While a machine is being migrated, what an event writes into becomes dirty, and is sent again.
 impl<D: Disk, W: Digesting> Guest<D> for LiveOver<D, W> {
     ghost use Rattle.sender.specs.Guests.{IsServedLive};
+    ghost use Rattle.sender.specs.Turns.{TakesLiveTurn};
     ghost use Rattle.sender.specs.Unsynced.{TriesFlush};
 
     ghost seen = { λ l. l.machine };
@@ -151,6 +168,8 @@ impl<D: Disk, W: Digesting> Guest<D> for LiveOver<D, W> {
     ghost serves = { IsServedLive };
 
     ghost tries_flush = { TriesFlush };
+
+    ghost turns = { TakesLiveTurn D.called };
 
     fn apply(&mut self, event: &Event) -> Result<Reply, MigError> {
         LiveOver::apply(self, event)
@@ -188,6 +207,10 @@ impl<D: Disk, W: Digesting> Guest<D> for LiveOver<D, W> {
 
     fn step_into(&mut self, dev: u8, pick: u8, sent: &mut Vec<u8>) -> Result<Stepped, MigError> {
         LiveOver::step_into(self, dev, pick, sent)
+    }
+
+    fn work(&mut self, turn: &mut Turn, sent: &mut Vec<u8>) -> Result<TurnEnd, MigError> {
+        LiveOver::work(self, turn, sent)
     }
 
     fn fail_flush(&mut self, dev: u8, pick: u8) -> Result<bool, MigError> {

@@ -9,6 +9,7 @@ ghost use Rattle.sender.specs.ParkedCalls.{LentFollows, LiveParkedFlushFails, Li
 ghost use Rattle.sender.specs.Reads.{UncalledIsSame};
 ghost use Rattle.sender.specs.Taking.{CallsIgnoreTaken, TakenAreWhole, TakenFollow};
 ghost use Rattle.sender.specs.Told.{HonestDisksTellContents};
+ghost use Rattle.sender.specs.Turns.{TurnStaysBehind};
 ghost use Rattle.sender.specs.Unsynced.{FailureFollows, FlushFollows, TakenFailureFollows};
 
 use guestmem::TouchLog;
@@ -158,6 +159,11 @@ pub fn failed_flush_stays_behind()
 /// A flush by `Live::flush_disk` leaves it as it is.
 pub fn flush_stays_behind()
     ensures { FlushStaysBehind }
+{}
+
+/// A turn of the devices is its steps, each a call of its own, so the history continues by them, and the machine is behind by no more pages.
+pub fn turn_stays_behind()
+    ensures { TurnStaysBehind }
 {}
 
 /// Once pages are marked, the history continues with a write of each with the bytes that lie there, and the machine is behind by those

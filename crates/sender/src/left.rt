@@ -7,7 +7,7 @@ use crate::event::Left;
 use dirtylog::BitSet;
 use wire::{COMMIT_RECORD, GOOD_SECTOR_RECORD, PAGE_RECORD};
 
-/// How many items the sets have, of which the first `pages` are pages and the others sectors.
+/// The counts of items in the two sets, whose first `pages` members stand for pages and the others for sectors.
 pub(crate) fn left_of(due: &BitSet, dirty: &BitSet, pages: u64) -> Left
     requires due { pages ≤ length due.now }
     requires dirty { pages ≤ length dirty.now }
@@ -27,7 +27,7 @@ pub(crate) fn left_of(due: &BitSet, dirty: &BitSet, pages: u64) -> Left
     }
 }
 
-/// The most bytes that a stop would write of so many items, and of devices whose records are so long.
+/// The most bytes that a stop would write for these items, and for devices whose records take `devices` bytes.
 pub(crate) fn most_bytes(items: Left, devices: u64) -> u64
     requires pages { items.due_pages + items.dirty_pages ≤ 32768 }
     requires sectors { items.due_sectors + items.dirty_sectors < 2 ^ 38 }

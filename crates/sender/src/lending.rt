@@ -19,6 +19,7 @@ use crate::live::LiveOver;
 use crate::measuring::devices_len;
 use crate::phase::Phase;
 use dirtylog::BitSet;
+use guestmem::Both;
 use machine::{Disk, Parked};
 use region::Region;
 use std::marker::Model;
@@ -126,7 +127,10 @@ impl<D: Disk, W: Digesting> LiveParked<D, W> {
             phase,
             due,
             at,
-            dirty,
+            logs: Both {
+                first: dirty,
+                second: None,
+            },
         }
     }
 }

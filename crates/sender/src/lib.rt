@@ -30,8 +30,8 @@
 //!   and none for a bad one or for a page; a stop one for each good sector of the two sets, in order, and no other: where a disk failed,
 //!   for those up to the sector that is named, and where the writer did, for those up to some item. Where none was made, the machine is
 //!   equal (`laws::uncalled_is_same`).
-//! - `apply_logged`, `step_into_logged` and `write_ram_logged` report to a log of the caller's too (`specs/Logged`): it takes in exactly what
-//!   becomes dirty. The log is moved in, and comes back with the answer. They take no memory for it.
+//! - `apply_logged`, `step_into_logged` and `write_ram_logged` report to a `PageLog` of the caller's too, where there is one (`specs/Logged`): it
+//!   takes in exactly the pages that become dirty. They take no memory for it.
 //! - `fail_flush` makes a step that flushes a disk as one whose disk failed, and calls no disk (`specs/Unsynced`). The history
 //!   continues with that step, and nothing becomes dirty: the stop sends the devices whole.
 //! - `flush_disk` is one flush of the disk of a device, in each phase: the machine stays equal, and the history as it was
@@ -91,6 +91,7 @@ mod phase;
 mod played;
 mod playing;
 mod saving;
+mod working;
 
 pub use event::{CopyAnswer, End, Item, Left, LiveEvent, LiveReply, Remaining, Stopped};
 pub use guest::Guest;

@@ -11,6 +11,7 @@ ghost use Rattle.guestmem.specs.Lent.{AreBelow};
 ghost use Rattle.dirtylog.specs.Members.{HasNone, IsLeastFrom, member_count};
 ghost use Rattle.machine.specs.declared.event.Event.TheVariants as events;
 ghost use Rattle.machine.specs.Calls.{CallsDisk};
+ghost use Rattle.machine.specs.Stepped.{reply_in};
 ghost use Rattle.machine.specs.Layout.{item_at, layout_of, pages_of, size_of};
 ghost use Rattle.wire.specs.Sinks.{Covers, Takes, over_writer};
 ghost use Rattle.sender.specs.LiveState.{HasPlaces, now, refusal_for};
@@ -21,7 +22,7 @@ ghost use Rattle.sender.specs.Reads.{CallsNone, HasLiveCalled, ReadsItem, SendCa
 ghost use Rattle.sender.specs.Unsynced.{FlushesLiveDisk, TriesFlush};
 ghost use Rattle.sender.specs.Stopping.{ClosesStream, HasNoneUpTo, IsLive, SendsAll, SendsItem, lesser, one_more, phase_after};
 
-use crate::dirty::Dirty;
+use crate::dirty::{Dirty, Logs};
 use crate::event::{CopyAnswer, End, Item, Left, LiveEvent, LiveReply, Remaining, Stopped};
 use crate::left::{left_of, most_bytes};
 use crate::lending::LiveParked;
@@ -31,6 +32,7 @@ use crate::numbering::{item_at, number_items, page_count};
 use crate::phase::Phase;
 use crate::saving::{send_item, write_devices, write_end};
 use dirtylog::BitSet;
+use guestmem::Both;
 use machine::{Disk, DiskFault, Event, Machine, Reply, Stepped};
 use region::Region;
 use std::alloc::{AllocError, Global};
@@ -49,7 +51,8 @@ pub struct LiveOver<D: Disk, W: Digesting> {
     pub(crate) due: BitSet,
     // No item below this number is due. The search for the next one starts here.
     pub(crate) at: u64,
-    pub(crate) dirty: Dirty,
+    // The dirty items, and the log of a caller's while a call tells it too.
+    pub(crate) logs: Logs,
 }
 
 /// One whose writer is any sink. What is written is digested at once.
@@ -65,9 +68,9 @@ impl<D: Disk, W: Digesting> Model for LiveOver<D, W> {
 
     ghost use Rattle.sender.specs.Stopping.{IsLive};
 
-    ghost view = { λ l. record { machine = l.machine; phase = l.phase; due = l.due; dirty = l.dirty.set; digest = W.sum l.writer; out = W.state l.writer } };
+    ghost view = { λ l. record { machine = l.machine; phase = l.phase; due = l.due; dirty = l.logs.first.set; digest = W.sum l.writer; out = W.state l.writer } };
 
-    ghost invariant = { λ l. IsLive l.machine l.phase l.due l.dirty.set l.dirty.firsts.items l.at };
+    ghost invariant = { λ l. IsLive l.machine l.phase l.due l.logs.first.set l.logs.first.firsts.items l.at };
 }
 
 impl<D: Disk, W: Sink> LiveOver<D, Eager<W>> {
@@ -168,7 +171,10 @@ impl<D: Disk, W: Digesting> LiveOver<D, W> {
             phase: Phase::Fresh,
             due,
             at: 0,
-            dirty,
+            logs: Both {
+                first: dirty,
+                second: None,
+            },
         };
         live.recall();
         live
@@ -195,7 +201,7 @@ impl<D: Disk, W: Digesting> LiveOver<D, W> {
     {
         Remaining {
             due: self.due.count(),
-            dirty: self.dirty.set.count(),
+            dirty: self.logs.first.set.count(),
         }
     }
 
@@ -209,7 +215,7 @@ impl<D: Disk, W: Digesting> LiveOver<D, W> {
         ensures few_sectors { result.due_sectors + result.dirty_sectors < 2 ^ 38 }
     {
         self.recall();
-        left_of(&self.due, &self.dirty.set, page_count(&self.machine))
+        left_of(&self.due, &self.logs.first.set, page_count(&self.machine))
     }
 
     /// The most bytes that a stop would write: as if no page were of zeros, no sector bad, and no item both due and dirty. It looks at the
@@ -243,7 +249,7 @@ impl<D: Disk, W: Digesting> LiveOver<D, W> {
             phase: _,
             due: _,
             at: _,
-            dirty: _,
+            logs: _,
         } = self;
         (machine, writer)
     }
@@ -268,7 +274,7 @@ impl<D: Disk, W: Digesting> LiveOver<D, W> {
             phase,
             due,
             at,
-            dirty,
+            logs,
         } = self;
         match machine.lend() {
             Ok((region, parked)) => Ok((
@@ -279,7 +285,7 @@ impl<D: Disk, W: Digesting> LiveOver<D, W> {
                     phase,
                     due,
                     at,
-                    dirty,
+                    dirty: logs.first,
                 },
             )),
             Err(machine) => Err(LiveOver {
@@ -288,7 +294,7 @@ impl<D: Disk, W: Digesting> LiveOver<D, W> {
                 phase,
                 due,
                 at,
-                dirty,
+                logs,
             }),
         }
     }
@@ -300,7 +306,7 @@ impl<D: Disk, W: Digesting> LiveOver<D, W> {
         requires { AreBelow (length self.old.machine.memory.versions) pages.now }
         ensures { self.new ≡ live_marked self.old pages.now }
     {
-        self.machine.mark(pages, &mut self.dirty);
+        self.machine.mark(pages, &mut self.logs.first);
     }
 
     fn refusal(&self, event: &LiveEvent) -> Option<MigError>
@@ -343,7 +349,7 @@ impl<D: Disk, W: Digesting> LiveOver<D, W> {
         ensures calls { HasLiveCalled D.called self.old (LiveEvent.Guest event.now) (guest_reply result) self.new }
     {
         self.running()?;
-        Ok(self.machine.apply_logged(event, &mut self.dirty))
+        Ok(self.machine.apply_logged(event, &mut self.logs.first))
     }
 
     /// The driver reads a register. As `apply` of that event.
@@ -393,10 +399,19 @@ impl<D: Disk, W: Digesting> LiveOver<D, W> {
         ensures calls { HasLiveCalled D.called self.old (LiveEvent.Guest (events.Step dev pick)) (guest_reply (stepped_result result sent.new.items)) self.new }
     {
         self.running()?;
-        Ok(
-            self.machine
-                .step_into_logged(dev, pick, sent, &mut self.dirty),
-        )
+        Ok(self.stepped(dev, pick, sent))
+    }
+
+    /// As above, of a machine that is not stopped.
+    #[inline(always)]
+    pub(crate) fn stepped(&mut self, dev: u8, pick: u8, sent: &mut Vec<u8>) -> Stepped
+        requires running { self.old.phase ≢ Phase.Stopped }
+        ensures served { Serves self.old (LiveEvent.Guest (events.Step dev pick)) (LiveReply.Guest (reply_in result sent.new.items)) self.new }
+        ensures calls { HasLiveCalled D.called self.old (LiveEvent.Guest (events.Step dev pick)) (LiveReply.Guest (reply_in result sent.new.items)) self.new }
+        ensures phase { self.new.phase ≡ self.old.phase }
+    {
+        self.machine
+            .step_into_logged(dev, pick, sent, &mut self.logs.first)
     }
 
     /// Flushes the disk of a device once, if it has one, in each phase (`Machine::flush_disk`). The machine and its migration stay as they
@@ -427,7 +442,9 @@ impl<D: Disk, W: Digesting> LiveOver<D, W> {
         ensures calls { HasLiveCalled D.called self.old (LiveEvent.Guest (events.MemWrite addr bytes.now)) (guest_reply result) self.new }
     {
         self.running()?;
-        let answer = self.machine.write_ram_logged(addr, bytes, &mut self.dirty);
+        let answer = self
+            .machine
+            .write_ram_logged(addr, bytes, &mut self.logs.first);
         Ok(Reply::from_done(answer))
     }
 
@@ -467,7 +484,7 @@ impl<D: Disk, W: Digesting> LiveOver<D, W> {
         }
         self.due.fill();
         self.at = 0;
-        self.dirty.set.clear();
+        self.logs.first.set.clear();
         self.phase = Phase::Open(1);
         Ok(1)
     }
@@ -484,7 +501,7 @@ impl<D: Disk, W: Digesting> LiveOver<D, W> {
             return Err(error);
         }
         self.due.remove(number);
-        self.dirty.set.remove(number);
+        self.logs.first.set.remove(number);
         Ok(item)
     }
 
@@ -523,7 +540,7 @@ impl<D: Disk, W: Digesting> LiveOver<D, W> {
             self.phase = Phase::Failed;
             return Err(MigError::StreamFailed);
         }
-        self.dirty.set.swap_out(&mut self.due);
+        self.logs.first.set.swap_out(&mut self.due);
         self.at = 0;
         self.phase = Phase::Open(round + 1);
         Ok(End::Begun(round + 1))
@@ -542,14 +559,14 @@ impl<D: Disk, W: Digesting> LiveOver<D, W> {
             sectors: 0,
         };
         let mut due = self.due.first_from(0);
-        let mut dirty = self.dirty.set.first_from(0);
+        let mut dirty = self.logs.first.set.first_from(0);
         'items: while let Some(number) = lesser(due, dirty) {
             if let Err(error) = self.send(number) {
                 return Err(error);
             }
             sent = counted(sent, number < pages);
             due = next_past(&self.due, number, due);
-            dirty = next_past(&self.dirty.set, number, dirty);
+            dirty = next_past(&self.logs.first.set, number, dirty);
         }
         Ok(sent)
     }

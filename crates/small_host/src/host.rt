@@ -4,9 +4,7 @@ use crate::driver::Exit;
 use crate::migration::migrate;
 use anyhow::{Result, bail};
 use std::io::Write;
-use vmig::{
-    Event, Guest, Machine, MemDisk, Reply, Shape, SyncOwed, Work, WriteSink, receive, save,
-};
+use vmig::{Event, Guest, Machine, MemDisk, Reply, Shape, Turn, TurnEnd, WriteSink, receive, save};
 
 /// Sectors of the guest's disk.
 pub const SECTORS: u64 = 8;
@@ -15,12 +13,12 @@ pub const SECTORS: u64 = 8;
 /// lets its guest run between two turns.
 const STEPS: u32 = 1000;
 
-/// A machine, its interrupt lines as the guest has them, and the step that was made last: the next turn begins behind it.
+/// A machine, its interrupt lines as the guest has them, and how far its devices' turn has come: the next one goes on there.
 #[derive(Drop)]
 pub struct Host<G: Guest<MemDisk> + Drop> {
     guest: G,
     lines: u16,
-    last: Work,
+    turn: Turn,
 }
 
 impl<G: Guest<MemDisk> + Drop> Host<G> {
@@ -29,7 +27,7 @@ impl<G: Guest<MemDisk> + Drop> Host<G> {
         Host {
             guest,
             lines: 0,
-            last: Work { dev: 0, pick: 0 },
+            turn: Turn::new(STEPS),
         }
     }
 
@@ -43,7 +41,7 @@ impl<G: Guest<MemDisk> + Drop> Host<G> {
         let Host {
             guest,
             lines: _,
-            last: _,
+            turn: _,
         } = self;
         guest
     }
@@ -76,43 +74,42 @@ impl<G: Guest<MemDisk> + Drop> Host<G> {
         self.work(rt)
     }
 
-    /// Makes the steps that have something to do, one device after another, and reads the lines after each.
+    /// The devices' turn, in which the host does what its steps ask for; then the lines are read.
     pub fn work(&mut self, rt: &HostRuntime) -> Result<()> {
-        for _ in 0..STEPS {
-            let Some(work) = self.guest.machine().next_work(self.last) else {
-                return Ok(());
-            };
-            let step = Event::Step {
-                dev: work.dev,
-                pick: work.pick,
-            };
-            self.bring(rt, work)?;
-            let reply = self.guest.apply(&step)?;
-            println!(rt; "device {}: {reply:?}", work.dev)?;
-            self.set_lines(rt)?;
-            if let Reply::NoMemory = reply {
-                bail!("no memory for a step, which changed nothing");
+        let mut sent = Vec::new(rt.alloc());
+        self.turn.left = STEPS;
+        for _ in 0..=STEPS {
+            let end = self.guest.work(&mut self.turn, &mut sent)?;
+            let dev = self.turn.last.dev;
+            match end {
+                TurnEnd::Idle => break,
+                TurnEnd::Unfinished => {
+                    println!(rt; "host: the rest of the work waits for the next turn")?;
+                    break;
+                }
+                TurnEnd::Answer(answer) => println!(rt; "device {dev}: {answer:?}")?,
+                TurnEnd::SyncOwed => self.sync_and_step(rt)?,
+                TurnEnd::NoMemory => bail!("no memory for a step, which changed nothing"),
             }
-            self.last = work;
         }
-        println!(rt; "host: the rest of the work waits for the next turn")?;
-        Ok(())
+        self.set_lines(rt)
     }
 
-    /// Makes what the guest wrote durable before a step that ends a write of a driver without FLUSH: such a driver takes it for durable from
-    /// then on. Where the disk fails the step is not made, and the guest is ended: a later flush that succeeds would not bring it back.
-    fn bring(&mut self, rt: &HostRuntime, work: Work) -> Result<()> {
-        let machine = self.guest.machine();
-        if work.dev as usize >= machine.shapes().len() {
-            return Ok(());
-        }
-        let SyncOwed::EndOfWrite = machine.state(work.dev).must_sync(work.pick) else {
-            return Ok(());
-        };
+    /// Makes what the guest wrote durable, and then the step that was passed over: it ends a write of a driver without FLUSH, which takes it
+    /// for durable from then on. Where the disk fails the step is not made, and the guest is ended: a later flush that succeeds would not
+    /// bring it back.
+    fn sync_and_step(&mut self, rt: &HostRuntime) -> Result<()> {
+        let work = self.turn.last;
         println!(rt; "host: flushes disk {} before its write ends", work.dev)?;
         if self.guest.flush_disk(work.dev).is_err() {
             bail!("disk {} has lost what the guest wrote", work.dev);
         }
+        let step = Event::Step {
+            dev: work.dev,
+            pick: work.pick,
+        };
+        let reply = self.guest.apply(&step)?;
+        println!(rt; "device {}: {reply:?}", work.dev)?;
         Ok(())
     }
 

@@ -8,8 +8,8 @@ pub use machine::laws::{
     idle_without_work, malformed_asks_for_reset, malformed_is_contained, mark_is_written,
     noted_are_these, only_steps_call, parked_flush_fails, parked_is_applied, parked_is_flushed,
     refusals_change_nothing, refused_changes_nothing, runs_agree, shape_stays, step_keeps_shape,
-    step_stays_sound, step_stays_within, steps_agree, touched_exists, unnamed_is_written,
-    untouched_stays, work_gets_on,
+    step_stays_sound, step_stays_within, steps_agree, touched_exists, turn_is_steps,
+    unnamed_is_written, untouched_stays, work_gets_on,
 };
 pub use receiver::laws::{
     faults_stand_early, faults_stay, no_fault_in_a_stream, one_fault, rounds_of_a_stream,
@@ -29,7 +29,7 @@ pub use sender::laws::{
     live_parked_is_flushed, live_parked_is_served, logged_is_served, marks_catch_up,
     replies_settle, stale_is_not_fresh, stopped_is_a_stream,
     taken_failed_flush_follows_the_history, taken_follows_the_history, taken_is_whole,
-    taken_stays_behind, taking_stays_behind, uncalled_is_same,
+    taken_stays_behind, taking_stays_behind, turn_stays_behind, uncalled_is_same,
 };
 pub use traces::laws::{events_are_read_in_one_way, texts_are_read_in_one_way};
 pub use wire::laws::{

@@ -48,7 +48,7 @@ pub use guestmem::{
 pub use machine::{
     Board, Bytes, DEVICES_MAX, DeviceState, Disk, DiskFault, Event, FaultDisk, FileDisk, Kind,
     Machine, MemDisk, NewError, PageLog, Parked, RamOf, Refusal, Reply, SECTOR_SIZE, SECTORS_MAX,
-    Shape, Stepped, SyncOwed, Unmade, Work, is_base,
+    Shape, Stepped, SyncOwed, Turn, TurnEnd, Unmade, Work, is_base,
 };
 pub use program::execute;
 pub use receiver::{Receiver, RecvError, read_heading, receive, receive_at};

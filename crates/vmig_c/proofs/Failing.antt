@@ -13,7 +13,8 @@ use Rattle.sender.specs.declared.mig_error.MigError.{MigError}
 use Rattle.sender.specs.declared.phase.Phase.{Phase}
 use Rattle.sender.specs.declared.phase.Phase.TheVariants as phases
 use Rattle.wire.specs.Sinks.{over_writer}
-use Rattle.sender.proofs.Unsynced.{taken_failure_follows}
+use Rattle.sender.specs.Taking.{untaken}
+use Rattle.sender.proofs.Behind.{failure_stays_behind}
 use Rattle.vmig_c.specs.Durable.{Failed, FailedIsLost, FailsSync, FailsUnless, FailedMirrors, FailedStaysPlain, HasLost, Loses, RefusedFailsNothing, loss_refusal}
 use Rattle.vmig_c.specs.Kept.{KeptSeen, is_lost}
 use Rattle.vmig_c.specs.Mirror.{Mirrors, is_closed}
@@ -101,6 +102,7 @@ failed_mirrors m next dev pick ram seen f mirrors = subst (λ (x : Memory). Mirr
 
 -- The history of a machine that is being migrated.
 pub failures_stay_sent : FailuresStaySent
-failures_stay_sent m h taken dev pick l next is places goes f =
-    let more = taken_failure_follows m h (over_writer (Some []) 0 false) taken dev pick l next is places goes f in
-    record { effect = more.effect; is_sent = more.relates }
+failures_stay_sent m h taken pages dev pick l next is places goes f =
+    let there : HasPlaces (untaken taken l) = record { sound = places.sound; few = places.few; due_size = places.due_size; dirty_size = places.dirty_size } in
+    let more = failure_stays_behind m h (over_writer (Some []) 0 false) pages dev pick (untaken taken l) (untaken taken next) is there goes (record { failed = f.failed; rest = ap (untaken taken) f.rest }) in
+    record { effect = more.effect; is_sent = more.behind }

@@ -6,11 +6,13 @@ mod AsBox
 mod Awaited
 mod ByHandle
 mod ByKept
+mod ByParked
 mod Descriptions
 mod Failing
 mod Filling
 mod Handing
 mod Landings
+mod LatePages
 mod Lent
 mod LentSent
 mod MadeIn
@@ -21,6 +23,7 @@ mod OnHandle
 mod Options
 mod Owing
 mod PageAddresses
+mod PageLogs
 mod Pulling
 mod PushedPages
 mod Quiet
@@ -30,3 +33,5 @@ mod Sending
 mod Sent
 mod Streams
 mod ToldStates
+mod CallTurns
+mod TurnSteps

@@ -1,5 +1,5 @@
 -- The migration of what lies behind a handle.
-use Rattle.std.proofs.Common.{◌≡◌, ◌≢◌, ◌≤◌, ◌<◌, ◌-◌, ◌==◌, ℕ, suc, Bool, true, false, List, refl, sym, ap, ◌∙◌, subst, arith, true≢false}
+use Rattle.std.proofs.Common.{◌≡◌, ◌≢◌, ◌≤◌, ◌<◌, ◌-◌, ◌==◌, ℕ, suc, Bool, true, false, List, [], take, drop, length, refl, sym, ap, ◌∙◌, subst, arith, true≢false}
 use Rattle.std.proofs.lemmas.Bool.Decides.{nat_tests}
 use Rattle.dirtylog.specs.Members.{member_count}
 use Rattle.std.specs.Prelude.{MatchOption, Option, Some, None, Result, Ok, Err}
@@ -15,8 +15,15 @@ use Rattle.sender.specs.declared.event.LiveReply.{LiveReply}
 use Rattle.sender.specs.declared.event.LiveReply.TheVariants as live
 use Rattle.sender.specs.declared.mig_error.MigError.{MigError}
 use Rattle.sender.specs.declared.mig_error.MigError.TheVariants as errors
-use Rattle.vmig_c.specs.Migrated.{GoesOn, HasEnded, HasStopped, HasTaken, IsAnswered, SendsIf, SendsSome, SendsUpTo, TakesKept, end_status, is_none_due, send_refusal, stopped_pages, stopped_sectors}
+use Rattle.vmig_c.specs.Migrated.{AreCounted, AreTold, GoesOn, IsLeft, IsLeftLent, HasEnded, HasStopped, HasTaken, IsAnswered, SendsIf, SendsSome, SendsUpTo, TakesKept, end_status, is_none_due, send_refusal, stopped_pages, stopped_sectors}
 use Rattle.vmig_c.specs.SendStatus.{live_status, mig_status}
+use Rattle.machine.specs.Layout.{pages_of}
+use Rattle.machine.specs.Parked.{WhateverRam}
+use Rattle.sender.specs.Calls.{StopsWithin}
+use Rattle.sender.specs.LiveState.{now}
+use Rattle.sender.specs.Parked.{LiveParkedSeen, live_back}
+use Rattle.sender.specs.declared.event.Left.{Left}
+use Rattle.vmig_c.specs.declared.migrating.SendLeft.{SendLeft}
 use Rattle.vmig_c.specs.Kept.{State, Still, Moving}
 
 same_machine : (o : Option MigError) (l next : LiveSeen) (error : MigError) → MatchOption o (Does l events.Begin (live.Mig error) next) (λ x. (live.Mig error ≡ live.Mig x) × (next ≡ l)) → CallsNone l.machine next.machine → next.machine ≡ l.machine
@@ -109,3 +116,31 @@ some_refused l most status answer is asked = rw (sym asked ∙ is) (refl, refl)
 
 pub some_sent : (l next : LiveSeen) (most status : ℕ) (answer : Option ℕ) → answer ≡ None → answer ≡ send_refusal l.phase → SendsUpTo most l status next → SendsSome l most status next
 some_sent l next most status answer is asked sends = rw (sym asked ∙ is) sends
+
+-- What is left, by the two sets, whether RAM is here or lent.
+counted : (pages : ℕ) (due dirty : List Bool) (items : Left) (stop status : ℕ) (left : SendLeft) → items.due_pages ≡ member_count (take pages due) → items.due_sectors ≡ member_count (drop pages due) → items.dirty_pages ≡ member_count (take pages dirty)
+    → items.dirty_sectors ≡ member_count (drop pages dirty) → AreTold items stop status left → AreCounted pages due dirty left
+counted pages due dirty items stop status left a b c d told = record {
+  due_pages = ap (λ (s : SendLeft). s.due_pages) told.left_is ∙ a;
+  due_sectors = ap (λ (s : SendLeft). s.due_sectors) told.left_is ∙ b;
+  dirty_pages = ap (λ (s : SendLeft). s.dirty_pages) told.left_is ∙ c;
+  dirty_sectors = ap (λ (s : SendLeft). s.dirty_sectors) told.left_is ∙ d;
+}
+
+pub left_moving : (l : LiveSeen) (items : Left) (stop status : ℕ) (left : SendLeft) → items.due_pages ≡ member_count (take (pages_of (now l)) l.due) → items.due_sectors ≡ member_count (drop (pages_of (now l)) l.due)
+    → items.dirty_pages ≡ member_count (take (pages_of (now l)) l.dirty) → items.dirty_sectors ≡ member_count (drop (pages_of (now l)) l.dirty) → StopsWithin l stop → AreTold items stop status left → IsLeft l status left
+left_moving l items stop status left a b c d within told = record {
+  status_is = told.status_is;
+  counted = counted (pages_of (now l)) l.due l.dirty items stop status left a b c d told;
+  stop_bytes = subst (λ (n : ℕ). StopsWithin l n) (sym (ap (λ (s : SendLeft). s.stop_bytes) told.left_is)) within;
+  reserved = ap (λ (s : SendLeft). s.reserved) told.left_is;
+}
+
+pub left_moving_lent : (l : LiveParkedSeen) (items : Left) (stop status : ℕ) (left : SendLeft) → items.due_pages ≡ member_count (take (length l.parked.versions) l.due) → items.due_sectors ≡ member_count (drop (length l.parked.versions) l.due)
+    → items.dirty_pages ≡ member_count (take (length l.parked.versions) l.dirty) → items.dirty_sectors ≡ member_count (drop (length l.parked.versions) l.dirty) → WhateverRam l.parked (λ m. StopsWithin (live_back l m []) stop) → AreTold items stop status left → IsLeftLent l status left
+left_moving_lent l items stop status left a b c d within told = record {
+  status_is = told.status_is;
+  counted = counted (length l.parked.versions) l.due l.dirty items stop status left a b c d told;
+  stop_bytes = subst (λ (n : ℕ). WhateverRam l.parked (λ m. StopsWithin (live_back l m []) n)) (sym (ap (λ (s : SendLeft). s.stop_bytes) told.left_is)) within;
+  reserved = ap (λ (s : SendLeft). s.reserved) told.left_is;
+}

@@ -32,7 +32,9 @@ use Rattle.vmig_c.specs.Mirror.{AppliedMirrors, ArePushed, IsPushed, Mirrors, Mi
 use Rattle.c_machine.specs.Named.{are_pages, is_known_pages, pages_refusal}
 use Rattle.vmig_c.specs.SendStatus.{live_status}
 use Rattle.c_machine.specs.Status.{status_of}
-use Rattle.vmig_c.specs.Told.{TellsSo}
+use Rattle.machine.specs.PageLog.{noted}
+use Rattle.vmig_c.proofs.PageLogs.{logged_is_served}
+use Rattle.vmig_c.specs.Told.{WritesKept}
 use Rattle.vmig_c.specs.Kept.{State, Still, Moving, Arriving, Lent}
 use Rattle.c_machine.specs.declared.pages.Pages.{Pages}
 use Rattle.c_machine.proofs.PageNumbers.{both_left, both_right, is_page}
@@ -146,23 +148,23 @@ fine_by None l next addr bytes (live.Stopped pages sectors) told after = absurd 
 fine_by None l next addr bytes (live.Mig x) told after = absurd after
 fine_by (Some x) l next addr bytes reply told after = let is : live_status reply ≡ live_status (live.Mig x) = ap live_status after.0 in absurd (omega (arith, is, told))
 
-pub written_in : (k next : State) (addr : ℕ) (bytes : List ℕ) → TellsSo k (MemWrite addr bytes) 0 next → Written (machine_in k) addr bytes (machine_in next)
-written_in (Still m) (Still next) addr bytes told = record { reply = told.reply; applied = told.applied; status = told.status_is }
-written_in (Moving l) (Moving next) addr bytes served = fine_by (refusal_for l.phase (Guest (MemWrite addr bytes))) l next addr bytes served.reply served.status_is served.serves
-written_in (Arriving r) (Arriving next) addr bytes told = absurd (omega (arith, told.0.0))
-written_in (Still m) (Moving next) addr bytes told = absurd told
-written_in (Still m) (Arriving next) addr bytes told = absurd told
-written_in (Moving l) (Still next) addr bytes told = absurd told
-written_in (Moving l) (Arriving next) addr bytes told = absurd told
-written_in (Arriving r) (Still next) addr bytes told = absurd told
-written_in (Arriving r) (Moving next) addr bytes told = absurd told
-written_in (Lent x) (Lent next) addr bytes told = absurd (omega (arith, told.0.0))
-written_in (Still m) (Lent next) addr bytes told = absurd told
-written_in (Moving l) (Lent next) addr bytes told = absurd told
-written_in (Arriving r) (Lent next) addr bytes told = absurd told
-written_in (Lent x) (Still next) addr bytes told = absurd told
-written_in (Lent x) (Moving next) addr bytes told = absurd told
-written_in (Lent x) (Arriving next) addr bytes told = absurd told
+pub written_in : (k next : State) (log new_log : Option (List Bool)) (addr : ℕ) (bytes : List ℕ) → WritesKept k log addr bytes 0 next new_log → Written (machine_in k) addr bytes (machine_in next)
+written_in (Still m) (Still next) log new_log addr bytes told = record { reply = told.reply; applied = told.logged.is_applied; status = told.status_is }
+written_in (Moving l) (Moving next) log new_log addr bytes served = fine_by (refusal_for l.phase (Guest (MemWrite addr bytes))) l next addr bytes served.reply served.status_is (logged_is_served l next log new_log (MemWrite addr bytes) served.reply served.serves)
+written_in (Arriving r) (Arriving next) log new_log addr bytes told = absurd (omega (arith, told.0.0))
+written_in (Still m) (Moving next) log new_log addr bytes told = absurd told
+written_in (Still m) (Arriving next) log new_log addr bytes told = absurd told
+written_in (Moving l) (Still next) log new_log addr bytes told = absurd told
+written_in (Moving l) (Arriving next) log new_log addr bytes told = absurd told
+written_in (Arriving r) (Still next) log new_log addr bytes told = absurd told
+written_in (Arriving r) (Moving next) log new_log addr bytes told = absurd told
+written_in (Lent x) (Lent next) log new_log addr bytes told = absurd (omega (arith, told.0.0))
+written_in (Still m) (Lent next) log new_log addr bytes told = absurd told
+written_in (Moving l) (Lent next) log new_log addr bytes told = absurd told
+written_in (Arriving r) (Lent next) log new_log addr bytes told = absurd told
+written_in (Lent x) (Still next) log new_log addr bytes told = absurd told
+written_in (Lent x) (Moving next) log new_log addr bytes told = absurd told
+written_in (Lent x) (Arriving next) log new_log addr bytes told = absurd told
 
 set_by : (e : Option RamError) (addr : ℕ) (ram bytes : List ℕ) (reply : Reply) (effect : Effect) → 0 ≡ status_of reply → reply ≡ (write_ram addr bytes e).reply → effect ≡ (write_ram addr bytes e).effect
     → set_all ram effect.writes ≡ set_all ram (byte_writes addr bytes)
@@ -234,26 +236,27 @@ sound_later m next sound later = record {
   few = omega (arith, sound.few, later.versions);
 }
 
-pushed_all : (k next : State) (pages ram seen new_seen : List ℕ) → IsMemory (memory_in k) → length (memory_in k).bytes ≤ length ram → length (memory_in k).versions ≤ length seen
+pushed_all : (k next : State) (log new_log : Option (List Bool)) (pages ram seen new_seen : List ℕ) → IsMemory (memory_in k) → length (memory_in k).bytes ≤ length ram → length (memory_in k).versions ≤ length seen
     → are_pages (length (memory_in k).versions) pages ≡ true → ((n : ℕ) → n < length (memory_in k).versions → is_among pages n ≡ false → MirrorsPage (memory_in k) ram seen n)
-    → ArePushed k pages ram seen new_seen next → Mirrors (memory_in next) ram new_seen
-pushed_all k next [] ram seen new_seen sound long room are others pushed =
+    → ArePushed k log pages ram seen new_seen next new_log → Mirrors (memory_in next) ram new_seen
+pushed_all k next log new_log [] ram seen new_seen sound long room are others pushed =
     subst (λ (x : State). Mirrors (memory_in x) ram new_seen) (sym pushed.0) (subst (λ (s : List ℕ). Mirrors (memory_in k) ram s) (sym pushed.1) (λ n below. others n below refl))
-pushed_all k next (p ∷ pages) ram seen new_seen sound long room are others pushed =
+pushed_all k next log new_log (p ∷ pages) ram seen new_seen sound long room are others pushed =
     let mid : State = pushed.0 in
-    let one : IsPushed k p ram seen pushed.1 mid = pushed.2 in
-    let w : Written (machine_in k) (page_address (machine_in k) p) (page_of ram p) (machine_in mid) = written_in k mid (page_address (machine_in k) p) (page_of ram p) one.written in
+    let mid_log : Option (List Bool) = pushed.1 in
+    let one : IsPushed k log p ram seen pushed.2 mid mid_log = pushed.3 in
+    let w : Written (machine_in k) (page_address (machine_in k) p) (page_of ram p) (machine_in mid) = written_in k mid log mid_log (page_address (machine_in k) p) (page_of ram p) one.written in
     let later : IsLater (memory_in k) (memory_in mid) = w.applied.later in
     let here : p < length (memory_in k).versions = is_page p (length (memory_in k).versions) (both_left (nat_lt p (length (memory_in k).versions)) (are_pages (length (memory_in k).versions) pages) are) in
     let rest : are_pages (length (memory_in mid).versions) pages ≡ true = rw (later.versions) (both_right (nat_lt p (length (memory_in k).versions)) (are_pages (length (memory_in k).versions) pages) are) in
     let inside : 4096 * p + 4096 ≤ length (memory_in k).bytes = omega (arith, here, sound.pages) in
-    let places : length pushed.1 ≡ length seen = ap length one.noted ∙ length-set seen p (slice_index (memory_in mid).versions p) in
-    pushed_all mid next pages ram pushed.1 new_seen (sound_later (memory_in k) (memory_in mid) sound later) (omega (arith, long, later.bytes)) (omega (arith, room, later.versions, places)) rest
+    let places : length pushed.2 ≡ length seen = ap length one.noted ∙ length-set seen p (slice_index (memory_in mid).versions p) in
+    pushed_all mid next mid_log new_log pages ram pushed.2 new_seen (sound_later (memory_in k) (memory_in mid) sound later) (omega (arith, long, later.bytes)) (omega (arith, room, later.versions, places)) rest
     (λ n below among.
     let old : n < length (memory_in k).versions = omega (arith, below, later.versions) in
     subst (λ (s : List ℕ). MirrorsPage (memory_in mid) ram s n) (sym one.noted)
     (pushed_by (n == p) (machine_in k) (machine_in mid) p n ram seen refl inside long (omega (arith, here, room)) w (λ other. others n old (neither (n == p) (is_among pages n) other among))))
-    pushed.3
+    pushed.4
 
 -- What no refusal means.
 pub record IsReady (k : State) (pages : List ℕ) (bytes entries : ℕ) : Type 0 where
@@ -292,6 +295,6 @@ pushable k p numbers bytes entries none are =
     record { here = tests.0; going = tests.1; room = tests.2; are = are tests.3 }
 
 pub pushed_mirrors : PushedMirrors
-pushed_mirrors k next pages ram seen new_seen sound none others pushed =
+pushed_mirrors k next log new_log pages ram seen new_seen sound none others pushed =
     let r : IsReady k pages (length ram) (length seen) = ready k pages (length ram) (length seen) none in
-    pushed_all k next pages ram seen new_seen sound r.room r.places r.are others pushed
+    pushed_all k next log new_log pages ram seen new_seen sound r.room r.places r.are others pushed

@@ -6,6 +6,7 @@ use Rattle.blk.specs.Flush as blk
 use Rattle.blk.specs.declared.durable.SyncOwed.{SyncOwed}
 use Rattle.blk.specs.declared.durable.SyncOwed.TheVariants.{Nothing, Flush, EndOfWrite}
 use Rattle.blk.specs.declared.request.Request.{Request}
+use Rattle.machine.specs.AppliedLaws.{RefusedChangesNothing}
 use Rattle.machine.specs.DeviceStep.{advances}
 use Rattle.machine.specs.Seen.{Seen, state_of}
 use Rattle.machine.specs.State.{DeviceState}
@@ -27,8 +28,9 @@ use Rattle.vmig_c.specs.Refused.{ArePlainIn, IsSameKept, IsSameSent}
 use Rattle.vmig_c.specs.SendStatus.{live_status}
 use Rattle.c_machine.specs.Status.{status_of}
 use Rattle.vmig_c.specs.Stepped.{LiveSteppedIf, RefusedStepsNothing, StepsKept, StepsOwing, SteppedIf, live_sent_in, most_sent_by, sent_in}
-use Rattle.c_machine.proofs.Plain.{refused_quiet}
-use Rattle.vmig_c.proofs.Quiet.{no_number, quiet_by}
+use Rattle.c_machine.proofs.Plain.{is_refusal, refused_quiet}
+use Rattle.vmig_c.proofs.PageLogs.{logged_is_served, quiet_log, quiet_log_live}
+use Rattle.vmig_c.proofs.Quiet.{no_number, quiet_by, same_loan}
 
 -- A step that owes a flush makes one.
 made_by : (f e : Bool) → (if f then Flush else if e then EndOfWrite else Nothing) ≡ Flush → f ≡ true
@@ -78,25 +80,26 @@ is_owed true o is = is
 is_owed false o is = absurd cc
 
 -- By what the step owes.
-pub owes_nothing : (k next : KeptSeen) (dev pick status number n : ℕ) (buf new_buf : List ℕ) (o : SyncOwed) → o ≡ Nothing → o ≡ owed_lost k dev pick → StepsKept k.state dev pick status number n buf new_buf next.state
-    → StepsOwing (owed_lost k dev pick) k.state dev pick status number n buf new_buf next.state
-owes_nothing k next dev pick status number n buf new_buf o is by steps = subst (λ (x : SyncOwed). StepsOwing x k.state dev pick status number n buf new_buf next.state) (sym is ∙ by) steps
+pub owes_nothing : (k next : KeptSeen) (dev pick status number n : ℕ) (buf new_buf : List ℕ) (o : SyncOwed) → o ≡ Nothing → o ≡ owed_lost k dev pick → StepsKept k.state k.written dev pick status number n buf new_buf next.state next.written
+    → StepsOwing (owed_lost k dev pick) k.state k.written dev pick status number n buf new_buf next.state next.written
+owes_nothing k next dev pick status number n buf new_buf o is by steps = subst (λ (x : SyncOwed). StepsOwing x k.state k.written dev pick status number n buf new_buf next.state next.written) (sym is ∙ by) steps
 
-pub owes_flush : (k next : KeptSeen) (dev pick status n : ℕ) (buf : List ℕ) (o : SyncOwed) → o ≡ Flush → o ≡ owed_lost k dev pick → FailsKept k.state dev pick status next.state
-    → StepsOwing (owed_lost k dev pick) k.state dev pick status n n buf buf next.state
-owes_flush k next dev pick status n buf o is by fails =
+pub owes_flush : (k next : KeptSeen) (dev pick status n : ℕ) (buf : List ℕ) (o : SyncOwed) → o ≡ Flush → o ≡ owed_lost k dev pick → FailsKept k.state dev pick status next.state → next.written ≡ k.written
+    → StepsOwing (owed_lost k dev pick) k.state k.written dev pick status n n buf buf next.state next.written
+owes_flush k next dev pick status n buf o is by fails same =
     let owes : owed_lost k dev pick ≡ Flush = sym by ∙ is in
     rw owes (record {
+      log_same = same;
       status_is = failed_in k.state next.state dev pick status (is_owed (is_lost k dev) (owed_in k.state dev pick) owes) fails;
       fails = fails;
       number_same = refl;
       buf_same = refl;
     })
 
-pub owes_end : (k : KeptSeen) (dev pick n : ℕ) (buf : List ℕ) (o : SyncOwed) → o ≡ EndOfWrite → o ≡ owed_lost k dev pick → StepsOwing (owed_lost k dev pick) k.state dev pick 65 n n buf buf k.state
+pub owes_end : (k : KeptSeen) (dev pick n : ℕ) (buf : List ℕ) (o : SyncOwed) → o ≡ EndOfWrite → o ≡ owed_lost k dev pick → StepsOwing (owed_lost k dev pick) k.state k.written dev pick 65 n n buf buf k.state k.written
 owes_end k dev pick n buf o is by =
     let owes : owed_lost k dev pick ≡ EndOfWrite = sym by ∙ is in
-    rw owes (record { status_is = refl; number_same = refl; buf_same = refl; same = refl })
+    rw owes (record { log_same = refl; status_is = refl; number_same = refl; buf_same = refl; same = refl })
 
 -- What was refused.
 none_sent : (reply : Reply) → 1 ≤ status_of reply → status_of reply < 64 → sent_in reply ≡ []
@@ -129,53 +132,53 @@ none_sent_live (live.Mig error) some few = refl
 same_buf : (sent buf new_buf : List ℕ) → sent ≡ [] → new_buf ≡ sent ++ drop (length sent) buf → new_buf ≡ buf
 same_buf sent buf new_buf none is = is ∙ ap (λ (l : List ℕ). l ++ drop (length l) buf) none
 
-quiet_step : (small : Bool) (m next : Seen) (dev pick status number before : ℕ) (buf new_buf : List ℕ) → ArePlain m → SteppedIf small m dev pick status number before buf new_buf next → 1 ≤ status → status < 64
-    → (state_of next ≡ state_of m) × (number ≡ before) × (new_buf ≡ buf)
-quiet_step true m next dev pick status number before buf new_buf plain s some few = (ap state_of s.same, s.number_same, s.buf_same)
-quiet_step false m next dev pick status number before buf new_buf plain s some few =
+quiet_step : RefusedChangesNothing → (small : Bool) (m next : Seen) (log new_log : Option (List Bool)) (dev pick status number before : ℕ) (buf new_buf : List ℕ) → ArePlain m → SteppedIf small m log dev pick status number before buf new_buf next new_log → 1 ≤ status → status < 64
+    → (state_of next ≡ state_of m) × (number ≡ before) × (new_buf ≡ buf) × (new_log ≡ log)
+quiet_step law true m next log new_log dev pick status number before buf new_buf plain s some few = (ap state_of s.same, s.number_same, s.buf_same, s.log_same)
+quiet_step law false m next log new_log dev pick status number before buf new_buf plain s some few =
     let more : 1 ≤ status_of s.reply = omega (arith, some, s.status_is) in
     let less : status_of s.reply < 64 = omega (arith, few, s.status_is) in
-    (refused_quiet m next (Step dev pick) s.reply plain s.applied more less, s.number_is ∙ no_number s.reply before more less, same_buf (sent_in s.reply) buf new_buf (none_sent s.reply more less) s.sent)
+    (refused_quiet m next (Step dev pick) s.reply plain s.logged.is_applied more less, s.number_is ∙ no_number s.reply before more less, same_buf (sent_in s.reply) buf new_buf (none_sent s.reply more less) s.sent, quiet_log m next log new_log (Step dev pick) s.reply law s.logged (is_refusal s.reply more less))
 
 same_sent : (l next : LiveSeen) → next ≡ l → IsSameSent l next
 same_sent l next same = rw same (record { machine = refl; rest = refl })
 
-quiet_live_step : (closed small : Bool) (l next : LiveSeen) (dev pick status number before : ℕ) (buf new_buf : List ℕ) → ArePlain l.machine → LiveSteppedIf closed small l dev pick status number before buf new_buf next → 1 ≤ status → status < 64
-    → IsSameSent l next × (number ≡ before) × (new_buf ≡ buf)
-quiet_live_step true small l next dev pick status number before buf new_buf plain s some few = (same_sent l next s.same, s.number_same, s.buf_same)
-quiet_live_step false true l next dev pick status number before buf new_buf plain s some few = (same_sent l next s.same, s.number_same, s.buf_same)
-quiet_live_step false false l next dev pick status number before buf new_buf plain s some few =
+quiet_live_step : RefusedChangesNothing → (closed small : Bool) (l next : LiveSeen) (log new_log : Option (List Bool)) (dev pick status number before : ℕ) (buf new_buf : List ℕ) → ArePlain l.machine → LiveSteppedIf closed small l log dev pick status number before buf new_buf next new_log → 1 ≤ status → status < 64
+    → IsSameSent l next × (number ≡ before) × (new_buf ≡ buf) × (new_log ≡ log)
+quiet_live_step law true small l next log new_log dev pick status number before buf new_buf plain s some few = (same_sent l next s.same, s.number_same, s.buf_same, s.log_same)
+quiet_live_step law false true l next log new_log dev pick status number before buf new_buf plain s some few = (same_sent l next s.same, s.number_same, s.buf_same, s.log_same)
+quiet_live_step law false false l next log new_log dev pick status number before buf new_buf plain s some few =
     let more : 1 ≤ live_status s.reply = omega (arith, some, s.status_is) in
     let less : live_status s.reply < 64 = omega (arith, few, s.status_is) in
-    let quiet = quiet_by (refusal_for l.phase (Guest (Step dev pick))) l next (Step dev pick) s.reply before plain more less s.serves in
-    (quiet.0, s.number_is ∙ quiet.1, same_buf (live_sent_in s.reply) buf new_buf (none_sent_live s.reply more less) s.sent)
+    let quiet = quiet_by (refusal_for l.phase (Guest (Step dev pick))) l next (Step dev pick) s.reply before plain more less (logged_is_served l next log new_log (Step dev pick) s.reply s.serves) in
+    (quiet.0, s.number_is ∙ quiet.1, same_buf (live_sent_in s.reply) buf new_buf (none_sent_live s.reply more less) s.sent, quiet_log_live l next log new_log (Step dev pick) s.reply law more less s.serves)
 
-quiet_kept : (k next : State) (dev pick status number before : ℕ) (buf new_buf : List ℕ) → ArePlainIn k → StepsKept k dev pick status number before buf new_buf next → 1 ≤ status → status < 64
-    → IsSameKept k next × (number ≡ before) × (new_buf ≡ buf)
-quiet_kept (Still m) (Still next) dev pick status number before buf new_buf plain s some few = quiet_step (nat_lt (length buf) (most_sent_by m dev pick)) m next dev pick status number before buf new_buf plain s some few
-quiet_kept (Moving l) (Moving next) dev pick status number before buf new_buf plain s some few = quiet_live_step (is_closed l.phase) (nat_lt (length buf) (most_sent_by l.machine dev pick)) l next dev pick status number before buf new_buf plain s some few
-quiet_kept (Arriving r) (Arriving next) dev pick status number before buf new_buf plain s some few = (s.1, s.0.1, s.0.2)
-quiet_kept (Lent x) (Lent next) dev pick status number before buf new_buf plain s some few = (s.1, s.0.1, s.0.2)
-quiet_kept (Still m) (Moving next) dev pick status number before buf new_buf plain s some few = absurd s
-quiet_kept (Still m) (Arriving next) dev pick status number before buf new_buf plain s some few = absurd s
-quiet_kept (Still m) (Lent next) dev pick status number before buf new_buf plain s some few = absurd s
-quiet_kept (Moving l) (Still next) dev pick status number before buf new_buf plain s some few = absurd s
-quiet_kept (Moving l) (Arriving next) dev pick status number before buf new_buf plain s some few = absurd s
-quiet_kept (Moving l) (Lent next) dev pick status number before buf new_buf plain s some few = absurd s
-quiet_kept (Arriving r) (Still next) dev pick status number before buf new_buf plain s some few = absurd s
-quiet_kept (Arriving r) (Moving next) dev pick status number before buf new_buf plain s some few = absurd s
-quiet_kept (Arriving r) (Lent next) dev pick status number before buf new_buf plain s some few = absurd s
-quiet_kept (Lent x) (Still next) dev pick status number before buf new_buf plain s some few = absurd s
-quiet_kept (Lent x) (Moving next) dev pick status number before buf new_buf plain s some few = absurd s
-quiet_kept (Lent x) (Arriving next) dev pick status number before buf new_buf plain s some few = absurd s
+quiet_kept : RefusedChangesNothing → (k next : State) (log new_log : Option (List Bool)) (dev pick status number before : ℕ) (buf new_buf : List ℕ) → ArePlainIn k → StepsKept k log dev pick status number before buf new_buf next new_log → 1 ≤ status → status < 64
+    → IsSameKept k next × (number ≡ before) × (new_buf ≡ buf) × (new_log ≡ log)
+quiet_kept law (Still m) (Still next) log new_log dev pick status number before buf new_buf plain s some few = quiet_step law (nat_lt (length buf) (most_sent_by m dev pick)) m next log new_log dev pick status number before buf new_buf plain s some few
+quiet_kept law (Moving l) (Moving next) log new_log dev pick status number before buf new_buf plain s some few = quiet_live_step law (is_closed l.phase) (nat_lt (length buf) (most_sent_by l.machine dev pick)) l next log new_log dev pick status number before buf new_buf plain s some few
+quiet_kept law (Arriving r) (Arriving next) log new_log dev pick status number before buf new_buf plain s some few = (s.1, s.0.0.1, s.0.0.2, s.0.1)
+quiet_kept law (Lent x) (Lent next) log new_log dev pick status number before buf new_buf plain s some few = (same_loan x next s.1, s.0.0.1, s.0.0.2, s.0.1)
+quiet_kept law (Still m) (Moving next) log new_log dev pick status number before buf new_buf plain s some few = absurd s
+quiet_kept law (Still m) (Arriving next) log new_log dev pick status number before buf new_buf plain s some few = absurd s
+quiet_kept law (Still m) (Lent next) log new_log dev pick status number before buf new_buf plain s some few = absurd s
+quiet_kept law (Moving l) (Still next) log new_log dev pick status number before buf new_buf plain s some few = absurd s
+quiet_kept law (Moving l) (Arriving next) log new_log dev pick status number before buf new_buf plain s some few = absurd s
+quiet_kept law (Moving l) (Lent next) log new_log dev pick status number before buf new_buf plain s some few = absurd s
+quiet_kept law (Arriving r) (Still next) log new_log dev pick status number before buf new_buf plain s some few = absurd s
+quiet_kept law (Arriving r) (Moving next) log new_log dev pick status number before buf new_buf plain s some few = absurd s
+quiet_kept law (Arriving r) (Lent next) log new_log dev pick status number before buf new_buf plain s some few = absurd s
+quiet_kept law (Lent x) (Still next) log new_log dev pick status number before buf new_buf plain s some few = absurd s
+quiet_kept law (Lent x) (Moving next) log new_log dev pick status number before buf new_buf plain s some few = absurd s
+quiet_kept law (Lent x) (Arriving next) log new_log dev pick status number before buf new_buf plain s some few = absurd s
 
-itself : (k : State) → IsSameKept k k
+pub itself : (k : State) → IsSameKept k k
 itself (Still m) = refl
 itself (Moving l) = record { machine = refl; rest = refl }
 itself (Arriving r) = refl
-itself (Lent x) = refl
+itself (Lent x) = same_loan x x refl
 
-pub refused_steps_nothing : RefusedStepsNothing
-refused_steps_nothing Nothing k next dev pick status number before buf new_buf plain s some few = quiet_kept k next dev pick status number before buf new_buf plain s some few
-refused_steps_nothing Flush k next dev pick status number before buf new_buf plain s some few = absurd (omega (arith, s.status_is, few))
-refused_steps_nothing EndOfWrite k next dev pick status number before buf new_buf plain s some few = (subst (λ (x : State). IsSameKept k x) (sym s.same) (itself k), s.number_same, s.buf_same)
+pub refused_steps_nothing : RefusedChangesNothing → RefusedStepsNothing
+refused_steps_nothing law Nothing k next log new_log dev pick status number before buf new_buf plain s some few = quiet_kept law k next log new_log dev pick status number before buf new_buf plain s some few
+refused_steps_nothing law Flush k next log new_log dev pick status number before buf new_buf plain s some few = absurd (omega (arith, s.status_is, few))
+refused_steps_nothing law EndOfWrite k next log new_log dev pick status number before buf new_buf plain s some few = (subst (λ (x : State). IsSameKept k x) (sym s.same) (itself k), s.number_same, s.buf_same, s.log_same)

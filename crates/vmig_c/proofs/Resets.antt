@@ -1,11 +1,11 @@
 -- The guest's reboot: each event is done.
 use Rattle.std.proofs.Common.{◌≡◌, ◌≤◌, ◌<◌, ◌+◌, ◌++◌, ℕ, Bool, true, false, List, [], ◌∷◌, refl, sym, ap, ◌∙◌, subst, arith, drop, get_or, length, true≢false}
-use Rattle.std.specs.Prelude.{MatchOption, Option, Some, None, Result, Ok, Err, option_map, slice_get, if◌then◌else◌}
-use Rattle.std.proofs.lemmas.List.{drop_all, drop_more, length-map}
+use Rattle.std.specs.Prelude.{MatchOption, Option, Some, None, option_map, slice_get, if◌then◌else◌}
+use Rattle.std.proofs.lemmas.List.{drop_all, drop_more}
 use Prim.Native.Nat.{zero, suc}
 use Rattle.std.proofs.lemmas.Option.{slice_get-map}
 use Rattle.machine.specs.Applied.{IsApplied}
-use Rattle.machine.specs.Direct.{done_reply, written_result}
+use Rattle.machine.specs.Parked.{IsAppliedParked, ParkedSeen, back_with, parked_states}
 use Rattle.machine.specs.Seen.{Seen, state_of}
 use Rattle.machine.specs.Shapes.{made_as}
 use Rattle.machine.specs.State.{DeviceState}
@@ -14,21 +14,24 @@ use Rattle.machine.specs.declared.event.Event.{Event}
 use Rattle.machine.specs.declared.event.Event.TheVariants.{RegWrite, Drop}
 use Rattle.machine.specs.declared.kind.Kind.{Kind}
 use Rattle.machine.specs.declared.kind.Kind.TheVariants.{Network, Block, Console, Entropy}
-use Rattle.machine.specs.declared.reply.Refusal.{Refusal}
 use Rattle.machine.specs.declared.reply.Reply.{Reply}
 use Rattle.machine.specs.declared.shape.Shape.{Shape}
-use Rattle.sender.specs.Calls.{Does, Serves, guest_reply}
-use Rattle.sender.specs.LiveState.{HasPlaces, LiveSeen, refusal_for}
+use Rattle.sender.specs.Calls.{Does}
+use Rattle.sender.specs.LiveState.{LiveSeen, refusal_for}
+use Rattle.sender.specs.Parked.{LiveParkedSeen}
+use Rattle.sender.specs.ParkedCalls.{GuestsParked}
 use Rattle.sender.specs.declared.event.LiveEvent.TheVariants.{Guest}
+use Rattle.sender.specs.declared.event.LiveReply.{LiveReply}
 use Rattle.sender.specs.declared.event.LiveReply.TheVariants as live
 use Rattle.sender.specs.declared.mig_error.MigError.{MigError}
 use Rattle.sender.specs.declared.phase.Phase.{Phase}
 use Rattle.sender.specs.declared.phase.Phase.TheVariants as phases
-use Rattle.vmig_c.specs.Kept.{State, Still, Moving}
-use Rattle.vmig_c.specs.Mirror.{is_closed}
-use Rattle.vmig_c.specs.Resetting.{AreDone, IsDone, has_input, reset_of, resets_from, shapes_of}
+use Rattle.vmig_c.specs.Kept.{LoanSeen, StillLent, MovingLent, State, Still, Moving, Arriving, Lent}
+use Rattle.vmig_c.specs.Resetting.{AreDone, HasPages, IsDone, ResetsKept, has_input, loan_refusal, made_in, reset_of, reset_refusal, resets_from, shapes_in, stop_refusal}
 use Rattle.c_machine.specs.Status.{status_of}
-use Rattle.c_machine.specs.Status.{number_of}
+use Rattle.vmig_c.specs.SendStatus.{live_status}
+use Rattle.vmig_c.specs.Told.{Tells, TellsSo}
+use Rattle.vmig_c.proofs.ByParked.{applied_at, zero_ram}
 
 -- Of a device that is there a write of a register is done, and so is a drop, where something can be put in.
 out_done : (out : Option ℕ) → status_of (out_reply out) ≡ 0
@@ -52,81 +55,139 @@ drop_done : (dev : ℕ) (o : Option DeviceState) (shape : Shape) → option_map 
 drop_done dev None shape is some = absurd cc
 drop_done dev (Some d) shape is some = drop_kind dev d d.kind (ap has_input (of_some (made_as d.kind) shape is) ∙ some)
 
-made_at : (m : Seen) (dev : ℕ) (shape : Shape) → slice_get (shapes_of m) dev ≡ Some shape → option_map (λ (d : DeviceState). made_as d.kind) (slice_get (state_of m).devices dev) ≡ Some shape
+made_at : (m : Seen) (dev : ℕ) (shape : Shape) → slice_get (made_in (state_of m).devices) dev ≡ Some shape → option_map (λ (d : DeviceState). made_as d.kind) (slice_get (state_of m).devices dev) ≡ Some shape
 made_at m dev shape there = sym (slice_get-map (λ (d : DeviceState). made_as d.kind) (state_of m).devices dev) ∙ there
 
-pub at_of : (m : Seen) (dev : ℕ) (d : DeviceState) (told : Shape) → slice_get (state_of m).devices dev ≡ Some d → told ≡ made_as d.kind → slice_get (shapes_of m) dev ≡ Some told
-at_of m dev d told there is = slice_get-map (λ (x : DeviceState). made_as x.kind) (state_of m).devices dev ∙ ap (option_map (λ (x : DeviceState). made_as x.kind)) there ∙ ap Some (sym is)
-
-pub wrote : (m next : Seen) (dev : ℕ) (shape : Shape) (reply : Reply) → slice_get (shapes_of m) dev ≡ Some shape → IsApplied m (RegWrite dev 112 4 0) reply next → status_of reply ≡ 0
+wrote : (m next : Seen) (dev : ℕ) (shape : Shape) (reply : Reply) → slice_get (made_in (state_of m).devices) dev ≡ Some shape → IsApplied m (RegWrite dev 112 4 0) reply next → status_of reply ≡ 0
 wrote m next dev shape reply there applied = ap status_of applied.has.reply_is ∙ write_done dev (slice_get (state_of m).devices dev) shape 112 4 0 (made_at m dev shape there)
 
-pub dropped : (m next : Seen) (dev : ℕ) (shape : Shape) (reply : Reply) → slice_get (shapes_of m) dev ≡ Some shape → has_input shape ≡ true → IsApplied m (Drop dev) reply next → status_of reply ≡ 0
+dropped : (m next : Seen) (dev : ℕ) (shape : Shape) (reply : Reply) → slice_get (made_in (state_of m).devices) dev ≡ Some shape → has_input shape ≡ true → IsApplied m (Drop dev) reply next → status_of reply ≡ 0
 dropped m next dev shape reply there some applied = ap status_of applied.has.reply_is ∙ drop_done dev (slice_get (state_of m).devices dev) shape (made_at m dev shape there) some
 
-still_done : (m next : Seen) (e : Event) (reply : Reply) → IsApplied m e reply next → status_of reply ≡ 0 → IsDone (Still m) e (Still next)
-still_done m next e reply applied is = record { number = number_of reply 0; tells = record { reply = reply; applied = applied; status_is = sym is; number_is = refl } }
+-- What a device was made as, by its state.
+shape_at : (devices : List DeviceState) (dev : ℕ) (d : DeviceState) (told : Shape) → slice_get devices dev ≡ Some d → told ≡ made_as d.kind → slice_get (made_in devices) dev ≡ Some told
+shape_at devices dev d told there is = slice_get-map (λ (x : DeviceState). made_as x.kind) devices dev ∙ ap (option_map (λ (x : DeviceState). made_as x.kind)) there ∙ ap Some (sym is)
+
+pub shape_still : (k : State) (m : Seen) (dev : ℕ) (d : DeviceState) (told : Shape) → k ≡ Still m → slice_get (state_of m).devices dev ≡ Some d → told ≡ made_as d.kind → slice_get (shapes_in k) dev ≡ Some told
+shape_still k m dev d told is there made = ap (λ (x : State). slice_get (shapes_in x) dev) is ∙ shape_at (state_of m).devices dev d told there made
+
+pub shape_moving : (k : State) (l : LiveSeen) (dev : ℕ) (d : DeviceState) (told : Shape) → k ≡ Moving l → slice_get (state_of l.machine).devices dev ≡ Some d → told ≡ made_as d.kind → slice_get (shapes_in k) dev ≡ Some told
+shape_moving k l dev d told is there made = ap (λ (x : State). slice_get (shapes_in x) dev) is ∙ shape_at (state_of l.machine).devices dev d told there made
+
+pub shape_still_lent : (k : State) (p : ParkedSeen) (dev : ℕ) (d : DeviceState) (told : Shape) → k ≡ Lent (StillLent p) → slice_get (parked_states p) dev ≡ Some d → told ≡ made_as d.kind → slice_get (shapes_in k) dev ≡ Some told
+shape_still_lent k p dev d told is there made = ap (λ (x : State). slice_get (shapes_in x) dev) is ∙ shape_at (parked_states p) dev d told there made
+
+pub shape_moving_lent : (k : State) (l : LiveParkedSeen) (dev : ℕ) (d : DeviceState) (told : Shape) → k ≡ Lent (MovingLent l) → slice_get (parked_states l.parked) dev ≡ Some d → told ≡ made_as d.kind → slice_get (shapes_in k) dev ≡ Some told
+shape_moving_lent k l dev d told is there made = ap (λ (x : State). slice_get (shapes_in x) dev) is ∙ shape_at (parked_states l.parked) dev d told there made
+
+-- A machine that was not stopped refuses no event.
+going_for : (p : Phase) (e : Event) → stop_refusal p ≡ None → refusal_for p (Guest e) ≡ None
+going_for phases.Fresh e going = refl
+going_for (phases.Open k) e going = refl
+going_for phases.Stopped e going = absurd cc
+going_for phases.Failed e going = refl
+
+-- An event whose reply is this one, whatever RAM is: the shapes stay, and so does that the machine was not stopped.
+pub record IsDoneBy (k : State) (status : ℕ) (next : State) : Type 0 where
+  pub status_is : status ≡ 0
+  pub shapes : shapes_in next ≡ shapes_in k
+  pub going : reset_refusal next ≡ None
+  pub pages : HasPages next
+
+abbrev pub IsFine : State → Event → Type 0
+IsFine k e = (m next : Seen) (reply : Reply) → made_in (state_of m).devices ≡ shapes_in k → IsApplied m e reply next → status_of reply ≡ 0
+
+live_done : (o : Option MigError) (l next : LiveSeen) (e : Event) (reply : LiveReply) (status : ℕ) → o ≡ None → stop_refusal l.phase ≡ None → IsFine (Moving l) e → status ≡ live_status reply
+    → MatchOption o (Does l (Guest e) reply next) (λ x. (reply ≡ live.Mig x) × (next ≡ l)) → IsDoneBy (Moving l) status (Moving next)
+live_done (Some x) l next e reply status none going fine told does = absurd cc
+live_done None l next e (live.Guest r) status none going fine told does = record {
+  status_is = told ∙ fine l.machine next.machine r refl does.is_applied;
+  shapes = does.is_applied.shape.devices;
+  going = ap (λ (s : LiveSeen). stop_refusal s.phase) does.rest ∙ going;
+  pages = tt;
+}
+live_done None l next e (live.Begun k) status none going fine told does = absurd does
+live_done None l next e (live.Copied item) status none going fine told does = absurd does
+live_done None l next e live.RoundDone status none going fine told does = absurd does
+live_done None l next e live.RoundOpen status none going fine told does = absurd does
+live_done None l next e (live.Stopped pages sectors) status none going fine told does = absurd does
+live_done None l next e (live.Mig x) status none going fine told does = absurd does
+
+-- While RAM is lent.
+parked_shapes : (p next : ParkedSeen) (e : Event) (reply : Reply) → 1 ≤ length p.versions → length p.versions ≤ 16384 → IsAppliedParked p e reply next → made_in (parked_states next) ≡ made_in (parked_states p)
+parked_shapes p next e reply some few applied = (applied_at p next e reply some few applied).shape.devices
+
+same_pages : (p next : ParkedSeen) → next.versions ≡ p.versions → (1 ≤ length p.versions) × (length p.versions ≤ 16384) → (1 ≤ length next.versions) × (length next.versions ≤ 16384)
+same_pages p next same pages = subst (λ (v : List ℕ). (1 ≤ length v) × (length v ≤ 16384)) (sym same) pages
+
+parked_done : (o : Option MigError) (l next : LiveParkedSeen) (e : Event) (reply : LiveReply) (status : ℕ) → o ≡ None → stop_refusal l.phase ≡ None → HasPages (Lent (MovingLent l)) → IsFine (Lent (MovingLent l)) e → status ≡ live_status reply
+    → MatchOption o (GuestsParked l e reply next) (λ x. (reply ≡ live.Mig x) × (next ≡ l)) → IsDoneBy (Lent (MovingLent l)) status (Lent (MovingLent next))
+parked_done (Some x) l next e reply status none going pages fine told does = absurd cc
+parked_done None l next e (live.Guest r) status none going pages fine told does = record {
+  status_is = told ∙ fine (back_with l.parked (zero_ram l.parked)) (back_with next.parked (zero_ram l.parked)) r refl (applied_at l.parked next.parked e r pages.0 pages.1 does.applied);
+  shapes = parked_shapes l.parked next.parked e r pages.0 pages.1 does.applied;
+  going = ap (λ (s : LiveParkedSeen). stop_refusal s.phase) does.rest ∙ going;
+  pages = same_pages l.parked next.parked does.applied.versions pages;
+}
+parked_done None l next e (live.Begun k) status none going pages fine told does = absurd does
+parked_done None l next e (live.Copied item) status none going pages fine told does = absurd does
+parked_done None l next e live.RoundDone status none going pages fine told does = absurd does
+parked_done None l next e live.RoundOpen status none going pages fine told does = absurd does
+parked_done None l next e (live.Stopped pages_ sectors) status none going pages fine told does = absurd does
+parked_done None l next e (live.Mig x) status none going pages fine told does = absurd does
+
+loan_done : (x next : LoanSeen) (e : Event) (status number before : ℕ) → loan_refusal x ≡ None → HasPages (Lent x) → IsFine (Lent x) e → Tells (Lent x) e status number before (Lent next) → IsDoneBy (Lent x) status (Lent next)
+loan_done (StillLent p) (StillLent next) e status number before none pages fine t = record {
+  status_is = t.status_is ∙ fine (back_with p (zero_ram p)) (back_with next (zero_ram p)) t.reply refl (applied_at p next e t.reply pages.0 pages.1 t.applied);
+  shapes = parked_shapes p next e t.reply pages.0 pages.1 t.applied;
+  going = refl;
+  pages = same_pages p next t.applied.versions pages;
+}
+loan_done (MovingLent l) (MovingLent next) e status number before none pages fine t = parked_done (refusal_for l.phase (Guest e)) l next e t.reply status (going_for l.phase e none) none pages fine t.status_is t.serves
+loan_done (StillLent p) (MovingLent next) e status number before none pages fine t = absurd t
+loan_done (MovingLent l) (StillLent next) e status number before none pages fine t = absurd t
+
+done_by : (k next : State) (e : Event) (status number before : ℕ) → reset_refusal k ≡ None → HasPages k → IsFine k e → Tells k e status number before next → IsDoneBy k status next
+done_by (Still m) (Still next) e status number before none pages fine t = record { status_is = t.status_is ∙ fine m next t.reply refl t.applied; shapes = t.applied.shape.devices; going = refl; pages = tt }
+done_by (Moving l) (Moving next) e status number before none pages fine t = live_done (refusal_for l.phase (Guest e)) l next e t.reply status (going_for l.phase e none) none fine t.status_is t.serves
+done_by (Lent x) (Lent next) e status number before none pages fine t = loan_done x next e status number before none pages fine t
+done_by (Arriving r) next e status number before none pages fine t = absurd cc
+done_by (Still m) (Moving next) e status number before none pages fine t = absurd t
+done_by (Still m) (Arriving next) e status number before none pages fine t = absurd t
+done_by (Still m) (Lent next) e status number before none pages fine t = absurd t
+done_by (Moving l) (Still next) e status number before none pages fine t = absurd t
+done_by (Moving l) (Arriving next) e status number before none pages fine t = absurd t
+done_by (Moving l) (Lent next) e status number before none pages fine t = absurd t
+done_by (Lent x) (Still next) e status number before none pages fine t = absurd t
+done_by (Lent x) (Moving next) e status number before none pages fine t = absurd t
+done_by (Lent x) (Arriving next) e status number before none pages fine t = absurd t
+
+-- The two events of a device.
+pub wrote_in : (k next : State) (dev status number : ℕ) (shape : Shape) → reset_refusal k ≡ None → HasPages k → slice_get (shapes_in k) dev ≡ Some shape → Tells k (RegWrite dev 112 4 0) status number 0 next → IsDoneBy k status next
+wrote_in k next dev status number shape none pages there t =
+    done_by k next (RegWrite dev 112 4 0) status number 0 none pages (λ m after reply same applied. wrote m after dev shape reply (ap (λ (l : List Shape). slice_get l dev) same ∙ there) applied) t
+
+pub dropped_in : (k next : State) (dev status : ℕ) (shape : Shape) → reset_refusal k ≡ None → HasPages k → slice_get (shapes_in k) dev ≡ Some shape → has_input shape ≡ true → TellsSo k (Drop dev) status next → IsDoneBy k status next
+dropped_in k next dev status shape none pages there some t =
+    done_by k next (Drop dev) status 0 0 none pages (λ m after reply same applied. dropped m after dev shape reply (ap (λ (l : List Shape). slice_get l dev) same ∙ there) some applied) t
+
+is_done : (k next : State) (e : Event) (status number : ℕ) → status ≡ 0 → Tells k e status number 0 next → IsDone k e next
+is_done k next e status number done t = record { number = number; tells = subst (λ (s : ℕ). Tells k e s number 0 next) done t }
 
 ends_with : (k mid next : State) (dev : ℕ) (shape : Shape) (some : Bool) → has_input shape ≡ some → IsDone k (RegWrite dev 112 4 0) mid → AreDone mid (if some then Drop dev ∷ [] else []) next → AreDone k (reset_of dev shape) next
 ends_with k mid next dev shape some is first rest = (mid, first, subst (λ (b : Bool). AreDone mid (if b then Drop dev ∷ [] else []) next) (sym is) rest)
 
--- One device, of a machine that is not being sent.
-pub still_with : (m mid next : Seen) (dev : ℕ) (told shape : Shape) (first : Result (Option ℕ) Refusal) (second : Result (Unit {0}) Refusal) → slice_get (shapes_of m) dev ≡ Some told → has_input told ≡ true → IsApplied m (RegWrite dev 112 4 0) (written_result first) mid
-    → shapes_of mid ≡ shapes_of m → IsApplied mid (Drop dev) (done_reply second) next → slice_get (shapes_of m) dev ≡ Some shape → AreDone (Still m) (reset_of dev shape) (Still next)
-still_with m mid next dev told shape first second at some one same two there =
+pub one_with : (k mid next : State) (dev first second number : ℕ) (told shape : Shape) → slice_get (shapes_in k) dev ≡ Some told → has_input told ≡ true → Tells k (RegWrite dev 112 4 0) first number 0 mid → first ≡ 0 → TellsSo mid (Drop dev) second next → second ≡ 0
+    → slice_get (shapes_in k) dev ≡ Some shape → AreDone k (reset_of dev shape) next
+one_with k mid next dev first second number told shape at some one done two also there =
     let is : told ≡ shape = of_some told shape (sym at ∙ there) in
-    let input : has_input shape ≡ true = ap has_input (sym is) ∙ some in
-    ends_with (Still m) (Still mid) (Still next) dev shape true input (still_done m mid (RegWrite dev 112 4 0) (written_result first) one (wrote m mid dev shape (written_result first) there one))
-    (Still next, still_done mid next (Drop dev) (done_reply second) two (dropped mid next dev shape (done_reply second) (ap (λ (l : List Shape). slice_get l dev) same ∙ there) input two), refl)
+    ends_with k mid next dev shape true (ap has_input (sym is) ∙ some) (is_done k mid (RegWrite dev 112 4 0) first number done one) (next, is_done mid next (Drop dev) second 0 also two, refl)
 
-pub still_without : (m next : Seen) (dev : ℕ) (told shape : Shape) (first : Result (Option ℕ) Refusal) → slice_get (shapes_of m) dev ≡ Some told → has_input told ≡ false → IsApplied m (RegWrite dev 112 4 0) (written_result first) next
-    → slice_get (shapes_of m) dev ≡ Some shape → AreDone (Still m) (reset_of dev shape) (Still next)
-still_without m next dev told shape first at none one there =
+pub one_without : (k next : State) (dev first number : ℕ) (told shape : Shape) → slice_get (shapes_in k) dev ≡ Some told → has_input told ≡ false → Tells k (RegWrite dev 112 4 0) first number 0 next → first ≡ 0
+    → slice_get (shapes_in k) dev ≡ Some shape → AreDone k (reset_of dev shape) next
+one_without k next dev first number told shape at none one done there =
     let is : told ≡ shape = of_some told shape (sym at ∙ there) in
-    ends_with (Still m) (Still next) (Still next) dev shape false (ap has_input (sym is) ∙ none) (still_done m next (RegWrite dev 112 4 0) (written_result first) one (wrote m next dev shape (written_result first) there one)) refl
-
--- An event of a machine that is being sent, and was not stopped.
-going_for : (p : Phase) (e : Event) → is_closed p ≡ false → refusal_for p (Guest e) ≡ None
-going_for phases.Fresh e going = refl
-going_for (phases.Open k) e going = refl
-going_for phases.Stopped e going = absurd (true≢false going)
-going_for phases.Failed e going = refl
-
-pub record IsServedDone (l : LiveSeen) (e : Event) (next : LiveSeen) : Type 0 where
-  pub reply : Reply
-  pub applied : IsApplied l.machine e reply next.machine
-  pub serves : Serves l (Guest e) (live.Guest reply) next
-  pub phase : next.phase ≡ l.phase
-
-served_by : (o : Option MigError) (l next : LiveSeen) (e : Event) (answer : Result Reply MigError) → o ≡ None → Serves l (Guest e) (guest_reply answer) next
-    → MatchOption o (Does l (Guest e) (guest_reply answer) next) (λ x. (guest_reply answer ≡ live.Mig x) × (next ≡ l)) → IsServedDone l e next
-served_by (Some x) l next e answer none serves does = absurd cc
-served_by None l next e (Err x) none serves does = absurd does
-served_by None l next e (Ok reply) none serves does = record { reply = reply; applied = does.is_applied; serves = serves; phase = ap (λ (s : LiveSeen). s.phase) does.rest }
-
-pub served : (l next : LiveSeen) (e : Event) (answer : Result Reply MigError) → is_closed l.phase ≡ false → Serves l (Guest e) (guest_reply answer) next → IsServedDone l e next
-served l next e answer going serves = served_by (refusal_for l.phase (Guest e)) l next e answer (going_for l.phase e going) serves serves
-
-live_done : (l next : LiveSeen) (e : Event) (s : IsServedDone l e next) → HasPlaces l → status_of s.reply ≡ 0 → IsDone (Moving l) e (Moving next)
-live_done l next e s places is = record { number = number_of s.reply 0; tells = record { reply = live.Guest s.reply; places = places; serves = s.serves; status_is = sym is; number_is = refl } }
-
-pub live_shapes : (l next : LiveSeen) (e : Event) → IsServedDone l e next → shapes_of next.machine ≡ shapes_of l.machine
-live_shapes l next e s = s.applied.shape.devices
-
-pub moving_with : (l mid next : LiveSeen) (dev : ℕ) (told shape : Shape) → slice_get (shapes_of l.machine) dev ≡ Some told → has_input told ≡ true → HasPlaces l → HasPlaces mid → IsServedDone l (RegWrite dev 112 4 0) mid → IsServedDone mid (Drop dev) next
-    → slice_get (shapes_of l.machine) dev ≡ Some shape → AreDone (Moving l) (reset_of dev shape) (Moving next)
-moving_with l mid next dev told shape at some places also one two there =
-    let is : told ≡ shape = of_some told shape (sym at ∙ there) in
-    let input : has_input shape ≡ true = ap has_input (sym is) ∙ some in
-    let later : slice_get (shapes_of mid.machine) dev ≡ Some shape = ap (λ (x : List Shape). slice_get x dev) (live_shapes l mid (RegWrite dev 112 4 0) one) ∙ there in
-    ends_with (Moving l) (Moving mid) (Moving next) dev shape true input (live_done l mid (RegWrite dev 112 4 0) one places (wrote l.machine mid.machine dev shape one.reply there one.applied))
-    (Moving next, live_done mid next (Drop dev) two also (dropped mid.machine next.machine dev shape two.reply later input two.applied), refl)
-
-pub moving_without : (l next : LiveSeen) (dev : ℕ) (told shape : Shape) → slice_get (shapes_of l.machine) dev ≡ Some told → has_input told ≡ false → HasPlaces l → IsServedDone l (RegWrite dev 112 4 0) next
-    → slice_get (shapes_of l.machine) dev ≡ Some shape → AreDone (Moving l) (reset_of dev shape) (Moving next)
-moving_without l next dev told shape at none places one there =
-    let is : told ≡ shape = of_some told shape (sym at ∙ there) in
-    ends_with (Moving l) (Moving next) (Moving next) dev shape false (ap has_input (sym is) ∙ none) (live_done l next (RegWrite dev 112 4 0) one places (wrote l.machine next.machine dev shape one.reply there one.applied)) refl
+    ends_with k next next dev shape false (ap has_input (sym is) ∙ none) (is_done k next (RegWrite dev 112 4 0) first number done one) refl
 
 -- One device after another: what is done of the rest is done of all.
 abbrev pub IsOnWay : State → List Shape → State → ℕ → Type 0
@@ -150,8 +211,9 @@ goes_on k now mid shapes dev d below way one next rest =
 pub all_done : (k now : State) (shapes : List Shape) (dev : ℕ) → length shapes ≤ dev → IsOnWay k shapes now dev → AreDone k (resets_from 0 shapes) now
 all_done k now shapes dev end way = way now (subst (λ (l : List Shape). AreDone now (resets_from dev l) now) (sym (drop_all dev shapes end)) refl)
 
-pub in_range : (m now : Seen) (shapes : List Shape) (dev : ℕ) → shapes ≡ shapes_of m → shapes_of now ≡ shapes_of m → dev < length shapes → dev < length (state_of now).devices
-in_range m now shapes dev are same below =
-    let long : length (shapes_of now) ≡ length (state_of now).devices = length-map (state_of now).devices (λ (d : DeviceState). made_as d.kind) in
-    let size : length shapes ≡ length (shapes_of now) = ap length (are ∙ sym same) in
-    omega (arith, long, size, below)
+-- By whether it is refused.
+pub refused : (k : State) (status : ℕ) (answer : Option ℕ) → answer ≡ reset_refusal k → answer ≡ Some status → ResetsKept k status k
+refused k status answer is why = rw (sym is ∙ why) (refl, refl)
+
+pub was_reset : (k next : State) (answer : Option ℕ) → answer ≡ reset_refusal k → answer ≡ None → AreDone k (resets_from 0 (shapes_in k)) next → ResetsKept k 0 next
+was_reset k next answer is none done = rw (sym is ∙ none) (refl, done)

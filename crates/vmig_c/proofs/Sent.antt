@@ -8,24 +8,26 @@ use Rattle.machine.specs.Seen.{state_of}
 use Rattle.machine.specs.State.{MachineState}
 use Rattle.sender.specs.Follows.{AgreesIn, Relates}
 use Rattle.sender.specs.History.{History, has_fault, phase_of, text}
-use Rattle.sender.specs.LiveState.{LiveSeen, now}
+use Rattle.sender.specs.LiveState.{HasPlaces, LiveSeen, now}
+use Rattle.sender.specs.Marks.{if_dirty}
 use Rattle.sender.specs.Taking.{untaken}
 use Rattle.sender.specs.declared.phase.Phase.{Phase}
 use Rattle.sender.specs.declared.phase.Phase.TheVariants as phases
-use Rattle.sender.proofs.Taking.{taken_are_whole, taken_follow}
+use Rattle.sender.proofs.Behind.{behind_by_none, marks_catch_up, taken_stays_behind}
+use Rattle.sender.proofs.Taking.{taken_are_whole}
 use Rattle.wire.specs.Sinks.{Covers, Digested, SinkState, Takes, over_writer}
 use Rattle.wire.specs.Stream.{IsStream}
 use Rattle.wire.proofs.Unique.{one_machine}
 use Rattle.vmig_c.specs.Migrated.{HasTaken}
-use Rattle.vmig_c.specs.Sent.{ArrivedIsSent, CallsStaySent, FirstIsSent, IsSent, StoppedIsWhole, TakingsStaySent}
+use Rattle.vmig_c.specs.Sent.{ArrivedIsSent, CallsStaySent, FirstIsSent, MarksStaySent, StoppedIsWhole, TakingsStaySent}
 
 pub first_is_sent : FirstIsSent
-first_is_sent m l honest fresh = fresh.relates honest
+first_is_sent m l honest fresh = record { late = []; among = λ n is. is; relates = fresh.relates honest }
 
 pub calls_stay_sent : CallsStaySent
-calls_stay_sent m h taken e reply l next is places serves =
-    let more = taken_follow m h (over_writer (Some []) 0 false) taken e reply l next is places serves in
-    record { effect = more.effect; is_sent = more.relates }
+calls_stay_sent m h taken pages e reply l next is places may serves =
+    let more = taken_stays_behind m h (over_writer (Some []) 0 false) taken pages e reply l next is places may serves in
+    record { effect = more.effect; is_sent = more.behind }
 
 -- The first of the bytes that wait are what stands at the front of the buffer.
 front_of : (got : ℕ) (held buf : List ℕ) → got ≤ length held → take got (take got held ++ drop got buf) ≡ take got held
@@ -58,7 +60,11 @@ relates_still m h out d s takes g = record {
   taken = λ none going. subst (Covers d) (append-nil (text m h)) (takes (text m h) (g.taken none going));
 }
 
-takings : (m : MachineState) (h : History) (taken buf new_buf : List ℕ) (status got : ℕ) (l next : LiveSeen) → IsSent m h taken l → has_fault h ≡ false → HasTaken l status got buf new_buf next → untaken (taken ++ take got new_buf) next ≡ unflushed next.digest (untaken taken l)
+-- What was taken, of a machine that is behind by no page.
+abbrev IsExact : MachineState → History → List ℕ → LiveSeen → Type 0
+IsExact m h taken l = Relates m h (over_writer (Some []) 0 false) (untaken taken l)
+
+takings : (m : MachineState) (h : History) (taken buf new_buf : List ℕ) (status got : ℕ) (l next : LiveSeen) → IsExact m h taken l → has_fault h ≡ false → HasTaken l status got buf new_buf next → untaken (taken ++ take got new_buf) next ≡ unflushed next.digest (untaken taken l)
 takings m h taken buf new_buf status got l next is quiet took =
     let held = l.out.held in
     let few : got ≤ length held = rw (took.count) (min-le_right (length buf) (length held)) in
@@ -70,14 +76,27 @@ takings m h taken buf new_buf status got l next is quiet took =
     let sinks : out ≡ whole_writer taken l.out = (λ i. record { held = all i; failures = count i; honest = honest i; is_flushed = false }) in
     ap (λ (s : LiveSeen). untaken (taken ++ take got new_buf) s) took.rest ∙ ap (λ (o : SinkState). record l { out = o; digest = next.digest }) sinks
 
-pub takings_stay_sent : TakingsStaySent
-takings_stay_sent m h taken buf new_buf status got l next is quiet took =
+taken_exact : (m : MachineState) (h : History) (taken buf new_buf : List ℕ) (status got : ℕ) (l next : LiveSeen) → IsExact m h taken l → has_fault h ≡ false → HasTaken l status got buf new_buf next → IsExact m h (taken ++ take got new_buf) next
+taken_exact m h taken buf new_buf status got l next is quiet took =
     let P : LiveSeen → Type 0 = λ s. Relates m h (over_writer (Some []) 0 false) s in
     subst P (sym (takings m h taken buf new_buf status got l next is quiet took)) (relates_still m h (over_writer (Some []) 0 false) next.digest (untaken taken l) took.digest is)
 
+pub takings_stay_sent : TakingsStaySent
+takings_stay_sent m h taken pages buf new_buf status got l next b quiet took =
+    let late = b.late in
+    let also : HasTaken (if_dirty late l) status got buf new_buf (if_dirty late next) = record { status_is = took.status_is; count = took.count; bytes = took.bytes; rest = ap (if_dirty late) took.rest; digest = took.digest } in
+    record { late = late; among = b.among; relates = taken_exact m h taken buf new_buf status got (if_dirty late l) (if_dirty late next) b.relates quiet also }
+
+pub marks_stay_sent : MarksStaySent
+marks_stay_sent m h taken pages marks rest l b places mem goes below all =
+    let there : HasPlaces (untaken taken l) = record { sound = places.sound; few = places.few; due_size = places.due_size; dirty_size = places.dirty_size } in
+    let more = marks_catch_up m h (over_writer (Some []) 0 false) pages marks rest (untaken taken l) b there mem goes below all in
+    record { history = more.history; is_sent = more.behind; came = more.came; text_is = more.text_is }
+
 pub stopped_is_whole : StoppedIsWhole
 stopped_is_whole m h taken l is sound stopped =
-    let w = taken_are_whole m h (over_writer (Some []) 0 false) taken l is sound stopped in
+    let exact = (behind_by_none m h (over_writer (Some []) 0 false) (untaken taken l)).0 is in
+    let w = taken_are_whole m h (over_writer (Some []) 0 false) taken l exact sound stopped in
     let P : List ℕ → Type 0 = λ b. IsStream b (now l) in
     subst P (sym (w.whole refl)) w.is_stream
 

@@ -18,6 +18,7 @@ use Rattle.c_machine.specs.Description.{message_of, nothing_told, with_shapes}
 use Rattle.vmig_c.specs.SendStatus.{mig_status}
 use Rattle.vmig_c.specs.Unmapping.{images_in}
 use Rattle.c_machine.specs.declared.description.Description.{Description}
+use Rattle.c_machine.specs.declared.setup.TheConstants.{LOG}
 
 -- The states of a handle that has something. One that has nothing is 0.
 abbrev pub is_arriving : ℕ
@@ -95,7 +96,12 @@ abbrev pub lost_bits : List Bool → ℕ
 lost_bits [] = 0
 lost_bits (b ∷ bs) = number_of b + 2 * lost_bits bs
 
--- By its state, without what each has: its images, and which disks were lost.
+-- What was asked for when it was made, or let arrive.
+abbrev pub flags_of : Option (List Bool) → ℕ
+flags_of None = 0
+flags_of (Some pages) = LOG
+
+-- By its state, without what each has: its images, which disks were lost, and what was asked for.
 abbrev pub IsToldState : KeptSeen → State → Description → Type 0
 IsToldState k (Still m) d = d ≡ told_still m
 IsToldState k (Moving l) d = d ≡ sent_as (told_still l.machine) l.phase
@@ -105,7 +111,7 @@ IsToldState k (Lent x) d = d ≡ told_lent x
 pub record IsDescribed (k : KeptSeen) (d : Description) : Type 0 where
   pub told : Description
   pub by_state : IsToldState k k.state told
-  pub is : d ≡ record told { images = min (images_in k) (2 ^ 32 - 1); lost = lost_bits k.lost }
+  pub is : d ≡ record told { images = min (images_in k) (2 ^ 32 - 1); lost = lost_bits k.lost; flags = flags_of k.written }
 
 -- The description of a handle.
 abbrev pub Describes : Option KeptSeen → Description → Type 0

@@ -4,6 +4,7 @@
 use Rattle.std.specs.Prelude.{◌≡◌, ℕ, ◌≤◌, ◌<◌, Bool, true, false, if◌then◌else◌, List, length, Option, Some, None, slice_get, slice_set}
 use Rattle.blk.specs.declared.durable.SyncOwed.{SyncOwed}
 use Rattle.blk.specs.declared.durable.SyncOwed.TheVariants.{Nothing}
+use Rattle.machine.specs.Parked.{parked_states}
 use Rattle.machine.specs.Refusal.{code_of}
 use Rattle.machine.specs.Seen.{Seen, state_of}
 use Rattle.machine.specs.State.{DeviceState, MachineState}
@@ -15,11 +16,11 @@ use Rattle.machine.specs.declared.reply.Reply.TheVariants.{DiskFailed}
 use Rattle.sender.specs.LiveState.{HasPlaces, LiveSeen, now}
 use Rattle.sender.specs.Unsynced.{FailsLiveFlushIf}
 use Rattle.sender.specs.declared.mig_error.MigError.TheVariants.{AlreadyStopped}
-use Rattle.vmig_c.specs.Kept.{KeptSeen, State, Still, Moving, Arriving, Lent, is_lost}
+use Rattle.vmig_c.specs.Kept.{KeptSeen, LoanSeen, StillLent, MovingLent, State, Still, Moving, Arriving, Lent, is_lost}
 use Rattle.vmig_c.specs.Mirror.{Mirrors, is_closed}
 use Rattle.vmig_c.specs.OnHandle.{ByState, Refuses, Unless}
 use Rattle.c_machine.specs.Plain.{ArePlain}
-use Rattle.c_machine.specs.Status.{done, idle, lent, no_device, no_machine, status_of}
+use Rattle.c_machine.specs.Status.{done, idle, no_device, no_machine, status_of}
 use Rattle.vmig_c.specs.SendStatus.{mig_status}
 
 -- What a step owes of a machine that makes steps. One that was stopped, arrives or has lent its RAM makes none.
@@ -68,7 +69,7 @@ abbrev pub FailsKept : State → ℕ → ℕ → ℕ → State → Type 0
 FailsKept k dev pick status next =
     ByState (λ reason. status ≡ reason) (λ m after. FailsSync m dev pick status after) (λ l after. FailsUnless (is_closed l.phase) l dev pick status after) k next
 
--- Why no disk is lost: there is no such device, it has no disk, or there is no machine that makes steps.
+-- Why no disk is lost: there is no such device, it has no disk, or there is no machine whose guest runs.
 abbrev pub kind_refusal : Kind → Option ℕ
 kind_refusal (Block block) = None
 kind_refusal (Network mac frames) = Some (code_of WrongKind)
@@ -79,18 +80,19 @@ abbrev pub disk_refusal : Option DeviceState → Option ℕ
 disk_refusal None = Some no_device
 disk_refusal (Some d) = kind_refusal d.kind
 
-abbrev pub disk_refusal_of : MachineState → ℕ → Option ℕ
-disk_refusal_of m dev = disk_refusal (slice_get m.devices dev)
+abbrev pub disk_refusal_unless : Bool → List DeviceState → ℕ → Option ℕ
+disk_refusal_unless true devices dev = Some (mig_status AlreadyStopped)
+disk_refusal_unless false devices dev = disk_refusal (slice_get devices dev)
 
-abbrev pub disk_refusal_unless : Bool → MachineState → ℕ → Option ℕ
-disk_refusal_unless true m dev = Some (mig_status AlreadyStopped)
-disk_refusal_unless false m dev = disk_refusal_of m dev
+abbrev pub loan_refusal : LoanSeen → ℕ → Option ℕ
+loan_refusal (StillLent p) dev = disk_refusal (slice_get (parked_states p) dev)
+loan_refusal (MovingLent l) dev = disk_refusal_unless (is_closed l.phase) (parked_states l.parked) dev
 
 abbrev pub loss_refusal : State → ℕ → Option ℕ
-loss_refusal (Still m) dev = disk_refusal_of (state_of m) dev
-loss_refusal (Moving l) dev = disk_refusal_unless (is_closed l.phase) (state_of l.machine) dev
+loss_refusal (Still m) dev = disk_refusal (slice_get (state_of m).devices dev)
+loss_refusal (Moving l) dev = disk_refusal_unless (is_closed l.phase) (state_of l.machine).devices dev
 loss_refusal (Arriving r) dev = Some no_machine
-loss_refusal (Lent x) dev = Some lent
+loss_refusal (Lent x) dev = loan_refusal x dev
 
 -- The disk of this device is lost from now on, and nothing else changed.
 pub record HasLost (k : KeptSeen) (dev status : ℕ) (next : KeptSeen) : Type 0 where

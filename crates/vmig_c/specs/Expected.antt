@@ -45,7 +45,7 @@ StandsExpected true e (Arriving a) = IsAwaitedAt (terms_of e) (first_place e.ram
 StandsExpected true e _ = ⊥
 
 pub record IsArrivalOf (e : Expected) (k : KeptSeen) : Type 0 where
-  pub new : IsNew (has_images e) k
+  pub new : IsNew (has_images e) e.flags k
   pub stands : StandsExpected (has_images e) e k.state
   pub asked : k.admission ≡ Pending (limits_of e) (shapes_of e.shapes.now) []
 

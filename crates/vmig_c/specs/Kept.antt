@@ -1,5 +1,7 @@
 -- The contents of a handle, as contracts see them.
-use Rattle.std.specs.Prelude.{◌≡◌, ℕ, Bool, true, false, List, [], replicate, slice_index_or}
+use Rattle.std.specs.Prelude.{◌≡◌, ℕ, Bool, true, false, List, [], Option, Some, None, if◌then◌else◌, length, replicate, slice_index_or}
+use Rattle.guestmem.specs.declared.limits.TheConstants.{PAGES_MAX}
+use Rattle.c_machine.specs.Made.{asks_log}
 use Rattle.machine.specs.Parked.{ParkedSeen}
 use Rattle.machine.specs.Seen.{Seen}
 use Rattle.machine.specs.declared.machine.TheConstants.{DEVICES_MAX}
@@ -35,13 +37,14 @@ pub data State : Type 0 where
   Lent : LoanSeen → State
 
 -- Whether its disks lie in memory of the caller, in which state it is, whether what arrives is let in, how many bytes of it were taken, and
--- for each device whether its disk was lost.
+-- for each device whether its disk was lost, and for each page whether it is to be handed out as written, if the caller asks for these.
 pub record KeptSeen : Type 0 where
   pub is_mapped : Bool
   pub state : State
   pub admission : AdmissionSeen
   pub fed : ℕ
   pub lost : List Bool
+  pub written : Option (List Bool)
 
 -- No disk was lost.
 abbrev pub none_lost : List Bool
@@ -51,11 +54,20 @@ none_lost = replicate DEVICES_MAX false
 abbrev pub is_lost : KeptSeen → ℕ → Bool
 is_lost k dev = slice_index_or k.lost dev false
 
--- As it is at first: whose memory its disks lie in, none of them is lost, and nothing was fed.
-pub record IsNew (mapped : Bool) (k : KeptSeen) : Type 0 where
+-- A log has a place for each page that RAM may have. At first none of them is in it.
+abbrev pub FitsLog : Option (List Bool) → Type 0
+FitsLog None = Unit {0}
+FitsLog (Some pages) = length pages ≡ PAGES_MAX
+
+abbrev pub first_log : ℕ → Option (List Bool)
+first_log flags = if asks_log flags then Some (replicate PAGES_MAX false) else None
+
+-- As it is at first: whose memory its disks lie in, none of them is lost, nothing was fed, and what the flags ask for.
+pub record IsNew (mapped : Bool) (flags : ℕ) (k : KeptSeen) : Type 0 where
   pub is_mapped : k.is_mapped ≡ mapped
   pub none_lost : k.lost ≡ none_lost
   pub none_fed : k.fed ≡ 0
+  pub log : k.written ≡ first_log flags
 
 abbrev pub admission_of : Admission → AdmissionSeen
 admission_of (admissions.Granted pages shapes) = Granted pages shapes.items
@@ -83,7 +95,7 @@ are_mapped (held.Mapped c) = true
 are_mapped (held.Arriving a) = is_over a
 
 abbrev pub kept_with : Held → AdmissionSeen → ℕ → List Bool → KeptSeen
-kept_with held admission fed lost = record { is_mapped = are_mapped held; state = held_state held; admission = admission; fed = fed; lost = lost }
+kept_with held admission fed lost = record { is_mapped = are_mapped held; state = held_state held; admission = admission; fed = fed; lost = lost; written = None }
 
 -- Where no stream arrives none was asked for.
 abbrev pub unasked : AdmissionSeen

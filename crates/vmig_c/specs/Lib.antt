@@ -8,9 +8,11 @@ pub mod Described
 pub mod Durable
 pub mod Expected
 pub mod Filled
+pub mod HandedOut
 pub mod Headed
 pub mod Kept
 pub mod Landing
+pub mod Late
 pub mod Lending
 pub mod Lent
 pub mod Made
@@ -28,5 +30,6 @@ pub mod SendStatus
 pub mod Sent
 pub mod Stepped
 pub mod Told
+pub mod Turns
 pub mod Unmapping
 pub mod Version

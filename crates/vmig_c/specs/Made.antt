@@ -10,7 +10,7 @@ use Rattle.c_machine.specs.declared.setup.Setup.{Setup}
 -- The new machine. It is not being migrated.
 pub record IsMachineOf (s : Setup) (k : KeptSeen) : Type 0 where
   pub machine : Seen
-  pub new : IsNew (has_images s) k
+  pub new : IsNew (has_images s) s.flags k
   pub is_idle : k.state ≡ Still machine
   pub is_first : IsFirstOf s machine
 

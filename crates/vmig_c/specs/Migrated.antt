@@ -2,12 +2,14 @@
 use Rattle.std.specs.Prelude.{Bool, true, false, ◌≡◌, ◌==◌, ℕ, zero, suc, List, [], ◌++◌, min, length, replicate, take, drop, Option, Some, None}
 use Rattle.dirtylog.specs.Members.{member_count}
 use Rattle.machine.specs.Layout.{pages_of}
+use Rattle.machine.specs.Parked.{WhateverRam}
 use Rattle.machine.specs.Seen.{AreHonest, Seen, state_of}
 use Rattle.sender.specs.Calls.{Serves, StopsWithin}
 use Rattle.sender.specs.Follows.{Relates}
 use Rattle.sender.specs.History.{nothing}
 use Rattle.sender.specs.LiveState.{HasPlaces, LiveSeen, now}
-use Rattle.sender.specs.Parked.{LiveParkedSeen}
+use Rattle.sender.specs.Parked.{LiveParkedSeen, live_back}
+use Rattle.sender.specs.declared.event.Left.{Left}
 use Rattle.sender.specs.declared.event.LiveEvent.TheVariants as events
 use Rattle.sender.specs.declared.event.LiveReply.{LiveReply}
 use Rattle.sender.specs.declared.event.LiveReply.TheVariants as live
@@ -18,7 +20,7 @@ use Rattle.wire.specs.Sinks.{Takes, over_writer}
 use Rattle.c_machine.specs.Status.{done, lent, no_machine, no_memory, round_done}
 use Rattle.vmig_c.specs.SendStatus.{live_status, mig_status}
 use Rattle.vmig_c.specs.Kept.{KeptSeen, LoanSeen, StillLent, MovingLent, State, Still, Moving, Arriving, Lent}
-use Rattle.vmig_c.specs.OnHandle.{ByState, OfHandle, OfState, OnHandle, Refuses, RefusesBoth, Unless}
+use Rattle.vmig_c.specs.OnHandle.{ByState, OfEachState, OfHandle, OnHandle, Refuses, RefusesBoth, Unless}
 use Rattle.vmig_c.specs.declared.migrating.SendLeft.{SendLeft}
 
 -- Every call of a migration but its begin is refused for a machine that is not being migrated.
@@ -136,20 +138,36 @@ AbortsKept (Arriving r) status (Arriving next) = Refuses status next r no_machin
 AbortsKept (Lent x) status (Lent next) = Refuses status next x lent
 AbortsKept _ status _ = ⊥
 
+-- So many items are left, and so many bytes.
+pub record AreTold (items : Left) (stop_bytes status : ℕ) (left : SendLeft) : Type 0 where
+  pub status_is : status ≡ done
+  pub left_is : left ≡ record { due_pages = items.due_pages; due_sectors = items.due_sectors; dirty_pages = items.dirty_pages; dirty_sectors = items.dirty_sectors; stop_bytes = stop_bytes; reserved = replicate 3 0 }
+
+-- How many of `pages` pages and of the sectors after them are in these two sets.
+pub record AreCounted (pages : ℕ) (due dirty : List Bool) (left : SendLeft) : Type 0 where
+  pub due_pages : left.due_pages ≡ member_count (take pages due)
+  pub due_sectors : left.due_sectors ≡ member_count (drop pages due)
+  pub dirty_pages : left.dirty_pages ≡ member_count (take pages dirty)
+  pub dirty_sectors : left.dirty_sectors ≡ member_count (drop pages dirty)
+
 -- How many pages and sectors are due in this round, and how many were written since; and the most bytes that a stop would write.
 pub record IsLeft (l : LiveSeen) (status : ℕ) (left : SendLeft) : Type 0 where
   pub status_is : status ≡ done
-  pub due_pages : left.due_pages ≡ member_count (take (pages_of (now l)) l.due)
-  pub due_sectors : left.due_sectors ≡ member_count (drop (pages_of (now l)) l.due)
-  pub dirty_pages : left.dirty_pages ≡ member_count (take (pages_of (now l)) l.dirty)
-  pub dirty_sectors : left.dirty_sectors ≡ member_count (drop (pages_of (now l)) l.dirty)
+  pub counted : AreCounted (pages_of (now l)) l.due l.dirty left
   pub stop_bytes : StopsWithin l left.stop_bytes
+  pub reserved : left.reserved ≡ replicate 3 0
+
+-- As above, while its RAM is lent: as far as its pages were named.
+pub record IsLeftLent (l : LiveParkedSeen) (status : ℕ) (left : SendLeft) : Type 0 where
+  pub status_is : status ≡ done
+  pub counted : AreCounted (length l.parked.versions) l.due l.dirty left
+  pub stop_bytes : WhateverRam l.parked (λ m. StopsWithin (live_back l m []) left.stop_bytes)
   pub reserved : left.reserved ≡ replicate 3 0
 
 abbrev pub LeavesKept : State → ℕ → SendLeft → SendLeft → Type 0
 LeavesKept k status left old =
     let refused = Refuses status left old in
-    OfState refused (λ m. refused (mig_status NotBegun)) (λ l. IsLeft l status left) k
+    OfEachState refused (λ m. refused (mig_status NotBegun)) (λ l. IsLeft l status left) (λ p. refused (mig_status NotBegun)) (λ l. IsLeftLent l status left) k
 
 -- The first of the bytes that wait went to the front of the buffer, as many as fit, and no longer wait. The digest is still
 -- of the same bytes, and all else is unchanged.

@@ -7,17 +7,16 @@ use Rattle.machine.specs.Applied.{IsApplied}
 use Rattle.machine.specs.Parked.{page_address}
 use Rattle.machine.specs.Seen.{Seen}
 use Rattle.machine.specs.declared.event.Event.{Event}
-use Rattle.machine.specs.declared.event.Event.TheVariants.{MemWrite}
 use Rattle.machine.specs.declared.reply.Reply.{Reply}
 use Rattle.sender.specs.LiveState.{how_many}
 use Rattle.sender.specs.declared.mig_error.MigError.TheVariants.{AlreadyStopped}
 use Rattle.sender.specs.declared.phase.Phase.{Phase}
 use Rattle.sender.specs.declared.phase.Phase.TheVariants as phases
 use Rattle.c_machine.specs.Named.{are_pages, is_known_pages, named_pages, needs_list, pages_refusal}
-use Rattle.vmig_c.specs.OnHandle.{OfHandle, OnHandle, Refuses, Unless}
+use Rattle.vmig_c.specs.OnHandle.{OfHandle, OnLoggedHandle, Refuses, Unless}
 use Rattle.c_machine.specs.Status.{done, lent, no_machine, no_memory, not_known, too_small}
 use Rattle.vmig_c.specs.SendStatus.{mig_status}
-use Rattle.vmig_c.specs.Told.{TellsSo}
+use Rattle.vmig_c.specs.Told.{WritesKept}
 use Rattle.vmig_c.specs.Kept.{KeptSeen, State, Still, Moving, Arriving, Lent}
 use Rattle.c_machine.specs.declared.pages.Pages.{Pages}
 
@@ -81,29 +80,30 @@ pub record IsPushable (k : State) (pages : List ℕ) (bytes entries : ℕ) : Typ
   pub are : are_pages (length (memory_in k).versions) pages ≡ true
 
 -- A page was handed in: the guest wrote it whole, and its version after that is noted.
-pub record IsPushed (k : State) (n : ℕ) (ram seen new_seen : List ℕ) (next : State) : Type 0 where
-  pub written : TellsSo k (MemWrite (page_address (machine_in k) n) (page_of ram n)) done next
+pub record IsPushed (k : State) (log : Option (List Bool)) (n : ℕ) (ram seen new_seen : List ℕ) (next : State) (new_log : Option (List Bool)) : Type 0 where
+  pub written : WritesKept k log (page_address (machine_in k) n) (page_of ram n) done next new_log
   pub noted : new_seen ≡ slice_set seen n (slice_index (memory_in next).versions n)
 
 -- Pages were handed in one after another.
-abbrev pub ArePushed : State → List ℕ → List ℕ → List ℕ → List ℕ → State → Type 0
-ArePushed k [] ram seen new_seen next = (next ≡ k) × (new_seen ≡ seen)
-ArePushed k (n ∷ pages) ram seen new_seen next = (mid : State) × (mid_seen : List ℕ) × IsPushed k n ram seen mid_seen mid × ArePushed mid pages ram mid_seen new_seen next
+abbrev pub ArePushed : State → Option (List Bool) → List ℕ → List ℕ → List ℕ → List ℕ → State → Option (List Bool) → Type 0
+ArePushed k log [] ram seen new_seen next new_log = (next ≡ k) × (new_seen ≡ seen) × (new_log ≡ log)
+ArePushed k log (n ∷ pages) ram seen new_seen next new_log =
+    (mid : State) × (mid_log : Option (List Bool)) × (mid_seen : List ℕ) × IsPushed k log n ram seen mid_seen mid mid_log × ArePushed mid mid_log pages ram mid_seen new_seen next new_log
 
-pub record HasPushed (k : State) (pages ram : List ℕ) (status : ℕ) (seen new_seen : List ℕ) (next : State) : Type 0 where
-  pub pushed : ArePushed k pages ram seen new_seen next
+pub record HasPushed (k : State) (log : Option (List Bool)) (pages ram : List ℕ) (status : ℕ) (seen new_seen : List ℕ) (next : State) (new_log : Option (List Bool)) : Type 0 where
+  pub pushed : ArePushed k log pages ram seen new_seen next new_log
   pub status_is : status ≡ done
 
 -- Where their numbers have to be collected memory may be refused: then nothing changed.
-abbrev pub PushesKept : State → Pages → List ℕ → ℕ → List ℕ → List ℕ → State → Type 0
-PushesKept k pages ram status seen new_seen next =
-    let refused : ℕ → Type 0 = λ reason. Refuses status new_seen seen reason × (next ≡ k) in
+abbrev pub PushesKept : State → Option (List Bool) → Pages → List ℕ → ℕ → List ℕ → List ℕ → State → Option (List Bool) → Type 0
+PushesKept k log pages ram status seen new_seen next new_log =
+    let refused : ℕ → Type 0 = λ reason. Refuses status new_seen seen reason × (next ≡ k) × (new_log ≡ log) in
     Unless (push_refusal k pages (length ram) (length seen)) refused
-    (HasPushed k (named_pages pages (length (memory_in k).versions)) ram status seen new_seen next ⊎ ((needs_list pages ≡ true) × refused no_memory))
+    (HasPushed k log (named_pages pages (length (memory_in k).versions)) ram status seen new_seen next new_log ⊎ ((needs_list pages ≡ true) × refused no_memory))
 
 -- Pages were handed in to the machine of a handle.
 abbrev pub Pushed : Option KeptSeen → Pages → List ℕ → ℕ → List ℕ → List ℕ → Option KeptSeen → Type 0
-Pushed k pages ram status seen new_seen after = OnHandle (Refuses status new_seen seen) (λ old next. PushesKept old.state pages ram status seen new_seen next) k after
+Pushed k pages ram status seen new_seen after = OnLoggedHandle (Refuses status new_seen seen) (λ old next log. PushesKept old.state old.written pages ram status seen new_seen next log) k after
 
 -- The caller has the current content of the page: it noted its version, and that is not the greatest number.
 abbrev pub is_noted : Memory → List ℕ → ℕ → Bool
@@ -173,6 +173,6 @@ is_among (k ∷ pages) n = n == k || is_among pages n
 
 -- Once pages were handed in, they are mirrored, and so is each other page that was before.
 abbrev pub PushedMirrors : Type 0
-PushedMirrors = (k next : State) (pages ram seen new_seen : List ℕ) → IsMemory (memory_in k) → IsPushable k pages (length ram) (length seen)
+PushedMirrors = (k next : State) (log new_log : Option (List Bool)) (pages ram seen new_seen : List ℕ) → IsMemory (memory_in k) → IsPushable k pages (length ram) (length seen)
     → ((n : ℕ) → n < length (memory_in k).versions → is_among pages n ≡ false → MirrorsPage (memory_in k) ram seen n)
-    → ArePushed k pages ram seen new_seen next → Mirrors (memory_in next) ram new_seen
+    → ArePushed k log pages ram seen new_seen next new_log → Mirrors (memory_in next) ram new_seen

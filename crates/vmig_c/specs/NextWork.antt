@@ -3,14 +3,15 @@ use Rattle.std.specs.Prelude.{◌≡◌, ℕ, Bool, true, false, List, Option, S
 use Rattle.blk.specs.declared.durable.SyncOwed.{SyncOwed}
 use Rattle.blk.specs.declared.durable.SyncOwed.TheVariants.{Nothing, Flush, EndOfWrite}
 use Rattle.machine.specs.NextWork.{next_work_with_lost}
-use Rattle.machine.specs.Seen.{Seen, state_of}
+use Rattle.machine.specs.Parked.{parked_states}
+use Rattle.machine.specs.Seen.{state_of}
 use Rattle.machine.specs.State.{DeviceState}
 use Rattle.machine.specs.declared.work.Work.{Work}
 use Rattle.sender.specs.declared.mig_error.MigError.TheVariants.{AlreadyStopped}
 use Rattle.vmig_c.specs.Durable.{owed_for}
 use Rattle.vmig_c.specs.Kept.{KeptSeen}
 use Rattle.vmig_c.specs.Mirror.{is_closed}
-use Rattle.vmig_c.specs.OnHandle.{OfState, RefusesBoth}
+use Rattle.vmig_c.specs.OnHandle.{OfEachState, RefusesBoth}
 use Rattle.c_machine.specs.Status.{idle, no_machine, sync, work}
 use Rattle.vmig_c.specs.SendStatus.{mig_status}
 
@@ -29,19 +30,20 @@ abbrev pub NamesWork : List Bool → List DeviceState → Option Work → ℕ �
 NamesWork lost devices (Some w) status dev old_dev pick old_pick = (status ≡ work_status lost devices w) × (dev ≡ w.dev) × (pick ≡ w.pick)
 NamesWork lost devices None status dev old_dev pick old_pick = RefusesBoth status dev old_dev pick old_pick idle
 
--- The first step, in turn, after the one that the numbers named. One that would end a write of a lost disk is passed over.
-abbrev pub FindsWorkOf : List Bool → Seen → ℕ → ℕ → ℕ → ℕ → ℕ → Type 0
-FindsWorkOf lost m status dev old_dev pick old_pick =
-    NamesWork lost (state_of m).devices (next_work_with_lost (state_of m).devices lost (record { dev = old_dev; pick = old_pick })) status dev old_dev pick old_pick
+-- The first step, in turn, after the one that the numbers named, also of a machine whose RAM is lent. One that would end a write of a lost disk is passed over.
+abbrev pub FindsWorkOf : List Bool → List DeviceState → ℕ → ℕ → ℕ → ℕ → ℕ → Type 0
+FindsWorkOf lost devices status dev old_dev pick old_pick =
+    NamesWork lost devices (next_work_with_lost devices lost (record { dev = old_dev; pick = old_pick })) status dev old_dev pick old_pick
 
 -- A machine that was stopped makes no steps.
-abbrev pub FindsUnless : Bool → List Bool → Seen → ℕ → ℕ → ℕ → ℕ → ℕ → Type 0
-FindsUnless true lost m status dev old_dev pick old_pick = RefusesBoth status dev old_dev pick old_pick (mig_status AlreadyStopped)
-FindsUnless false lost m status dev old_dev pick old_pick = FindsWorkOf lost m status dev old_dev pick old_pick
+abbrev pub FindsUnless : Bool → List Bool → List DeviceState → ℕ → ℕ → ℕ → ℕ → ℕ → Type 0
+FindsUnless true lost devices status dev old_dev pick old_pick = RefusesBoth status dev old_dev pick old_pick (mig_status AlreadyStopped)
+FindsUnless false lost devices status dev old_dev pick old_pick = FindsWorkOf lost devices status dev old_dev pick old_pick
 
 abbrev pub FindsWork : KeptSeen → ℕ → ℕ → ℕ → ℕ → ℕ → Type 0
 FindsWork k status dev old_dev pick old_pick =
-    OfState (RefusesBoth status dev old_dev pick old_pick) (λ m. FindsWorkOf k.lost m status dev old_dev pick old_pick) (λ l. FindsUnless (is_closed l.phase) k.lost l.machine status dev old_dev pick old_pick) k.state
+    OfEachState (RefusesBoth status dev old_dev pick old_pick) (λ m. FindsWorkOf k.lost (state_of m).devices status dev old_dev pick old_pick) (λ l. FindsUnless (is_closed l.phase) k.lost (state_of l.machine).devices status dev old_dev pick old_pick)
+    (λ p. FindsWorkOf k.lost (parked_states p) status dev old_dev pick old_pick) (λ l. FindsUnless (is_closed l.phase) k.lost (parked_states l.parked) status dev old_dev pick old_pick) k.state
 
 abbrev pub FoundWork : Option KeptSeen → ℕ → ℕ → ℕ → ℕ → ℕ → Type 0
 FoundWork None status dev old_dev pick old_pick = RefusesBoth status dev old_dev pick old_pick no_machine

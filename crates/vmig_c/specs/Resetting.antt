@@ -1,17 +1,20 @@
 -- The guest's reboot, as a list of events: 0 is written into the Status of each device in order, and what the host put into it is dropped.
-use Rattle.std.specs.Prelude.{◌≡◌, ℕ, ◌+◌, Bool, true, false, List, [], ◌∷◌, ◌++◌, if◌then◌else◌, map, Option}
-use Rattle.machine.specs.Seen.{Seen, state_of}
+use Rattle.std.specs.Prelude.{◌≡◌, ℕ, ◌+◌, ◌≤◌, Bool, true, false, List, [], ◌∷◌, ◌++◌, if◌then◌else◌, length, map, Option, Some, None}
+use Rattle.guestmem.specs.declared.limits.TheConstants.{PAGES_MAX}
+use Rattle.machine.specs.Parked.{parked_states}
+use Rattle.machine.specs.Seen.{state_of}
 use Rattle.machine.specs.Shapes.{made_as}
+use Rattle.machine.specs.State.{DeviceState}
 use Rattle.machine.specs.declared.event.Event.{Event}
 use Rattle.machine.specs.declared.event.Event.TheVariants.{RegWrite, Drop}
 use Rattle.machine.specs.declared.shape.Shape.{Shape}
 use Rattle.machine.specs.declared.shape.Shape.TheVariants.{Net, Block, Console, Entropy}
-use Rattle.sender.specs.LiveState.{LiveSeen}
 use Rattle.sender.specs.declared.mig_error.MigError.TheVariants.{AlreadyStopped}
-use Rattle.vmig_c.specs.Kept.{KeptSeen, State, Still, Moving}
+use Rattle.sender.specs.declared.phase.Phase.{Phase}
+use Rattle.vmig_c.specs.Kept.{KeptSeen, LoanSeen, StillLent, MovingLent, State, Still, Moving, Arriving, Lent, parked_in}
 use Rattle.vmig_c.specs.Mirror.{is_closed}
-use Rattle.vmig_c.specs.OnHandle.{ByState, OnHandle}
-use Rattle.c_machine.specs.Status.{done}
+use Rattle.vmig_c.specs.OnHandle.{OnHandle, Unless}
+use Rattle.c_machine.specs.Status.{done, no_machine}
 use Rattle.vmig_c.specs.SendStatus.{mig_status}
 use Rattle.vmig_c.specs.Told.{Tells}
 
@@ -42,20 +45,37 @@ resets_from dev [] = []
 resets_from dev (shape ∷ shapes) = reset_of dev shape ++ resets_from (dev + 1) shapes
 
 -- What the devices were made as.
-abbrev pub shapes_of : Seen → List Shape
-shapes_of m = map (λ d. made_as d.kind) (state_of m).devices
+abbrev pub made_in : List DeviceState → List Shape
+made_in devices = map (λ d. made_as d.kind) devices
 
-abbrev pub ResetsStill : Seen → ℕ → Seen → Type 0
-ResetsStill m status next = (status ≡ done) × AreDone (Still m) (resets_from 0 (shapes_of m)) (Still next)
+abbrev pub shapes_in : State → List Shape
+shapes_in (Still m) = made_in (state_of m).devices
+shapes_in (Moving l) = made_in (state_of l.machine).devices
+shapes_in (Arriving r) = []
+shapes_in (Lent x) = made_in (parked_states (parked_in x))
 
--- A machine that was stopped takes no event.
-abbrev pub ResetsLive : Bool → LiveSeen → ℕ → LiveSeen → Type 0
-ResetsLive true l status next = (status ≡ mig_status AlreadyStopped) × (next ≡ l)
-ResetsLive false l status next = (status ≡ done) × AreDone (Moving l) (resets_from 0 (shapes_of l.machine)) (Moving next)
+-- RAM that is lent has pages, as many as RAM may have.
+abbrev pub HasPages : State → Type 0
+HasPages (Lent x) = (1 ≤ length (parked_in x).versions) × (length (parked_in x).versions ≤ PAGES_MAX)
+HasPages _ = Unit {0}
+
+-- Why no device is reset: there is no machine, or it was stopped, and takes no event.
+abbrev pub stop_refusal : Phase → Option ℕ
+stop_refusal phase = if is_closed phase then Some (mig_status AlreadyStopped) else None
+
+abbrev pub loan_refusal : LoanSeen → Option ℕ
+loan_refusal (StillLent p) = None
+loan_refusal (MovingLent l) = stop_refusal l.phase
+
+abbrev pub reset_refusal : State → Option ℕ
+reset_refusal (Still m) = None
+reset_refusal (Moving l) = stop_refusal l.phase
+reset_refusal (Arriving r) = Some no_machine
+reset_refusal (Lent x) = loan_refusal x
 
 abbrev pub ResetsKept : State → ℕ → State → Type 0
-ResetsKept k status next = ByState (λ reason. status ≡ reason) (λ m after. ResetsStill m status after) (λ l after. ResetsLive (is_closed l.phase) l status after) k next
+ResetsKept k status next = Unless (reset_refusal k) (λ reason. (status ≡ reason) × (next ≡ k)) ((status ≡ done) × AreDone k (resets_from 0 (shapes_in k)) next)
 
--- The guest of the machine of a handle reboots.
+-- The guest of the machine of a handle reboots, also while its RAM is lent.
 abbrev pub Resets : Option KeptSeen → ℕ → Option KeptSeen → Type 0
 Resets k status after = OnHandle (λ reason. status ≡ reason) (λ old next. ResetsKept old.state status next) k after

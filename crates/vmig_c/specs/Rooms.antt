@@ -2,6 +2,7 @@
 use Rattle.std.specs.Prelude.{◌≡◌, ℕ, ◌-◌, length, Option, Some, None}
 use Rattle.console.specs.declared.host_bytes.TheConstants.{HOST_BYTES_MAX}
 use Rattle.net.specs.declared.limits.TheConstants.{INBOX_MAX}
+use Rattle.machine.specs.Parked.{parked_states}
 use Rattle.machine.specs.Refusal.{code_of}
 use Rattle.machine.specs.Seen.{state_of}
 use Rattle.machine.specs.State.{DeviceState}
@@ -9,7 +10,7 @@ use Rattle.machine.specs.declared.kind.Kind.{Kind}
 use Rattle.machine.specs.declared.kind.Kind.TheVariants.{Network, Block, Console, Entropy}
 use Rattle.machine.specs.declared.reply.Refusal.TheVariants.{WrongKind}
 use Rattle.vmig_c.specs.Kept.{KeptSeen, State}
-use Rattle.vmig_c.specs.OnHandle.{OfHandle, OfState, Refuses}
+use Rattle.vmig_c.specs.OnHandle.{OfEachState, OfHandle, Refuses}
 use Rattle.c_machine.specs.Status.{done, no_device}
 use Rattle.std.specs.Prelude.{slice_get}
 
@@ -28,10 +29,11 @@ abbrev pub IsRoomOf : Option DeviceState → ℕ → ℕ → ℕ → Type 0
 IsRoomOf None status room old = Refuses status room old no_device
 IsRoomOf (Some d) status room old = IsRoom (room_of d.kind) status room old
 
--- Also of a machine that was stopped.
+-- Also of a machine that was stopped, and of one whose RAM is lent.
 abbrev pub RoomsKept : State → ℕ → ℕ → ℕ → ℕ → Type 0
 RoomsKept k dev status room old =
-    OfState (Refuses status room old) (λ m. IsRoomOf (slice_get (state_of m).devices dev) status room old) (λ l. IsRoomOf (slice_get (state_of l.machine).devices dev) status room old) k
+    OfEachState (Refuses status room old) (λ m. IsRoomOf (slice_get (state_of m).devices dev) status room old) (λ l. IsRoomOf (slice_get (state_of l.machine).devices dev) status room old)
+    (λ p. IsRoomOf (slice_get (parked_states p) dev) status room old) (λ l. IsRoomOf (slice_get (parked_states l.parked) dev) status room old) k
 
 abbrev pub Rooms : Option KeptSeen → ℕ → ℕ → ℕ → ℕ → Type 0
 Rooms k dev status room old = OfHandle (Refuses status room old) (λ state. RoomsKept state dev status room old) k

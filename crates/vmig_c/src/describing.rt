@@ -5,7 +5,7 @@
 
 ghost use Rattle.std.specs.Prelude.{◌≡◌, ◌≤◌, length};
 ghost use Rattle.machine.specs.declared.machine.TheConstants.{DEVICES_MAX};
-ghost use Rattle.vmig_c.specs.Described.{IsDescribed, IsToldState, lost_bits, number_of, sent_as, told_arriving, told_coming, told_failed, told_head, told_lent, told_machine, told_still};
+ghost use Rattle.vmig_c.specs.Described.{IsDescribed, IsToldState, flags_of, lost_bits, number_of, sent_as, told_arriving, told_coming, told_failed, told_head, told_lent, told_machine, told_still};
 ghost use Rattle.vmig_c.specs.Kept.{admission_of, loan_of};
 
 use crate::admission::Admission;
@@ -13,9 +13,9 @@ use crate::kept::{Kept, by_state};
 use crate::loan::Loan;
 use crate::unmapping::image_count;
 use c_machine::status::SEND_FAILED;
-use c_machine::{Description, message_of};
+use c_machine::{Description, LOG, message_of};
 use guestmem::PAGE_SIZE;
-use machine::{DEVICES_MAX, Disk, Machine, Shape};
+use machine::{DEVICES_MAX, Disk, Machine, PageLog, Shape};
 use sender::Phase;
 
 const IS_ARRIVING: u32 = 1;
@@ -37,10 +37,11 @@ pub(crate) fn describe(kept: &Kept) -> Description
     let mut told = told(kept);
     told.images = image_count(&kept.held).min(u32::MAX as usize) as u32;
     told.lost = lost_bits(kept.lost());
+    told.flags = flags_of(&kept.output.written);
     told
 }
 
-/// As above, but for its images and the disks that were lost.
+/// As above, but for its images, the disks that were lost, and what was asked for.
 fn told(kept: &Kept) -> Description
     ensures { IsToldState kept.now kept.now.state result }
 {
@@ -177,6 +178,16 @@ fn lost_bits(lost: &[bool]) -> u32
         bits = 2 * bits + number_of(lost[at]);
     }
     bits
+}
+
+/// What was asked for when it was made, or let arrive.
+fn flags_of(written: &Option<PageLog>) -> u32
+    ensures { result ≡ flags_of written.now }
+{
+    match written {
+        Some(_) => LOG,
+        None => 0,
+    }
 }
 
 fn number_of(whole: bool) -> u32

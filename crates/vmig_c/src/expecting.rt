@@ -15,6 +15,7 @@ use crate::arrival::Arrival;
 use crate::creating::{filled, stand_in};
 use crate::handle::Handle;
 use crate::kept::{Held, Kept};
+use crate::logging::log_for;
 use c_machine::status::{DONE, IN_USE, NO_MEMORY};
 use c_machine::{
     Expected, arrival_refusal, give_back, is_none, mapped_disks, put_back, shapes_of, taken_ram,
@@ -45,6 +46,7 @@ pub(crate) fn arrive(alloc: Global, arrival: &mut Expected, machine: &mut Handle
 }
 
 /// An arrival in a box. What it names was checked before, so its only error is out of memory: then nothing is taken.
+#[tactic(auto, using(crate::proofs::PageLogs::first_fits))]
 pub(crate) fn awaited(alloc: Global, expected: &mut Expected) -> Result<Box<Kept>, NoMemory>
     requires { arrival_refusal_of expected.old ≡ None }
     ensures expected { IfOk result (λ k. IsArrivalOf expected.old k.value) }
@@ -57,17 +59,18 @@ pub(crate) fn awaited(alloc: Global, expected: &mut Expected) -> Result<Box<Kept
     let shapes = shapes_of(alloc, expected.shapes)?;
     let admission = Admission::Pending(limits(expected), shapes, Vec::new(alloc));
     let boxed = stand_in(alloc)?;
+    let log = log_for(alloc, expected.flags)?;
     let base = expected.base;
     if is_none(expected.images) {
         let ram = ram_from(alloc, &mut expected.ram)?;
         let arrival = Held::Arriving(Arrival::new(alloc, base, ram));
-        return Ok(filled(boxed, Kept::within(alloc, arrival, admission)));
+        return Ok(filled(boxed, Kept::within(alloc, arrival, admission, log)));
     }
     let disks = mapped_disks(alloc, expected.images)?;
     match ram_from(alloc, &mut expected.ram) {
         Ok(ram) => {
             let arrival = Held::Arriving(Arrival::over(alloc, base, disks, ram));
-            Ok(filled(boxed, Kept::within(alloc, arrival, admission)))
+            Ok(filled(boxed, Kept::within(alloc, arrival, admission, log)))
         }
         Err(_) => {
             give_back(disks, expected.images);

@@ -16,7 +16,8 @@ ghost use Rattle.vmig_c.specs.Kept.{admission_of, kept_of};
 use crate::admission::Admission;
 use crate::arrival::Arrival;
 use crate::loan::Loan;
-use machine::{DEVICES_MAX, Disk, Machine, MemDisk};
+use crate::logging::Output;
+use machine::{DEVICES_MAX, Disk, Machine, MemDisk, PageLog};
 use mapped_disk::MappedDisk;
 use sender::LiveWaiting;
 use std::alloc::Global;
@@ -51,22 +52,57 @@ pub enum Held {
     Arriving(Arrival),
 }
 
-/// The same for a machine over any disks; and what is done where one arrives.
+/// The same for a machine over any disks; and what is done where one arrives. The arm of most calls is the last here and below, since LLVM
+/// tests for it first then: it saves five instructions a step.
 macro_rules! on_disks {
     ($held:expr; $contents:ident => $call:expr, arriving($arrival:pat) => $arriving:expr $(,)?) => {
         match $held {
-            $crate::kept::Held::Own($contents) => $call,
-            $crate::kept::Held::Mapped($contents) => $call,
             $crate::kept::Held::Arriving($arrival) => $arriving,
+            $crate::kept::Held::Mapped($contents) => $call,
+            $crate::kept::Held::Own($contents) => $call,
         }
     };
 }
 
 /// What a call answers in each state: of a machine that is not being migrated, and of one that is, whatever its disks; of one whose RAM is
-/// lent, which is a status if nothing else is said; and where one arrives, which is none yet.
+/// lent, which is a status if nothing else is said, and has two answers for a call that needs no RAM; and where one arrives, which is none
+/// yet.
 macro_rules! by_state {
     ($held:expr; still($machine:pat) => $still:expr, moving($live:pat) => $moving:expr $(,)?) => {
         $crate::kept::by_state!($held; still($machine) => $still, moving($live) => $moving, lent(_) => c_machine::status::LENT)
+    };
+    (
+        $held:expr;
+        still($machine:pat) => $still:expr,
+        moving($live:pat) => $moving:expr,
+        still_lent($parked:pat) => $still_lent:expr,
+        moving_lent($live_parked:pat) => $moving_lent:expr $(,)?
+    ) => {
+        $crate::kept::by_state!($held;
+            still($machine) => $still,
+            moving($live) => $moving,
+            still_lent($parked) => $still_lent,
+            moving_lent($live_parked) => $moving_lent,
+            arriving(_) => c_machine::status::NO_MACHINE,
+        )
+    };
+    (
+        $held:expr;
+        still($machine:pat) => $still:expr,
+        moving($live:pat) => $moving:expr,
+        still_lent($parked:pat) => $still_lent:expr,
+        moving_lent($live_parked:pat) => $moving_lent:expr,
+        arriving($arrival:pat) => $arriving:expr $(,)?
+    ) => {
+        $crate::kept::by_state!($held;
+            still($machine) => $still,
+            moving($live) => $moving,
+            lent(loan) => match loan {
+                $crate::loan::Loan::Still($parked) => $still_lent,
+                $crate::loan::Loan::Moving($live_parked) => $moving_lent,
+            },
+            arriving($arrival) => $arriving,
+        )
     };
     ($held:expr; still($machine:pat) => $still:expr, moving($live:pat) => $moving:expr, lent($loan:pat) => $lent:expr $(,)?) => {
         $crate::kept::by_state!($held; still($machine) => $still, moving($live) => $moving, lent($loan) => $lent, arriving(_) => c_machine::status::NO_MACHINE)
@@ -80,9 +116,9 @@ macro_rules! by_state {
     ) => {
         $crate::kept::on_disks!($held;
             contents => match contents {
-                $crate::kept::Contents::Still($machine) => $still,
-                $crate::kept::Contents::Moving($live) => $moving,
                 $crate::kept::Contents::Lent($loan) => $lent,
+                $crate::kept::Contents::Moving($live) => $moving,
+                $crate::kept::Contents::Still($machine) => $still,
             },
             arriving($arrival) => $arriving,
         )
@@ -113,12 +149,12 @@ pub(crate) use on_disks;
 pub(crate) use turned;
 
 /// The contents of a handle. Contracts see which state they are in, whether the disks are the caller's memory, whether a stream is let in and
-/// how much of it was taken, and which disks were lost.
+/// how much of it was taken, which disks were lost, and which pages are to be handed out.
 #[derive(Drop)]
 pub struct Kept {
     pub(crate) held: Held,
-    // The bytes of the last message that a step sent: kept, so that the next one takes no memory.
-    pub(crate) sent: Vec<u8>,
+    // What steps give out.
+    pub(crate) output: Output,
     // The numbers of the pages that were named last by a bitmap: kept for the same reason.
     pub(crate) named: Vec<u32>,
     // Of what arrives: whether its stream is let in.
@@ -130,32 +166,42 @@ pub struct Kept {
 }
 
 impl Model for Kept {
-    ghost use Rattle.vmig_c.specs.Kept.{KeptSeen, admission_of, kept_with};
+    ghost use Rattle.vmig_c.specs.Kept.{FitsLog, KeptSeen, admission_of, kept_with};
 
     ghost Value = { KeptSeen };
 
-    ghost view = { λ k. kept_with k.held (admission_of k.admission) k.fed k.lost };
+    ghost view = { λ k. record (kept_with k.held (admission_of k.admission) k.fed k.lost) { written = k.output.written } };
+
+    ghost invariant = { λ k. FitsLog k.output.written };
 }
 
 impl Kept {
     ghost use Rattle.std.specs.Prelude.{◌≡◌, ◌≤◌, length, slice_set, true};
     ghost use Rattle.machine.specs.declared.machine.TheConstants.{DEVICES_MAX};
-    ghost use Rattle.vmig_c.specs.Kept.{is_lost, kept_with, none_lost};
+    ghost use Rattle.vmig_c.specs.Kept.{FitsLog, is_lost, kept_with, none_lost};
 
     /// Wraps a machine.
-    pub(crate) fn new(alloc: Global, held: Held) -> Kept
-        ensures { result ≡ kept_of held }
+    pub(crate) fn new(alloc: Global, held: Held, written: Option<PageLog>) -> Kept
+        requires { FitsLog written }
+        ensures { result ≡ record (kept_of held) { written = written } }
     {
-        Kept::within(alloc, held, Admission::Granted(0, Vec::new(alloc)))
+        let unasked = Admission::Granted(0, Vec::new(alloc));
+        Kept::within(alloc, held, unasked, written)
     }
 
     /// Wraps a machine that will arrive.
-    pub(crate) fn within(alloc: Global, held: Held, admission: Admission) -> Kept
-        ensures { result ≡ kept_with held (admission_of admission) 0 none_lost }
+    pub(crate) fn within(
+        alloc: Global,
+        held: Held,
+        admission: Admission,
+        written: Option<PageLog>,
+    ) -> Kept
+        requires { FitsLog written }
+        ensures { result ≡ record (kept_with held (admission_of admission) 0 none_lost) { written = written } }
     {
         Kept {
             held,
-            sent: Vec::new(alloc),
+            output: Output::new(alloc, written),
             named: Vec::new(alloc),
             admission,
             fed: 0,

@@ -3,9 +3,10 @@
 ghost use Rattle.vmig_c.specs.Durable.{FailedIsLost, FailedMirrors, FailedStaysPlain, RefusedFailsNothing};
 ghost use Rattle.vmig_c.specs.Mirror.{AppliedMirrors, PulledMirrors, PushedMirrors, UnseenMirrors};
 ghost use Rattle.c_machine.specs.Plain.{PlainStays, RefusedChangesNothing};
-ghost use Rattle.vmig_c.specs.Refused.{RefusedTellsNothing};
+ghost use Rattle.vmig_c.specs.Refused.{RefusedTellsNothing, RefusedWritesNothing};
 ghost use Rattle.vmig_c.specs.Stepped.{RefusedStepsNothing};
-ghost use Rattle.vmig_c.specs.Sent.{ArrivedIsSent, CallsStaySent, FailuresStaySent, FirstIsSent, LentComesBackSent, LentTakingsStaySent, StoppedIsWhole, TakingsStaySent};
+ghost use Rattle.vmig_c.specs.Turns.{RefusedTurnsNothing, TurnsStaySent};
+ghost use Rattle.vmig_c.specs.Sent.{ArrivedIsSent, CallsStaySent, FailuresStaySent, FirstIsSent, LentCallsStaySent, LentComesBackSent, LentTakingsStaySent, MarksStaySent, StoppedIsWhole, TakingsStaySent};
 
 /// A machine over disks in memory stays one.
 pub fn plain_stays()
@@ -22,10 +23,26 @@ pub fn refused_tells_nothing()
     ensures { RefusedTellsNothing }
 {}
 
-/// The same for steps, also of a device whose disk is lost, and no byte is sent.
+/// The same for writes of RAM, and no page is logged.
+pub fn refused_writes_nothing()
+    ensures { RefusedWritesNothing }
+{
+    machine::laws::refused_changes_nothing();
+}
+
+/// The same for steps, also of a device whose disk is lost: no byte is sent, and no page is logged.
 pub fn refused_steps_nothing()
     ensures { RefusedStepsNothing }
-{}
+{
+    machine::laws::refused_changes_nothing();
+}
+
+/// The same for turns of the devices.
+pub fn refused_turns_nothing()
+    ensures { RefusedTurnsNothing }
+{
+    machine::laws::refused_changes_nothing();
+}
 
 /// A failed sync that is refused, by a status from 1 to 63, changes nothing.
 pub fn refused_fails_nothing()
@@ -47,9 +64,15 @@ pub fn first_is_sent()
     ensures { FirstIsSent }
 {}
 
-/// Each call of a machine that is being migrated adds its answer to the history, whatever was taken before.
+/// Each call of a machine that is being migrated adds its answer to the history, whatever was taken before. A round is ended, and a stop
+/// made, once no page is still to be named.
 pub fn calls_stay_sent()
     ensures { CallsStaySent }
+{}
+
+/// A turn of the devices adds its steps, each with its answer.
+pub fn turns_stay_sent()
+    ensures { TurnsStaySent }
 {}
 
 /// A flush that fails in place of its step adds that step to the history, as one whose disk failed.
@@ -62,14 +85,24 @@ pub fn takings_stay_sent()
     ensures { TakingsStaySent }
 {}
 
-/// So does what is taken while RAM is lent.
+/// So it is of a call that is made while RAM is lent.
+pub fn lent_calls_stay_sent()
+    ensures { LentCallsStaySent }
+{}
+
+/// So it is of what is taken while RAM is lent.
 pub fn lent_takings_stay_sent()
     ensures { LentTakingsStaySent }
 {}
 
-/// RAM that is given back with each page that was written adds the writes of these pages to the history.
+/// RAM that is given back adds the writes of the pages that were written to the history. Those that it does not name are still to be named.
 pub fn lent_comes_back_sent()
     ensures { LentComesBackSent }
+{}
+
+/// A mark of pages adds writes of them with the bytes that lie there, and they are still to be named no longer.
+pub fn marks_stay_sent()
+    ensures { MarksStaySent }
 {}
 
 /// After a stop that was done, what was taken and what still waits are the stream of the machine.

@@ -32,7 +32,12 @@
 //!   bad sectors, which may hold anything (`specs/Unmapping`). That an image comes back to its address is not in the clause, since a
 //!   machine is not seen with addresses; the disk has no other memory to give.
 //! - `vmig_lend` lends RAM that lies in memory of the caller to it, and `vmig_give_back` takes it back with the pages that were written
-//!   (`specs/Lent`). Meanwhile the handle has all of the machine but its RAM (`loan`), and a call that needs RAM is refused.
+//!   (`specs/Lent`). Meanwhile the handle has all of the machine but its RAM (`loan`): a call that touches no byte of it is done, with the
+//!   clause that it has of any machine, whatever RAM holds meanwhile, and each other call is refused.
+//! - `vmig_mark` names pages later than RAM came back: each is taken for written whole, with the bytes that lie there (`specs/Late`). By which
+//!   pages a machine that is being migrated is behind its history the laws say; a round and a stop want none (`specs/Sent`).
+//! - Where its struct asks for a log, a step, a write of RAM and a push are told to it, each page that they wrote into and no other, and
+//!   `vmig_written` hands these out from the least on, each once (`specs/HandedOut`). No other call changes it.
 //! - The caller's part is C's: pointers and counts name memory as the header says.
 //!
 //! # Why it is so
@@ -51,6 +56,8 @@ ghost use Rattle.vmig_c.specs.Described.{Describes};
 ghost use Rattle.vmig_c.specs.Durable.{Failed};
 ghost use Rattle.vmig_c.specs.Expected.{Expects};
 ghost use Rattle.vmig_c.specs.Sectors.{SectorRead};
+ghost use Rattle.vmig_c.specs.HandedOut.{HandedOut};
+ghost use Rattle.vmig_c.specs.Late.{Marked};
 ghost use Rattle.vmig_c.specs.Lent.{GivesBack, Lends};
 ghost use Rattle.vmig_c.specs.Made.{Makes};
 ghost use Rattle.vmig_c.specs.Migrated.{Aborted, Begun, EndedRound, HasBeenStopped, Leaves, SentSome, Taken};
@@ -61,7 +68,8 @@ ghost use Rattle.vmig_c.specs.Resetting.{Resets};
 ghost use Rattle.vmig_c.specs.Rooms.{Rooms};
 ghost use Rattle.vmig_c.specs.Stepped.{Stepped};
 ghost use Rattle.vmig_c.specs.Unmapping.{Releases};
-ghost use Rattle.vmig_c.specs.Told.{Read, Told, ToldOr, ToldSo, lines_told};
+ghost use Rattle.vmig_c.specs.Turns.{Worked};
+ghost use Rattle.vmig_c.specs.Told.{Read, Told, ToldOr, ToldSo, Written, lines_told};
 ghost use Rattle.vmig_c.specs.Version.{version};
 ghost use Rattle.vmig_c.specs.declared.serving.TheConstants.{NO_BYTE};
 
@@ -71,12 +79,15 @@ mod arrival;
 mod arriving;
 mod creating;
 mod describing;
+mod devices;
 mod expecting;
 mod handle;
 mod kept;
+mod late;
 pub mod laws;
 mod lending;
 mod loan;
+mod logging;
 mod migrating;
 mod mirror;
 mod moving;
@@ -87,8 +98,10 @@ mod serving;
 mod status;
 mod stepping;
 mod syncing;
+mod turning;
 mod unmapping;
 mod working;
+mod written;
 
 use announcing::announced;
 use arriving::{feed, finish};
@@ -98,6 +111,7 @@ use creating::make;
 use describing::describe;
 use expecting::arrive;
 pub use handle::Handle;
+use late::mark;
 use lending::{give_back, lend};
 use mapped_disk::Image;
 pub use migrating::SendLeft;
@@ -114,8 +128,11 @@ use serving::{
 use std::alloc::Global;
 use stepping::step_kept;
 use syncing::lose_kept;
+pub use turning::Turn;
+use turning::work;
 use unmapping::{held_of, release, release_refusal};
 use working::next;
+use written::hand_out;
 
 /// Calls a function with what the handle holds, as its first argument, or after an allocator. A handle that holds nothing has no machine.
 macro_rules! on_kept {
@@ -302,7 +319,7 @@ pub extern "C" fn vmig_next(machine: &mut Handle, dev: &mut u8, pick: &mut u8) -
 /// A device does one piece of its work. What it sends goes to the front of the buffer; a step that may send more than the buffer holds is not
 /// done. Where its disk is lost, a flush fails, and the step that would end a write that the driver then takes for durable is idle.
 #[unsafe(no_mangle)]
-#[tactic(auto, using(crate::proofs::OnHandle::on_none, crate::proofs::OnHandle::on_some))]
+#[tactic(auto, using(crate::proofs::OnHandle::logged_none, crate::proofs::OnHandle::logged_some))]
 pub extern "C" fn vmig_step(
     machine: &mut Handle,
     dev: u8,
@@ -313,6 +330,17 @@ pub extern "C" fn vmig_step(
     ensures { Stepped machine.old.machine dev pick result len.new len.old buf.old buf.new machine.new.machine }
 {
     on_kept!(machine; step_kept(dev, pick, buf, len))
+}
+
+/// A turn of the devices: the steps that `vmig_next` names, one after another, as `vmig_step` makes them, until none has something to do, the
+/// turn has no step left, or C has to do something. Memory that is refused to the first step is told; to a later one it is told by the next
+/// call.
+#[unsafe(no_mangle)]
+#[tactic(auto, using(crate::proofs::OnHandle::logged_none, crate::proofs::OnHandle::logged_some))]
+pub extern "C" fn vmig_work(machine: &mut Handle, turn: &mut Turn, buf: &mut [u8]) -> u32
+    ensures { Worked machine.old.machine turn.old result buf.old buf.new turn.new machine.new.machine }
+{
+    on_kept!(machine; work(turn, buf))
 }
 
 /// The disk of a device could not be brought to its file, and is lost from now on. It takes no memory.
@@ -350,9 +378,9 @@ pub extern "C" fn vmig_ram_read(machine: &mut Handle, addr: u64, buf: &mut [u8])
 
 /// The guest writes RAM. It takes no memory.
 #[unsafe(no_mangle)]
-#[tactic(auto, using(crate::proofs::OnHandle::on_none, crate::proofs::OnHandle::on_some))]
+#[tactic(auto, using(crate::proofs::OnHandle::logged_none, crate::proofs::OnHandle::logged_some))]
 pub extern "C" fn vmig_ram_write(machine: &mut Handle, addr: u64, bytes: &[u8]) -> u32
-    ensures { ToldSo machine.old.machine (events.MemWrite addr bytes.now) result machine.new.machine }
+    ensures { Written machine.old.machine addr bytes.now result machine.new.machine }
 {
     on_kept!(machine; write_ram(addr, bytes))
 }
@@ -382,10 +410,29 @@ pub extern "C" fn vmig_give_back(
     on_kept!(machine; alloc, give_back(ram, written))
 }
 
+/// Names pages that were written while RAM was lent, and not named when it was given back. For a list of pages it takes no memory.
+#[unsafe(no_mangle)]
+#[tactic(auto, using(crate::proofs::OnHandle::on_none, crate::proofs::OnHandle::on_some))]
+pub extern "C" fn vmig_mark(alloc: Global, machine: &mut Handle, written: &Pages) -> u32
+    ensures { Marked machine.old.machine written.now result machine.new.machine }
+{
+    on_kept!(machine; alloc, mark(written))
+}
+
+/// Hands out the numbers of pages that steps and writes of the host wrote, ascending, as many as there is room for, and forgets these. It takes
+/// no memory.
+#[unsafe(no_mangle)]
+#[tactic(auto, using(crate::proofs::PageLogs::handed_none, crate::proofs::PageLogs::handed_some))]
+pub extern "C" fn vmig_written(machine: &mut Handle, pages: &mut [u32], count: &mut usize) -> u32
+    ensures { HandedOut machine.old.machine result pages.old pages.new count.new count.old machine.new.machine }
+{
+    on_kept!(machine; hand_out(pages, count))
+}
+
 /// Copies the pages that are named from the caller's RAM into the machine's, and notes their versions. For a list of pages it takes no
 /// memory.
 #[unsafe(no_mangle)]
-#[tactic(auto, using(crate::proofs::OnHandle::on_none, crate::proofs::OnHandle::on_some))]
+#[tactic(auto, using(crate::proofs::OnHandle::logged_none, crate::proofs::OnHandle::logged_some))]
 pub extern "C" fn vmig_push(
     alloc: Global,
     machine: &mut Handle,

@@ -1,8 +1,7 @@
 //! What is left of a machine whose RAM is lent to the caller.
 //!
-//! A lent machine answers what touches no RAM: its lines, its shape, and what waits to be taken. The lines stay as they were,
-//! since 0 would be read as 'no interrupt'. All else is refused by one status, also where the answer could be given, such as a
-//! sector.
+//! A lent machine answers what touches no RAM: registers, what the host puts in, its lines and its shape, the next step, what is left to be
+//! sent, and what waits to be taken. All else is refused by one status, also where the answer could be given, such as a sector.
 
 use c_machine::status::{DONE, NOT_SENDING};
 use machine::{Disk, Parked};

@@ -1,17 +1,18 @@
 //! The calls of a migration, applied to the contents of a handle.
 
 ghost use Rattle.std.specs.Prelude.{◌≡◌, ◌++◌, IfErr, IfOk, drop, length, min, take};
-ghost use Rattle.vmig_c.specs.Migrated.{AbortsKept, BeginsKept, EndsKept, HasBegun, HasEnded, HasStopped, HasTaken, IsAnswered, IsLeft, LeavesKept, SendsKept, SendsSome, SendsUpTo, StopsKept, TakesKept, send_refusal};
+ghost use Rattle.vmig_c.specs.Migrated.{AbortsKept, AreTold, BeginsKept, EndsKept, HasBegun, HasEnded, HasStopped, HasTaken, IsAnswered, IsLeft, IsLeftLent, LeavesKept, SendsKept, SendsSome, SendsUpTo, StopsKept, TakesKept, send_refusal};
 ghost use Rattle.vmig_c.specs.Kept.{are_mapped, held_state, state_in};
 
 use crate::arrival::Arrival;
 use crate::kept::{Contents, Held, Kept, Moving, by_state, turned};
+use crate::loan::MovingLent;
 use crate::status::mig_status;
 use c_machine::status::{
     DONE, LENT, NO_MEMORY, NOT_SENDING, ROUND_DONE, ROUND_OPEN, SEND_FAILED, STOPPED,
 };
 use machine::{Disk, Machine};
-use sender::{End, LiveWaiting, Phase, Stopped};
+use sender::{End, Left, LiveWaiting, Phase, Stopped};
 use std::alloc::Global;
 use std::mem;
 use wire::Waiting;
@@ -256,20 +257,36 @@ pub(crate) fn left(kept: &Kept, left: &mut SendLeft) -> u32
 {
     by_state!(&kept.held;
         still(_) => NOT_SENDING,
-        moving(live) => left_status(live, left),
+        moving(live) => tell_left(live, left),
+        still_lent(_) => NOT_SENDING,
+        moving_lent(live) => tell_left_lent(live, left),
     )
 }
 
-fn left_status<D: Disk>(live: &Moving<D>, left: &mut SendLeft) -> u32
+fn tell_left<D: Disk>(live: &Moving<D>, left: &mut SendLeft) -> u32
     ensures { IsLeft live.now result left.new }
 {
     let items = live.left();
+    left_status(items, live.most_by_stop(), left)
+}
+
+fn tell_left_lent<D: Disk>(live: &MovingLent<D>, left: &mut SendLeft) -> u32
+    ensures { IsLeftLent live.now result left.new }
+{
+    let items = live.left();
+    left_status(items, live.most_by_stop(), left)
+}
+
+/// The struct of these counts, and of the most bytes that a stop would write.
+fn left_status(items: Left, stop_bytes: u64, left: &mut SendLeft) -> u32
+    ensures { AreTold items stop_bytes result left.new }
+{
     *left = SendLeft {
         due_pages: items.due_pages,
         due_sectors: items.due_sectors,
         dirty_pages: items.dirty_pages,
         dirty_sectors: items.dirty_sectors,
-        stop_bytes: live.most_by_stop(),
+        stop_bytes,
         reserved: [0; 3],
     };
     DONE

@@ -14,12 +14,14 @@ ghost use Rattle.guestmem.specs.declared.limits.TheConstants.{PAGES_MAX};
 ghost use Rattle.vmig_c.specs.Mirror.{ArePushed, HasPulled, IsPushable, IsPushed, PullsKept, PushesKept, away_status, is_closed, is_away, is_noted, is_short, is_stopped, memory_in, push_refusal};
 ghost use Rattle.c_machine.specs.Status.{done};
 ghost use Rattle.vmig_c.specs.Kept as states;
+ghost use Rattle.vmig_c.specs.Kept.{FitsLog};
 
 use crate::kept::{Kept, Moving, by_state};
+use crate::logging::{live_written, written};
 use c_machine::Pages;
 use c_machine::status::{DONE, LENT, NO_MACHINE, NO_MEMORY, NOT_KNOWN, STOPPED, TOO_SMALL};
 use guestmem::{PAGE_SIZE, Ram};
-use machine::{Disk, Machine};
+use machine::{Disk, Machine, PageLog};
 use sender::Phase;
 use std::alloc::Global;
 use std::mem;
@@ -33,8 +35,8 @@ pub(crate) fn push(
     ram: &[u8],
     seen: &mut [u64],
 ) -> u32
-    ensures pushes { PushesKept kept.old.state pages.now ram.now result seen.old seen.new kept.new.state }
-    ensures kind { kept.new ≡ record kept.old { state = kept.new.state } }
+    ensures pushes { PushesKept kept.old.state kept.old.written pages.now ram.now result seen.old seen.new kept.new.state kept.new.written }
+    ensures kind { kept.new ≡ record kept.old { state = kept.new.state; written = kept.new.written } }
 {
     if let Some(status) = push_refusal(kept, pages, ram.len(), seen.len()) {
         return status;
@@ -55,13 +57,14 @@ pub(crate) fn push(
 /// Copies the pages with these numbers.
 fn push_listed(kept: &mut Kept, pages: &[u32], ram: &[u8], seen: &mut [u64]) -> u32
     requires { IsPushable kept.old.state pages.now (length ram.now) (length seen.old) }
-    ensures pushed { ArePushed kept.old.state pages.now ram.now seen.old seen.new kept.new.state }
+    ensures pushed { ArePushed kept.old.state kept.old.written pages.now ram.now seen.old seen.new kept.new.state kept.new.written }
     ensures done { result ≡ done }
-    ensures kind { kept.new ≡ record kept.old { state = kept.new.state } }
+    ensures kind { kept.new ≡ record kept.old { state = kept.new.state; written = kept.new.written } }
 {
-    by_state!(&mut kept.held;
-        still(machine) => push_still(machine, pages, ram, seen),
-        moving(live) => push_moving(live, pages, ram, seen),
+    let Kept { held, output, .. } = kept;
+    by_state!(held;
+        still(machine) => push_still(machine, pages, ram, seen, &mut output.written),
+        moving(live) => push_moving(live, pages, ram, seen, &mut output.written),
     )
 }
 
@@ -86,7 +89,7 @@ fn push_refusal(kept: &Kept, pages: &Pages, bytes: usize, entries: usize) -> Opt
 }
 
 /// How many pages the RAM of the machine has; 0 where it is away.
-fn pages_in(kept: &Kept) -> usize
+pub(crate) fn pages_in(kept: &Kept) -> usize
     ensures count { result ≡ length (memory_in kept.now.state).versions }
     ensures few { result ≤ PAGES_MAX }
 {
@@ -97,7 +100,7 @@ fn pages_in(kept: &Kept) -> usize
 }
 
 /// Whether the machine is one whose send was stopped.
-fn is_stopped(kept: &Kept) -> bool
+pub(crate) fn is_stopped(kept: &Kept) -> bool
     ensures { result ≡ is_stopped kept.now.state }
 {
     by_state!(&kept.held;
@@ -122,7 +125,7 @@ fn is_short(memory: &Ram, bytes: usize, entries: usize) -> bool
     (bytes as u64) < memory.len() || (entries as u64) < page_count(memory)
 }
 
-fn page_count(memory: &Ram) -> u64
+pub(crate) fn page_count(memory: &Ram) -> u64
     ensures count { result ≡ length memory.now.versions }
     ensures sound { IsMemory memory.now }
 {
@@ -131,7 +134,7 @@ fn page_count(memory: &Ram) -> u64
 }
 
 /// The RAM of the machine, or the status that says why there is none here.
-fn ram_of(kept: &Kept) -> Result<&Ram, u32>
+pub(crate) fn ram_of(kept: &Kept) -> Result<&Ram, u32>
     ensures here { IfOk result (λ ram. (is_away kept.now.state ≡ false) × (ram.now ≡ memory_in kept.now.state)) }
     ensures away { IfErr result (λ status. (is_away kept.now.state ≡ true) × (status ≡ away_status kept.now.state)) }
 {
@@ -144,60 +147,94 @@ fn ram_of(kept: &Kept) -> Result<&Ram, u32>
 }
 
 /// Pushes pages into a machine that is not being migrated. It takes no memory.
-fn push_still<D: Disk>(machine: &mut Machine<D>, pages: &[u32], ram: &[u8], seen: &mut [u64]) -> u32
-    requires { IsPushable (states.Still machine.old) pages.now (length ram.now) (length seen.old) }
-    ensures pushed { ArePushed (states.Still machine.old) pages.now ram.now seen.old seen.new (states.Still machine.new) }
+fn push_still<D: Disk>(
+    machine: &mut Machine<D>,
+    pages: &[u32],
+    ram: &[u8],
+    seen: &mut [u64],
+    log: &mut Option<PageLog>,
+) -> u32
+    requires fits { FitsLog log.old }
+    requires pushable { IsPushable (states.Still machine.old) pages.now (length ram.now) (length seen.old) }
+    ensures pushed { ArePushed (states.Still machine.old) log.old pages.now ram.now seen.old seen.new (states.Still machine.new) log.new }
     ensures done { result ≡ done }
+    ensures fits { FitsLog log.new }
 {
     for n in pages {
-        push_page(machine, *n, ram, seen);
+        push_page(machine, *n, ram, seen, log);
     }
     DONE
 }
 
-fn push_page<D: Disk>(machine: &mut Machine<D>, n: u32, ram: &[u8], seen: &mut [u64])
+#[tactic(auto, using(crate::proofs::PageLogs::may_all))]
+fn push_page<D: Disk>(
+    machine: &mut Machine<D>,
+    n: u32,
+    ram: &[u8],
+    seen: &mut [u64],
+    log: &mut Option<PageLog>,
+)
+    requires fits { FitsLog log.old }
     requires page { n < length machine.old.memory.versions }
     requires bytes { length machine.old.memory.bytes ≤ length ram.now }
     requires entries { length machine.old.memory.versions ≤ length seen.old }
-    ensures pushed { IsPushed (states.Still machine.old) n ram.now seen.old seen.new (states.Still machine.new) }
+    ensures pushed { IsPushed (states.Still machine.old) log.old n ram.now seen.old seen.new (states.Still machine.new) log.new }
     ensures bytes { length machine.new.memory.bytes ≡ length machine.old.memory.bytes }
     ensures versions { length machine.new.memory.versions ≡ length machine.old.memory.versions }
+    ensures fits { FitsLog log.new }
 {
     let _shapes = machine.shapes();
     machine.ram().recall();
     let at = PAGE_SIZE * n as usize;
     let base = machine.base();
-    let _done = machine.write_ram(base + at as u64, &ram[at..at + PAGE_SIZE]);
+    let _done = written(machine, base + at as u64, &ram[at..at + PAGE_SIZE], log);
     seen[n as usize] = machine.ram().version(n as u64);
 }
 
 /// As `push_still`, for a machine that is being migrated.
-fn push_moving<D: Disk>(live: &mut Moving<D>, pages: &[u32], ram: &[u8], seen: &mut [u64]) -> u32
-    requires { IsPushable (states.Moving live.old) pages.now (length ram.now) (length seen.old) }
-    ensures pushed { ArePushed (states.Moving live.old) pages.now ram.now seen.old seen.new (states.Moving live.new) }
+fn push_moving<D: Disk>(
+    live: &mut Moving<D>,
+    pages: &[u32],
+    ram: &[u8],
+    seen: &mut [u64],
+    log: &mut Option<PageLog>,
+) -> u32
+    requires fits { FitsLog log.old }
+    requires pushable { IsPushable (states.Moving live.old) pages.now (length ram.now) (length seen.old) }
+    ensures pushed { ArePushed (states.Moving live.old) log.old pages.now ram.now seen.old seen.new (states.Moving live.new) log.new }
     ensures done { result ≡ done }
+    ensures fits { FitsLog log.new }
 {
     for n in pages {
-        push_live_page(live, *n, ram, seen);
+        push_live_page(live, *n, ram, seen, log);
     }
     DONE
 }
 
-fn push_live_page<D: Disk>(live: &mut Moving<D>, n: u32, ram: &[u8], seen: &mut [u64])
+#[tactic(auto, using(crate::proofs::PageLogs::may_all))]
+fn push_live_page<D: Disk>(
+    live: &mut Moving<D>,
+    n: u32,
+    ram: &[u8],
+    seen: &mut [u64],
+    log: &mut Option<PageLog>,
+)
+    requires fits { FitsLog log.old }
     requires page { n < length live.old.machine.memory.versions }
     requires bytes { length live.old.machine.memory.bytes ≤ length ram.now }
     requires entries { length live.old.machine.memory.versions ≤ length seen.old }
     requires going { is_closed live.old.phase ≡ false }
-    ensures pushed { IsPushed (states.Moving live.old) n ram.now seen.old seen.new (states.Moving live.new) }
+    ensures pushed { IsPushed (states.Moving live.old) log.old n ram.now seen.old seen.new (states.Moving live.new) log.new }
     ensures bytes { length live.new.machine.memory.bytes ≡ length live.old.machine.memory.bytes }
     ensures versions { length live.new.machine.memory.versions ≡ length live.old.machine.memory.versions }
     ensures going { is_closed live.new.phase ≡ false }
+    ensures fits { FitsLog log.new }
 {
     live.recall();
     live.machine().ram().recall();
     let at = PAGE_SIZE * n as usize;
     let base = live.machine().base();
-    let _done = live.write_ram(base + at as u64, &ram[at..at + PAGE_SIZE]);
+    let _done = live_written(live, base + at as u64, &ram[at..at + PAGE_SIZE], log);
     seen[n as usize] = live.machine().ram().version(n as u64);
 }
 

@@ -3,84 +3,108 @@
 //! It is no event of its own: it is what each driver does when it resets its device, and what the host does that drops what it put in. So
 //! a machine that is being sent is served as by these calls, and nothing is said of a reset that is not said of them.
 
-ghost use Rattle.std.specs.Prelude.{◌≡◌, ◌<◌, Some, false, length, slice_get};
-ghost use Rattle.machine.specs.Seen.{state_of};
+ghost use Rattle.std.specs.Prelude.{◌≡◌, ◌<◌, ◌≤◌, None, Some, length, slice_get};
+ghost use Rattle.machine.specs.declared.machine.TheConstants.{DEVICES_MAX};
 ghost use Rattle.machine.specs.declared.shape.Shape.{Shape};
-ghost use Rattle.vmig_c.specs.Kept as states;
-ghost use Rattle.vmig_c.specs.Mirror.{is_closed};
-ghost use Rattle.vmig_c.specs.Resetting.{AreDone, ResetsKept, ResetsLive, ResetsStill, has_input, reset_of, shapes_of};
+ghost use Rattle.vmig_c.specs.Resetting.{AreDone, HasPages, ResetsKept, has_input, reset_of, reset_refusal, shapes_in, stop_refusal};
 
-use crate::kept::{Kept, Moving, by_state};
+use crate::kept::{Kept, by_state};
 use crate::mirror::has_stopped;
-use c_machine::status::{DONE, STOPPED};
-use machine::{Disk, Machine, Shape};
+use crate::serving::{drop_input, written};
+use c_machine::status::{DONE, NO_MACHINE, STOPPED};
+use machine::Shape;
+use sender::Phase;
 
 /// The offset of the register Status (VIRTIO 1.2, 4.2.2).
 const STATUS: u32 = 0x070;
 
 /// Resets each device in order, and drops what was put in.
-#[tactic(auto, using(crate::proofs::OnHandle::by_still, crate::proofs::OnHandle::by_moving))]
+#[tactic(auto, using(crate::proofs::Resets::refused, crate::proofs::Resets::was_reset))]
 pub(crate) fn reset(kept: &mut Kept) -> u32
     ensures resets { ResetsKept kept.old.state result kept.new.state }
     ensures kind { kept.new ≡ record kept.old { state = kept.new.state } }
 {
-    by_state!(&mut kept.held;
-        still(machine) => reset_still(machine),
-        moving(live) => reset_moving(live),
+    if let Some(status) = reset_refusal(kept) {
+        return status;
+    }
+    for dev in 0..device_count(kept) {
+        reset_device(kept, dev as u8);
+    }
+    DONE
+}
+
+/// Why no device is reset, if none is.
+fn reset_refusal(kept: &Kept) -> Option<u32>
+    ensures { result ≡ reset_refusal kept.now.state }
+{
+    by_state!(&kept.held;
+        still(_) => None,
+        moving(live) => stop_refusal(live.phase()),
+        still_lent(_) => None,
+        moving_lent(live) => stop_refusal(live.phase()),
+        arriving(_) => Some(NO_MACHINE),
     )
 }
 
-#[tactic(auto, using(crate::proofs::Resets::goes_on, crate::proofs::Resets::all_done, crate::proofs::Resets::in_range))]
-fn reset_still<D: Disk>(machine: &mut Machine<D>) -> u32
-    ensures { ResetsStill machine.old result machine.new }
+fn stop_refusal(phase: Phase) -> Option<u32>
+    ensures { result ≡ stop_refusal phase }
 {
-    for dev in 0..machine.shapes().len() {
-        reset_device(machine, dev as u8);
+    if has_stopped(phase) {
+        return Some(STOPPED);
     }
-    DONE
+    None
 }
 
-#[tactic(auto, using(crate::proofs::Resets::still_with, crate::proofs::Resets::still_without))]
-fn reset_device<D: Disk>(machine: &mut Machine<D>, dev: u8)
-    requires { dev < length (state_of machine.old).devices }
-    ensures done { (shape : Shape) → slice_get (shapes_of machine.old) dev ≡ Some shape → AreDone (states.Still machine.old) (reset_of dev shape) (states.Still machine.new) }
-    ensures shapes { shapes_of machine.new ≡ shapes_of machine.old }
+/// How many devices the machine has.
+fn device_count(kept: &Kept) -> usize
+    ensures count { result ≡ length (shapes_in kept.now.state) }
+    ensures few { result ≤ DEVICES_MAX }
+    ensures pages { HasPages kept.now.state }
 {
-    let shape = machine.state(dev).shape();
-    let _done = machine.write_register(dev, STATUS, 4, 0);
+    by_state!(&kept.held;
+        still(machine) => machine.shapes().len(),
+        moving(live) => live.machine().shapes().len(),
+        still_lent(parked) => {
+            parked.recall();
+            parked.shapes().len()
+        },
+        moving_lent(live) => {
+            live.parked().recall();
+            live.parked().shapes().len()
+        },
+        arriving(_) => 0,
+    )
+}
+
+/// What a device was made as.
+#[tactic(auto, using(crate::proofs::Resets::shape_still, crate::proofs::Resets::shape_moving, crate::proofs::Resets::shape_still_lent, crate::proofs::Resets::shape_moving_lent))]
+fn shape_of(kept: &Kept, dev: u8) -> Shape
+    requires { dev < length (shapes_in kept.now.state) }
+    ensures { slice_get (shapes_in kept.now.state) dev ≡ Some result }
+{
+    by_state!(&kept.held;
+        still(machine) => machine.state(dev).shape(),
+        moving(live) => live.machine().state(dev).shape(),
+        still_lent(parked) => parked.state(dev).shape(),
+        moving_lent(live) => live.parked().state(dev).shape(),
+        arriving(_) => unreachable!(),
+    )
+}
+
+fn reset_device(kept: &mut Kept, dev: u8)
+    requires there { dev < length (shapes_in kept.old.state) }
+    requires going { reset_refusal kept.old.state ≡ None }
+    requires pages { HasPages kept.old.state }
+    ensures done { (shape : Shape) → slice_get (shapes_in kept.old.state) dev ≡ Some shape → AreDone kept.old.state (reset_of dev shape) kept.new.state }
+    ensures shapes { shapes_in kept.new.state ≡ shapes_in kept.old.state }
+    ensures going { reset_refusal kept.new.state ≡ None }
+    ensures pages { HasPages kept.new.state }
+    ensures kind { kept.new ≡ record kept.old { state = kept.new.state } }
+{
+    let shape = shape_of(kept, dev);
+    let _wrote = written(kept, dev, STATUS, 4, 0, &mut 0);
     if has_input(shape) {
-        let _done = machine.drop_input(dev);
-    }
-}
-
-/// As `reset_still`, for a machine that is being migrated. One that was stopped takes no call.
-#[tactic(auto, using(crate::proofs::Resets::goes_on, crate::proofs::Resets::all_done, crate::proofs::Resets::in_range))]
-fn reset_moving<D: Disk>(live: &mut Moving<D>) -> u32
-    ensures { ResetsLive (is_closed live.old.phase) live.old result live.new }
-{
-    if has_stopped(live.phase()) {
-        return STOPPED;
-    }
-    for dev in 0..live.machine().shapes().len() {
-        reset_live_device(live, dev as u8);
-    }
-    DONE
-}
-
-#[tactic(auto, using(crate::proofs::Resets::served, crate::proofs::Resets::moving_with, crate::proofs::Resets::moving_without, crate::proofs::Resets::live_shapes))]
-fn reset_live_device<D: Disk>(live: &mut Moving<D>, dev: u8)
-    requires there { dev < length (state_of live.old.machine).devices }
-    requires going { is_closed live.old.phase ≡ false }
-    ensures done { (shape : Shape) → slice_get (shapes_of live.old.machine) dev ≡ Some shape → AreDone (states.Moving live.old) (reset_of dev shape) (states.Moving live.new) }
-    ensures shapes { shapes_of live.new.machine ≡ shapes_of live.old.machine }
-    ensures going { is_closed live.new.phase ≡ false }
-{
-    let shape = live.machine().state(dev).shape();
-    live.recall();
-    let _done = live.write_register(dev, STATUS, 4, 0);
-    if has_input(shape) {
-        live.recall();
-        let _done = live.drop_input(dev);
+        let _dropped = drop_input(kept, dev);
     }
 }
 

@@ -1,13 +1,13 @@
 //! How much a device still takes of what the host puts in.
 
 ghost use Rattle.std.specs.Prelude.{◌≡◌, slice_get};
-ghost use Rattle.machine.specs.Seen.{state_of};
 ghost use Rattle.vmig_c.specs.Rooms.{IsRoomOf, RoomsKept, room_of};
 
+use crate::devices::Devices;
 use crate::kept::{Kept, by_state};
 use c_machine::status::{DONE, NO_DEVICE, WRONG_KIND};
 use console::HOST_BYTES_MAX;
-use machine::{Disk, Kind, Machine};
+use machine::Kind;
 use net::INBOX_MAX;
 
 /// How many bytes an input would keep; of a network device, how many frames.
@@ -17,16 +17,18 @@ pub(crate) fn room(kept: &Kept, dev: u8, room: &mut usize) -> u32
     by_state!(&kept.held;
         still(machine) => room_status(machine, dev, room),
         moving(live) => room_status(live.machine(), dev, room),
+        still_lent(parked) => room_status(parked, dev, room),
+        moving_lent(live) => room_status(live.parked(), dev, room),
     )
 }
 
-fn room_status<D: Disk>(machine: &Machine<D>, dev: u8, room: &mut usize) -> u32
-    ensures { IsRoomOf (slice_get (state_of machine.now).devices dev) result room.new room.old }
+fn room_status<M: Devices>(machine: &M, dev: u8, room: &mut usize) -> u32
+    ensures { IsRoomOf (slice_get (M.states machine.now) dev) result room.new room.old }
 {
-    if dev as usize >= machine.shapes().len() {
+    let Some(device) = machine.device(dev) else {
         return NO_DEVICE;
-    }
-    match room_of(machine.state(dev).kind()) {
+    };
+    match room_of(device.kind()) {
         Some(count) => {
             *room = count;
             DONE

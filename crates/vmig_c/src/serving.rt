@@ -1,19 +1,25 @@
 //! Events, applied to the contents of a handle. Bytes are taken from the caller's slice, without a copy before.
+//!
+//! Those that touch no byte of RAM are applied while it is lent too: a host serves the registers of a guest that goes on running.
 
 ghost use Rattle.std.specs.Prelude.{◌≡◌};
 ghost use Rattle.machine.specs.declared.event.Event.TheVariants as events;
-ghost use Rattle.vmig_c.specs.Told.{ReadsKept, Tells, TellsOr, TellsSo, lines_in};
+ghost use Rattle.vmig_c.specs.Kept.{FitsLog};
+ghost use Rattle.vmig_c.specs.Told.{IsServedWrite, IsWritten, ReadsKept, Tells, TellsOr, TellsSo, WritesKept, lines_in};
 ghost use Rattle.vmig_c.specs.declared.serving.TheConstants.{NO_BYTE};
 
-use crate::kept::{Kept, by_state};
+use crate::kept::{Kept, Moving, by_state};
+use crate::logging;
+use crate::logging::live_written;
 use crate::stepping::reply_status;
 use c_machine::status::{DONE, answer_status, done_status, written_status};
+use machine::{Disk, Machine, PageLog};
 
 /// The number of no byte.
 const NO_BYTE: u32 = 256;
 
 /// The driver reads a register.
-#[tactic(auto, using(crate::proofs::OnHandle::by_still, crate::proofs::OnHandle::by_moving, crate::proofs::ByKept::told, crate::proofs::ByKept::served, crate::proofs::ByKept::few_told))]
+#[tactic(auto, using(crate::proofs::OnHandle::each_still, crate::proofs::OnHandle::each_moving, crate::proofs::OnHandle::each_still_lent, crate::proofs::OnHandle::each_moving_lent, crate::proofs::ByKept::told, crate::proofs::ByKept::served, crate::proofs::ByKept::few_told, crate::proofs::ByParked::told, crate::proofs::ByParked::served, crate::proofs::ByParked::few_told))]
 pub(crate) fn read_register(kept: &mut Kept, dev: u8, off: u32, width: u8, value: &mut u32) -> u32
     ensures told { Tells kept.old.state (events.RegRead dev off width) result value.new value.old kept.new.state }
     ensures kind { kept.new ≡ record kept.old { state = kept.new.state } }
@@ -23,7 +29,12 @@ pub(crate) fn read_register(kept: &mut Kept, dev: u8, off: u32, width: u8, value
         moving(live) => {
             live.recall();
             reply_status(live.read_register(dev, off, width), value)
-        }
+        },
+        still_lent(parked) => answer_status(parked.read_register(dev, off, width), value),
+        moving_lent(live) => {
+            live.parked().recall();
+            reply_status(live.read_register(dev, off, width), value)
+        },
     )
 }
 
@@ -47,8 +58,16 @@ pub(crate) fn write_register(
     status
 }
 
-#[tactic(auto, using(crate::proofs::OnHandle::by_still, crate::proofs::OnHandle::by_moving, crate::proofs::ByKept::told, crate::proofs::ByKept::served, crate::proofs::ByKept::few_told))]
-fn written(kept: &mut Kept, dev: u8, off: u32, width: u8, value: u32, out: &mut u32) -> u32
+/// As above; `out` becomes the byte, and stays where none comes out.
+#[tactic(auto, using(crate::proofs::OnHandle::each_still, crate::proofs::OnHandle::each_moving, crate::proofs::OnHandle::each_still_lent, crate::proofs::OnHandle::each_moving_lent, crate::proofs::ByKept::told, crate::proofs::ByKept::served, crate::proofs::ByKept::few_told, crate::proofs::ByParked::told, crate::proofs::ByParked::served, crate::proofs::ByParked::few_told))]
+pub(crate) fn written(
+    kept: &mut Kept,
+    dev: u8,
+    off: u32,
+    width: u8,
+    value: u32,
+    out: &mut u32,
+) -> u32
     ensures told { Tells kept.old.state (events.RegWrite dev off width value) result out.new out.old kept.new.state }
     ensures kind { kept.new ≡ record kept.old { state = kept.new.state } }
 {
@@ -57,7 +76,12 @@ fn written(kept: &mut Kept, dev: u8, off: u32, width: u8, value: u32, out: &mut 
         moving(live) => {
             live.recall();
             reply_status(live.write_register(dev, off, width, value), out)
-        }
+        },
+        still_lent(parked) => written_status(parked.write_register(dev, off, width, value), out),
+        moving_lent(live) => {
+            live.parked().recall();
+            reply_status(live.write_register(dev, off, width, value), out)
+        },
     )
 }
 
@@ -84,18 +108,46 @@ pub(crate) fn lines(kept: &Kept) -> u16
 }
 
 /// The guest writes RAM.
-#[tactic(auto, using(crate::proofs::OnHandle::by_still, crate::proofs::OnHandle::by_moving, crate::proofs::ByKept::told_so, crate::proofs::ByKept::written, crate::proofs::ByKept::few_told))]
+#[tactic(auto, using(crate::proofs::OnHandle::by_still, crate::proofs::OnHandle::by_moving))]
 pub(crate) fn write_ram(kept: &mut Kept, addr: u64, bytes: &[u8]) -> u32
-    ensures told { TellsSo kept.old.state (events.MemWrite addr bytes.now) result kept.new.state }
-    ensures kind { kept.new ≡ record kept.old { state = kept.new.state } }
+    ensures written { WritesKept kept.old.state kept.old.written addr bytes.now result kept.new.state kept.new.written }
+    ensures kind { kept.new ≡ record kept.old { state = kept.new.state; written = kept.new.written } }
 {
-    by_state!(&mut kept.held;
-        still(machine) => done_status(machine.write_ram(addr, bytes)),
-        moving(live) => {
-            live.recall();
-            reply_status(live.write_ram(addr, bytes), &mut 0)
-        }
+    let Kept { held, output, .. } = kept;
+    by_state!(held;
+        still(machine) => write_still(machine, addr, bytes, &mut output.written),
+        moving(live) => write_moving(live, addr, bytes, &mut output.written),
     )
+}
+
+#[tactic(auto, using(crate::proofs::PageLogs::may_all, crate::proofs::ByKept::written_still))]
+fn write_still<D: Disk>(
+    machine: &mut Machine<D>,
+    addr: u64,
+    bytes: &[u8],
+    log: &mut Option<PageLog>,
+) -> u32
+    requires { FitsLog log.old }
+    ensures written { IsWritten machine.old log.old addr bytes.now result machine.new log.new }
+    ensures fits { FitsLog log.new }
+{
+    let _shapes = machine.shapes();
+    done_status(logging::written(machine, addr, bytes, log))
+}
+
+#[tactic(auto, using(crate::proofs::PageLogs::may_all, crate::proofs::ByKept::written, crate::proofs::ByKept::few_logged))]
+fn write_moving<D: Disk>(
+    live: &mut Moving<D>,
+    addr: u64,
+    bytes: &[u8],
+    log: &mut Option<PageLog>,
+) -> u32
+    requires { FitsLog log.old }
+    ensures written { IsServedWrite live.old log.old addr bytes.now result live.new log.new }
+    ensures fits { FitsLog log.new }
+{
+    live.recall();
+    reply_status(live_written(live, addr, bytes, log), &mut 0)
 }
 
 /// The host puts bytes in. `count` becomes how many of them were kept.
@@ -111,7 +163,7 @@ pub(crate) fn input(kept: &mut Kept, dev: u8, bytes: &[u8], count: &mut usize) -
     status
 }
 
-#[tactic(auto, using(crate::proofs::OnHandle::by_still, crate::proofs::OnHandle::by_moving, crate::proofs::ByKept::told, crate::proofs::ByKept::served, crate::proofs::ByKept::few_told))]
+#[tactic(auto, using(crate::proofs::OnHandle::each_still, crate::proofs::OnHandle::each_moving, crate::proofs::OnHandle::each_still_lent, crate::proofs::OnHandle::each_moving_lent, crate::proofs::ByKept::told, crate::proofs::ByKept::served, crate::proofs::ByKept::few_told, crate::proofs::ByParked::told, crate::proofs::ByParked::served, crate::proofs::ByParked::few_told))]
 fn put_in(kept: &mut Kept, dev: u8, bytes: &[u8], accepted: &mut u32) -> u32
     ensures told { Tells kept.old.state (events.Input dev bytes.now) result accepted.new accepted.old kept.new.state }
     ensures kind { kept.new ≡ record kept.old { state = kept.new.state } }
@@ -121,12 +173,17 @@ fn put_in(kept: &mut Kept, dev: u8, bytes: &[u8], accepted: &mut u32) -> u32
         moving(live) => {
             live.recall();
             reply_status(live.input(dev, bytes), accepted)
-        }
+        },
+        still_lent(parked) => answer_status(parked.input(dev, bytes), accepted),
+        moving_lent(live) => {
+            live.parked().recall();
+            reply_status(live.input(dev, bytes), accepted)
+        },
     )
 }
 
 /// The host sets the size of a console.
-#[tactic(auto, using(crate::proofs::OnHandle::by_still, crate::proofs::OnHandle::by_moving, crate::proofs::ByKept::told_so, crate::proofs::ByKept::resized, crate::proofs::ByKept::few_told))]
+#[tactic(auto, using(crate::proofs::OnHandle::each_still, crate::proofs::OnHandle::each_moving, crate::proofs::OnHandle::each_still_lent, crate::proofs::OnHandle::each_moving_lent, crate::proofs::ByKept::told_so, crate::proofs::ByKept::resized, crate::proofs::ByKept::few_told, crate::proofs::ByParked::told_so, crate::proofs::ByParked::resized, crate::proofs::ByParked::few_told))]
 pub(crate) fn resize(kept: &mut Kept, dev: u8, cols: u16, rows: u16) -> u32
     ensures told { TellsSo kept.old.state (events.Resize dev cols rows) result kept.new.state }
     ensures kind { kept.new ≡ record kept.old { state = kept.new.state } }
@@ -136,12 +193,17 @@ pub(crate) fn resize(kept: &mut Kept, dev: u8, cols: u16, rows: u16) -> u32
         moving(live) => {
             live.recall();
             reply_status(live.resize(dev, cols, rows), &mut 0)
-        }
+        },
+        still_lent(parked) => done_status(parked.resize(dev, cols, rows)),
+        moving_lent(live) => {
+            live.parked().recall();
+            reply_status(live.resize(dev, cols, rows), &mut 0)
+        },
     )
 }
 
 /// The host drops what it put in and the guest has not taken.
-#[tactic(auto, using(crate::proofs::OnHandle::by_still, crate::proofs::OnHandle::by_moving, crate::proofs::ByKept::told_so, crate::proofs::ByKept::dropped, crate::proofs::ByKept::few_told))]
+#[tactic(auto, using(crate::proofs::OnHandle::each_still, crate::proofs::OnHandle::each_moving, crate::proofs::OnHandle::each_still_lent, crate::proofs::OnHandle::each_moving_lent, crate::proofs::ByKept::told_so, crate::proofs::ByKept::dropped, crate::proofs::ByKept::few_told, crate::proofs::ByParked::told_so, crate::proofs::ByParked::dropped, crate::proofs::ByParked::few_told))]
 pub(crate) fn drop_input(kept: &mut Kept, dev: u8) -> u32
     ensures told { TellsSo kept.old.state (events.Drop dev) result kept.new.state }
     ensures kind { kept.new ≡ record kept.old { state = kept.new.state } }
@@ -151,6 +213,11 @@ pub(crate) fn drop_input(kept: &mut Kept, dev: u8) -> u32
         moving(live) => {
             live.recall();
             reply_status(live.drop_input(dev), &mut 0)
-        }
+        },
+        still_lent(parked) => done_status(parked.drop_input(dev)),
+        moving_lent(live) => {
+            live.parked().recall();
+            reply_status(live.drop_input(dev), &mut 0)
+        },
     )
 }

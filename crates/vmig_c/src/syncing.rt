@@ -10,16 +10,15 @@
 
 ghost use Rattle.std.specs.Prelude.{◌≡◌, None, slice_get};
 ghost use Rattle.machine.specs.Seen.{state_of};
-ghost use Rattle.vmig_c.specs.Durable.{FailsKept, FailsSync, FailsUnless, Loses, disk_refusal_of, disk_refusal_unless, kind_refusal, loss_refusal, owed_lost, owed_of, owed_unless};
+ghost use Rattle.vmig_c.specs.Durable.{FailsKept, FailsSync, FailsUnless, Loses, disk_refusal_unless, kind_refusal, loss_refusal, owed_lost, owed_of, owed_unless};
 ghost use Rattle.vmig_c.specs.Mirror.{is_closed};
 
+use crate::devices::Devices;
 use crate::kept::{Kept, Moving, by_state};
 use crate::mirror::has_stopped;
 use crate::status::mig_status;
 use blk::SyncOwed;
-use c_machine::status::{
-    DISK_FAILED, DONE, IDLE, LENT, NO_DEVICE, NO_MACHINE, STOPPED, WRONG_KIND,
-};
+use c_machine::status::{DISK_FAILED, DONE, IDLE, NO_DEVICE, NO_MACHINE, STOPPED, WRONG_KIND};
 use machine::{Disk, Kind, Machine};
 
 /// What a step of the machine of a handle owes and does not get, since the disk is lost.
@@ -73,30 +72,25 @@ fn loss_refusal(kept: &Kept, dev: u8) -> Option<u32>
     ensures { result ≡ loss_refusal kept.now.state dev }
 {
     by_state!(&kept.held;
-        still(machine) => disk_refusal(machine, dev),
-        moving(live) => live_disk_refusal(live, dev),
-        lent(_) => Some(LENT),
+        still(machine) => disk_refusal(false, machine, dev),
+        moving(live) => disk_refusal(has_stopped(live.phase()), live.machine(), dev),
+        still_lent(parked) => disk_refusal(false, parked, dev),
+        moving_lent(live) => disk_refusal(has_stopped(live.phase()), live.parked(), dev),
         arriving(_) => Some(NO_MACHINE),
     )
 }
 
-/// As below, for a machine that is being migrated.
-fn live_disk_refusal<D: Disk>(live: &Moving<D>, dev: u8) -> Option<u32>
-    ensures { result ≡ disk_refusal_unless (is_closed live.now.phase) (state_of live.now.machine) dev }
+/// As above, of a machine that was stopped or not.
+fn disk_refusal<M: Devices>(stopped: bool, machine: &M, dev: u8) -> Option<u32>
+    ensures { result ≡ disk_refusal_unless stopped (M.states machine.now) dev }
 {
-    if has_stopped(live.phase()) {
+    if stopped {
         return Some(STOPPED);
     }
-    disk_refusal(live.machine(), dev)
-}
-
-fn disk_refusal<D: Disk>(machine: &Machine<D>, dev: u8) -> Option<u32>
-    ensures { result ≡ disk_refusal_of (state_of machine.now) dev }
-{
-    if dev as usize >= machine.shapes().len() {
-        return Some(NO_DEVICE);
+    match machine.device(dev) {
+        Some(device) => kind_refusal(device.kind()),
+        None => Some(NO_DEVICE),
     }
-    kind_refusal(machine.state(dev).kind())
 }
 
 fn kind_refusal(kind: &Kind) -> Option<u32>

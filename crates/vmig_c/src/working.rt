@@ -6,15 +6,14 @@
 //! for durable is passed over.
 
 ghost use Rattle.std.specs.Prelude.{◌≡◌, false, slice_index_or};
-ghost use Rattle.machine.specs.Seen.{state_of};
-ghost use Rattle.vmig_c.specs.NextWork.{FindsUnless, FindsWork, FindsWorkOf, work_status};
-ghost use Rattle.vmig_c.specs.Mirror.{is_closed};
+ghost use Rattle.vmig_c.specs.NextWork.{FindsUnless, FindsWork, work_status};
 
-use crate::kept::{Kept, Moving, by_state};
+use crate::devices::Devices;
+use crate::kept::{Kept, by_state};
 use crate::mirror::has_stopped;
 use blk::SyncOwed;
 use c_machine::status::{IDLE, STOPPED, SYNC, WORK};
-use machine::{Disk, Machine, Work};
+use machine::Work;
 
 /// Finds the next step with something to do after the one that the numbers name, and makes them name it. It takes no memory.
 pub(crate) fn next(kept: &Kept, dev: &mut u8, pick: &mut u8) -> u32
@@ -22,30 +21,32 @@ pub(crate) fn next(kept: &Kept, dev: &mut u8, pick: &mut u8) -> u32
 {
     let lost = kept.lost();
     by_state!(&kept.held;
-        still(machine) => found_status(machine, lost, dev, pick),
-        moving(live) => live_found_status(live, lost, dev, pick),
+        still(machine) => found_status(false, machine, lost, dev, pick),
+        moving(live) => found_status(has_stopped(live.phase()), live.machine(), lost, dev, pick),
+        still_lent(parked) => found_status(false, parked, lost, dev, pick),
+        moving_lent(live) => found_status(has_stopped(live.phase()), live.parked(), lost, dev, pick),
     )
 }
 
-/// As above, for a machine that is being migrated. One that was stopped makes no steps.
-fn live_found_status<D: Disk>(live: &Moving<D>, lost: &[bool], dev: &mut u8, pick: &mut u8) -> u32
-    ensures { FindsUnless (is_closed live.now.phase) lost.now live.now.machine result dev.new dev.old pick.new pick.old }
+/// The status of the next step with something to do, and its numbers. Where there is none, they stay. A machine that was stopped makes no
+/// steps.
+fn found_status<M: Devices>(
+    stopped: bool,
+    machine: &M,
+    lost: &[bool],
+    dev: &mut u8,
+    pick: &mut u8,
+) -> u32
+    ensures { FindsUnless stopped lost.now (M.states machine.now) result dev.new dev.old pick.new pick.old }
 {
-    if has_stopped(live.phase()) {
+    if stopped {
         return STOPPED;
     }
-    found_status(live.machine(), lost, dev, pick)
-}
-
-/// The status of the next step with something to do, and its numbers. Where there is none, they stay.
-fn found_status<D: Disk>(machine: &Machine<D>, lost: &[bool], dev: &mut u8, pick: &mut u8) -> u32
-    ensures { FindsWorkOf lost.now machine.now result dev.new dev.old pick.new pick.old }
-{
     let last = Work {
         dev: *dev,
         pick: *pick,
     };
-    match machine.next_work_with_lost(last, lost) {
+    match machine.next_step(last, lost) {
         Some(work) => {
             *dev = work.dev;
             *pick = work.pick;
@@ -56,14 +57,17 @@ fn found_status<D: Disk>(machine: &Machine<D>, lost: &[bool], dev: &mut u8, pick
 }
 
 /// Whether the disk has to be durable before a step.
-fn work_status<D: Disk>(machine: &Machine<D>, lost: &[bool], work: Work) -> u32
-    ensures { result ≡ work_status lost.now (state_of machine.now).devices work }
+fn work_status<M: Devices>(machine: &M, lost: &[bool], work: Work) -> u32
+    ensures { result ≡ work_status lost.now (M.states machine.now) work }
 {
     let Work { dev, pick } = work;
-    if is_lost(lost, dev) || dev as usize >= machine.shapes().len() {
+    if is_lost(lost, dev) {
         return WORK;
     }
-    match machine.state(dev).must_sync(pick) {
+    let Some(device) = machine.device(dev) else {
+        return WORK;
+    };
+    match device.must_sync(pick) {
         SyncOwed::Nothing => WORK,
         SyncOwed::Flush | SyncOwed::EndOfWrite => SYNC,
     }

@@ -1,5 +1,5 @@
 -- A digest that takes bytes later than they were put.
-use Rattle.std.proofs.Common.{◌≡◌, ◌≤◌, ℕ, List, [], ◌++◌, ap, sym, ◌∙◌, append_assoc, append-nil, drop, length}
+use Rattle.std.proofs.Common.{◌≡◌, ◌≤◌, ℕ, List, [], ◌++◌, ap, sym, subst, ◌∙◌, append_assoc, append-nil, drop, length}
 use Rattle.std.proofs.lemmas.List.Folds.{drop_split}
 use Rattle.std.proofs.lemmas.List.{drop-append-le, drop_all}
 use Rattle.std.specs.Prelude.{slice_range}
@@ -8,7 +8,7 @@ use Rattle.sha2.specs.Sha256.{sha256}
 use Rattle.sha2.specs.declared.Sha256.{Sha256}
 use Rattle.wire.specs.Sinks.{Covers, Digested, Digests, Takes, lagging}
 
-abbrev up_to : Sha256 → List ℕ → ℕ → Digested
+abbrev pub up_to : Sha256 → List ℕ → ℕ → Digested
 up_to sum bytes seen = lagging sum (drop seen bytes)
 
 -- The digest took the bytes from one place to another.
@@ -44,3 +44,7 @@ pub all_digested : (a b : Sha256) (digest bytes last : List ℕ) (seen : ℕ) �
     → (put : List ℕ) → Covers (up_to a bytes seen) put → digest ≡ sha256 put
 unfolding Digests
 all_digested a b digest bytes last seen is took gives put c = gives (c.first ++ last) (took c.first c.holds) ∙ ap sha256 (ap (λ (x : List ℕ). c.first ++ x) is ∙ sym c.whole)
+
+-- What was put is digested further.
+pub then_none : (a b c : Digested) (x : List ℕ) → Takes a x b → Takes b [] c → Takes a x c
+then_none a b c x first second = λ before h. subst (Covers c) (append-nil (before ++ x)) (second (before ++ x) (first before h))

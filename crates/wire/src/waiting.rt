@@ -15,10 +15,14 @@ use sha2::{Digest, Sha256};
 use std::alloc::Global;
 use std::marker::Model;
 
+/// How many bytes may wait undigested.
+const UNDIGESTED_MAX: usize = 1 << 20;
+
 /// Bytes that wait until they are taken. Those already taken are still at the front of the vector. When more bytes come, the
 /// taken ones are removed if they are at least as many as those that wait. So no more bytes are ever moved than were taken.
 ///
-/// A put only copies. Bytes are digested as they are taken, and what still waits when the digest is asked for is digested then.
+/// A put only copies. Bytes are digested as they are taken, and what still waits when the digest is asked for is digested then. Where a
+/// reader takes nothing for long, a put digests the first bytes, so that no more than `UNDIGESTED_MAX` are left to a stop.
 #[derive(Drop)]
 pub struct Waiting {
     bytes: Vec<u8>,
@@ -80,6 +84,18 @@ impl Waiting {
         count
     }
 
+    /// Digests the first of the bytes, where more than `UNDIGESTED_MAX` would wait for it.
+    #[tactic(auto, using(crate::proofs::Lagging::caught_up))]
+    fn keep_up(&mut self)
+        ensures out { self.new.out ≡ self.old.out }
+        ensures digest { Takes self.old.sum [] self.new.sum }
+    {
+        let late = self.bytes.len().saturating_sub(UNDIGESTED_MAX);
+        let end = late.max(self.seen);
+        self.digest.update(&self.bytes[self.seen..end]);
+        self.seen = end;
+    }
+
     /// Removes the bytes that were taken, if they are at least as many as those that wait.
     fn let_go(&mut self)
         ensures { self.new ≡ self.old }
@@ -98,12 +114,15 @@ impl Sink for Waiting {
 
     ghost sum = { λ w. w.sum };
 
-    #[tactic(auto, using(crate::proofs::Lagging::came))]
+    #[tactic(auto, using(crate::proofs::Lagging::came, crate::proofs::Lagging::then_none))]
     fn put(&mut self, bytes: &[u8]) -> Result<(), SinkFault> {
         self.let_go();
         self.flushed = false;
         match self.bytes.extend_from_slice(bytes) {
-            Ok(()) => Ok(()),
+            Ok(()) => {
+                self.keep_up();
+                Ok(())
+            }
             Err(_) => {
                 self.failed = self.failed.wrapping_add(1);
                 Err(SinkFault)

@@ -259,17 +259,18 @@ static void show_random(unsigned count)
     printf("\n");
 }
 
-static void power_off(void)
+/* The disk is let go, and the board is powered off or begins anew. */
+static void leave(int how)
 {
     umount2("/disk", 0);
     my_syscall0(__NR_sync);
-    reboot(LINUX_REBOOT_CMD_POWER_OFF);
+    reboot(how);
 }
 
 static void help(void)
 {
     printf("ls FOLDER, cat FILE, sum FILE, dd FROM TO KIB, df, random BYTES, net ADDRESS, serve, talk ADDRESS COUNT,\n"
-           "work ROUNDS [ADDRESS], check ROUNDS, off; with & at the end a word is done beside the others\n");
+           "work ROUNDS [ADDRESS], check ROUNDS, reboot, off; with & at the end a word is done beside the others\n");
 }
 
 static void do_words(char **words)
@@ -287,7 +288,8 @@ static void do_words(char **words)
     else if (strcmp(word, "talk") == 0 && words[1]) printf("talk: %u came back\n", talk(words[1], number_of(words[2])));
     else if (strcmp(word, "work") == 0) work(number_of(words[1]), words[2]);
     else if (strcmp(word, "check") == 0) check(number_of(words[1]));
-    else if (strcmp(word, "off") == 0) power_off();
+    else if (strcmp(word, "reboot") == 0) leave((int)LINUX_REBOOT_CMD_RESTART);
+    else if (strcmp(word, "off") == 0) leave((int)LINUX_REBOOT_CMD_POWER_OFF);
     else help();
 }
 

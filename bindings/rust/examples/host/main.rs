@@ -14,7 +14,7 @@ use std::fs::File;
 use std::io::Write;
 use std::net::TcpStream;
 use std::path::Path;
-use vmig::{Device, Image, Machine, Memory, Next, Pages, Pick, SENT_MAX, Step};
+use vmig::{Device, Image, Machine, Memory, Next, Pages, SENT_MAX, Step, SyncError, Turn, TurnEnd};
 
 type Failure = Box<dyn std::error::Error>;
 
@@ -31,58 +31,66 @@ fn new_disk(path: &Path) -> Result<Image, Failure> {
 /// A guest, from its first instruction or from where it was when it came.
 struct Host {
     cpu: Cpu,
-    last: Pick,
+    turn: Turn,
     message: Vec<u8>,
     messages_sent: usize,
 }
 
 impl Host {
-    /// The guest runs until it comes out, and is served: whether it has ended. A loan of this RAM and a list of its pages are never refused.
+    /// The guest runs on RAM that is lent to it, and its registers are served meanwhile. RAM comes back where its devices have work, where the
+    /// guest waits, after some exits, and where it has ended: whether it has. A loan of this RAM and a list of its pages are never refused.
     fn run_a_while(&mut self, machine: Machine) -> Result<(Machine, bool), Failure> {
         let mut written = Vec::new();
         let mut lent = machine.lend()?;
-        let exit = self.cpu.run(lent.ram_mut(), &mut written);
-        let mut machine = lent.give_back(Pages::list(&written))?;
-        match exit {
-            Exit::Halt => return Ok((machine, true)),
-            Exit::Wait => {}
-            Exit::Read(address, register) => {
-                let (dev, offset) = window(address);
-                self.cpu.registers[register] = machine.read_register(dev, offset, 4).unwrap_or(0);
-            }
-            Exit::Write(address, value) => {
-                let (dev, offset) = window(address);
-                // A device that there is not takes no writes.
-                let byte = machine.write_register(dev, offset, 4, value).unwrap_or(None);
-                std::io::stdout().write_all(byte.as_slice())?;
-                self.serve(&mut machine)?;
+        let mut has_ended = false;
+        for _ in 0..1000 {
+            match self.cpu.run(lent.ram_mut(), &mut written) {
+                Exit::Halt => {
+                    has_ended = true;
+                    break;
+                }
+                Exit::Wait => break,
+                Exit::Read(address, register) => {
+                    let (dev, offset) = window(address);
+                    self.cpu.registers[register] = lent.read_register(dev, offset, 4).unwrap_or(0);
+                }
+                Exit::Write(address, value) => {
+                    let (dev, offset) = window(address);
+                    // A device that there is not takes no writes.
+                    let byte = lent.write_register(dev, offset, 4, value).unwrap_or(None);
+                    std::io::stdout().write_all(byte.as_slice())?;
+                    if lent.next(self.turn.last)? != Next::Idle {
+                        break;
+                    }
+                }
             }
         }
-        Ok((machine, false))
+        let mut machine = lent.give_back(Pages::list(&written))?;
+        self.serve(&mut machine)?;
+        Ok((machine, has_ended))
     }
 
     /// A turn of the devices. It has an end, as a guest can give them work without one.
     fn serve(&mut self, machine: &mut Machine) -> Result<(), Failure> {
-        for _ in 0..1000 {
-            self.last = match machine.next(self.last)? {
-                Next::Idle => return Ok(()),
-                Next::Work(pick) => pick,
-                Next::Sync(pick) => {
-                    if let Err(error) = machine.sync(pick.dev) {
-                        // The disk is lost, and the guest will be told. The step is not made.
-                        eprintln!("host: device {}: {error}", pick.dev);
-                        self.last = pick;
-                        continue;
-                    }
-                    pick
+        self.turn.left = 1000;
+        loop {
+            match machine.work(&mut self.turn, &mut self.message)? {
+                TurnEnd::Idle | TurnEnd::Unfinished => return Ok(()),
+                TurnEnd::Answer(_, Step::Sent(text)) => {
+                    std::io::stdout().write_all(text)?;
+                    self.messages_sent += 1;
                 }
-            };
-            if let Step::Sent(text) = machine.step(self.last, &mut self.message)? {
-                std::io::stdout().write_all(text)?;
-                self.messages_sent += 1;
+                TurnEnd::Answer(step, answer) => eprintln!("host: device {}: {answer:?}", step.dev),
+                TurnEnd::SyncOwed(step) => match machine.sync(step.dev) {
+                    Ok(()) => {
+                        let _ = machine.step(step, &mut self.message)?;
+                    }
+                    Err(SyncError::Refused(error)) => return Err(error.into()),
+                    // The disk is lost, and the guest will be told. The step is not made.
+                    Err(lost) => eprintln!("host: device {}: {lost}", step.dev),
+                },
             }
         }
-        Ok(())
     }
 
     /// Runs the guest to its end, or until it has moved: over this line, if there is one, as soon as it has written some sectors. Where the
@@ -137,5 +145,5 @@ fn main() -> Result<(), Failure> {
         [disk, "--listen", address] => moving::receive(disk.as_ref(), address).map(|(machine, cpu)| (machine, cpu, None))?,
         _ => return Err("usage: host DISK [--listen ADDRESS | --connect ADDRESS]".into()),
     };
-    Host { cpu, last: Pick::default(), message: vec![0; SENT_MAX], messages_sent: 0 }.run(machine, line)
+    Host { cpu, turn: Turn::default(), message: vec![0; SENT_MAX], messages_sent: 0 }.run(machine, line)
 }

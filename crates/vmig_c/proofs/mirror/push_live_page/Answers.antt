@@ -5,7 +5,6 @@ use Rattle.guestmem.specs.Page.{page_of}
 use Rattle.machine.specs.Parked.{page_address}
 use Rattle.machine.specs.Seen.{state_of}
 use Rattle.machine.specs.State.{base_of}
-use Rattle.machine.specs.declared.event.Event.TheVariants.{MemWrite}
 use Rattle.vmig_c.proofs.Mirroring.{IsServedPage, page_slice, pushed_live, served_page}
 use Rattle.vmig_c.proofs.PageAddresses.{address_fits}
 use Rattle.vmig_c.proofs.mirror.push_live_page.Goals as goal
@@ -24,10 +23,11 @@ pub returns-clause-pushed : goal.returns-clause-pushed
 returns-clause-pushed g c =
     let n = c.args.n in
     let l = c.args.live.now in
-    let next = c.write_ram-done.new.self in
+    let next = c.live_written-done.new.live in
     let sound : IsMemory l.machine.memory = rw (c.ram.ensures, c.machine.ensures) at c.recall-2.ensures.sound in
     let based : c.base-base.result ≡ base_of (state_of l.machine).devices = rw c.machine-2.ensures at c.base-base.ensures in
     let inside : 4096 * n + 4096 ≤ length l.machine.memory.bytes = omega (arith, sound.pages, c.requires.page) in
     let noted : c.version.result ≡ slice_index next.machine.memory.versions n = rw (c.ram-2.ensures, c.machine-3.ensures) at c.version.ensures in
-    let was : IsServedPage l (MemWrite (page_address l.machine n) (page_of c.args.ram.now n)) next = served_page l next n _ _ c.args.ram.now c.write_ram-done.result c.requires.going c.recall.ensures (ap (λ (b : ℕ). b + 4096 * n) based) c.write_ram-done.ensures.served (page_slice c.args.ram.now n) inside c.requires.bytes in
-    pushed_live l next n c.args.ram.now c.args.seen.now _ was (ap (slice_set c.args.seen.now n) noted)
+    let was : IsServedPage l c.args.log.now (page_address l.machine n) (page_of c.args.ram.now n) next c.live_written-done.new.log =
+    served_page l next _ _ n _ _ c.args.ram.now c.live_written-done.result c.requires.going c.recall.ensures (ap (λ (b : ℕ). b + 4096 * n) based) c.live_written-done.ensures.logged (page_slice c.args.ram.now n) inside c.requires.bytes in
+    pushed_live l next _ _ n c.args.ram.now c.args.seen.now _ was (ap (slice_set c.args.seen.now n) noted)

@@ -1,13 +1,14 @@
 use Rattle.std.proofs.Common.{◌≡◌, drop, false, length}
 use Rattle.vmig_c.specs.Mirror.{is_closed}
-use Rattle.vmig_c.specs.Kept.{Moving}
+use Rattle.vmig_c.specs.Kept.{FitsLog, Moving}
 use Rattle.vmig_c.proofs.Mirroring.{IsOnWay}
 use Rattle.vmig_c.proofs.mirror.push_moving.Given as goal
 
 abbrev pub invariant-loop-n : goal.invariant-loop-n
 invariant-loop-n g l = record {
-  way : IsOnWay (Moving l.fn.live) l.pages l.ram l.fn.seen (Moving l.live) (drop l.n-index l.pages) l.seen;
+  way : IsOnWay (Moving l.fn.live) l.fn.log l.pages l.ram l.fn.seen (Moving l.live) l.log (drop l.n-index l.pages) l.seen;
   bytes : length l.live.machine.memory.bytes ≡ length l.fn.live.machine.memory.bytes;
   versions : length l.live.machine.memory.versions ≡ length l.fn.live.machine.memory.versions;
   going : is_closed l.live.phase ≡ false;
+  fits : FitsLog l.log;
 }

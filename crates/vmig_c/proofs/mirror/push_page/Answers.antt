@@ -20,8 +20,8 @@ pub returns-clause-pushed : goal.returns-clause-pushed
 returns-clause-pushed g c =
     let n = c.args.n in
     let m = c.args.machine.now in
-    let next = c.write_ram-done.new.self in
+    let next = c.written-done.new.machine in
     let sound : IsMemory m.memory = rw c.ram.ensures at c.recall.ensures.sound in
     let inside : 4096 * n + 4096 ≤ length m.memory.bytes = omega (arith, sound.pages, c.requires.page) in
     let noted : c.version.result ≡ slice_index next.memory.versions n = rw c.ram-2.ensures at c.version.ensures in
-    pushed_still m next n _ _ c.args.ram.now c.args.seen.now _ c.write_ram-done.result c.shapes-shapes.ensures.sound (ap (λ (b : ℕ). b + 4096 * n) c.base-base.ensures) c.write_ram-done.ensures.applied (page_slice c.args.ram.now n) inside c.requires.bytes (ap (slice_set c.args.seen.now n) noted)
+    pushed_still m next _ _ n _ _ c.args.ram.now c.args.seen.now _ c.written-done.result c.shapes-shapes.ensures.sound (ap (λ (b : ℕ). b + 4096 * n) c.base-base.ensures) c.written-done.ensures.logged (page_slice c.args.ram.now n) inside c.requires.bytes (ap (slice_set c.args.seen.now n) noted)

@@ -7,5 +7,5 @@ use Rattle.vmig_c.proofs.mirror.push_still.Goals as goal
 pub push_page-requires-clause-page : goal.push_page-requires-clause-page
 push_page-requires-clause-page g c =
     let m = c.args.machine.now in
-    let are : IsReady (Still m) c.args.pages.now (length c.args.ram.now) (length c.args.seen.now) = ready (Still m) c.args.pages.now (length c.args.ram.now) (length c.args.seen.now) c.requires in
+    let are : IsReady (Still m) c.args.pages.now (length c.args.ram.now) (length c.args.seen.now) = ready (Still m) c.args.pages.now (length c.args.ram.now) (length c.args.seen.now) c.requires.pushable in
     omega (arith, page_at (length m.memory.versions) c.args.pages.now c.loop-n.n-index are.are c.loop-n-test.true, c.loop-n.invariant.versions)

@@ -1,11 +1,12 @@
 use Rattle.std.proofs.Common.{◌≡◌, drop, length}
-use Rattle.vmig_c.specs.Kept.{Still}
+use Rattle.vmig_c.specs.Kept.{FitsLog, Still}
 use Rattle.vmig_c.proofs.Mirroring.{IsOnWay}
 use Rattle.vmig_c.proofs.mirror.push_still.Given as goal
 
 abbrev pub invariant-loop-n : goal.invariant-loop-n
 invariant-loop-n g l = record {
-  way : IsOnWay (Still l.fn.machine) l.pages l.ram l.fn.seen (Still l.machine) (drop l.n-index l.pages) l.seen;
+  way : IsOnWay (Still l.fn.machine) l.fn.log l.pages l.ram l.fn.seen (Still l.machine) l.log (drop l.n-index l.pages) l.seen;
   bytes : length l.machine.memory.bytes ≡ length l.fn.machine.memory.bytes;
   versions : length l.machine.memory.versions ≡ length l.fn.machine.memory.versions;
+  fits : FitsLog l.log;
 }

@@ -9,23 +9,23 @@ use Rattle.machine.specs.declared.kind.Kind.TheVariants.{Network, Block, Console
 use Rattle.machine.proofs.Turns.{run_whole}
 use Rattle.machine.proofs.kind.Kind.serve.Goals as goal
 
-pub returns-else-turn-gt0-clause-served : goal.returns-else-turn-gt0-clause-served
-returns-else-turn-gt0-clause-served g c =
-    let first : c.args.turn.number ≡ 0 = omega (arith, c.if-turn-gt0.false) in
+pub returns-else-visit-gt0-clause-served : goal.returns-else-visit-gt0-clause-served
+returns-else-visit-gt0-clause-served g c =
+    let first : c.args.visit.number ≡ 0 = omega (arith, c.if-visit-gt0.false) in
     let q = g.R.Ring.state c.args.ring.now in
     let new_q = g.R.Ring.state c.receive.new.ring in
     rw (c.in-Network.is, first)
     (run_whole (Network c.in-Network.mac) g.L.TouchLog.after c.args.ram.now c.receive.new.ram c.args.log.now c.receive.new.log q new_q c.in-Network.inbox c.receive.new.inbox Room net.receive_step
-    (λ ram q kind seen. serve c.args.turn.features kind 0 ram q seen) c.receive.result c.args.sent.now.items (λ seen. refl) (c.receive.ensures.served c.args.sent.now.items))
+    (λ ram q kind seen. serve c.args.visit.features kind 0 ram q seen) c.receive.result c.args.sent.now.items (λ seen. refl) (c.receive.ensures.served c.args.sent.now.items))
 
-pub returns-else-turn-gt0-2-clause-served : goal.returns-else-turn-gt0-2-clause-served
-returns-else-turn-gt0-2-clause-served g c =
-    let first : c.args.turn.number ≡ 0 = omega (arith, c.if-turn-gt0-2.false) in
+pub returns-else-visit-gt0-2-clause-served : goal.returns-else-visit-gt0-2-clause-served
+returns-else-visit-gt0-2-clause-served g c =
+    let first : c.args.visit.number ≡ 0 = omega (arith, c.if-visit-gt0-2.false) in
     let q = g.R.Ring.state c.args.ring.now in
     let new_q = g.R.Ring.state c.receive-in-Console.new.ring in
     rw (c.in-Console.is, first)
     (run_whole (Console c.in-Console.size) g.L.TouchLog.after c.args.ram.now c.receive-in-Console.new.ram c.args.log.now c.receive-in-Console.new.log q new_q c.in-Console.held c.receive-in-Console.new.held Room console.receive_step
-    (λ ram q kind seen. serve c.args.turn.features kind 0 ram q seen) c.receive-in-Console.result c.args.sent.now.items (λ seen. refl) (c.receive-in-Console.ensures.served c.args.sent.now.items))
+    (λ ram q kind seen. serve c.args.visit.features kind 0 ram q seen) c.receive-in-Console.result c.args.sent.now.items (λ seen. refl) (c.receive-in-Console.ensures.served c.args.sent.now.items))
 
 pub returns-in-Entropy-clause-served : goal.returns-in-Entropy-clause-served
 returns-in-Entropy-clause-served g c =
@@ -33,12 +33,12 @@ returns-in-Entropy-clause-served g c =
     let new_q = g.R.Ring.state c.receive-in-Entropy.new.ring in
     rw c.in-Entropy.is
     (run_whole Entropy g.L.TouchLog.after c.args.ram.now c.receive-in-Entropy.new.ram c.args.log.now c.receive-in-Entropy.new.log q new_q c.in-Entropy.pool c.receive-in-Entropy.new.held Room console.receive_step
-    (λ ram q kind seen. serve c.args.turn.features kind c.args.turn.number ram q seen) c.receive-in-Entropy.result c.args.sent.now.items (λ seen. refl) (c.receive-in-Entropy.ensures.served c.args.sent.now.items))
+    (λ ram q kind seen. serve c.args.visit.features kind c.args.visit.number ram q seen) c.receive-in-Entropy.result c.args.sent.now.items (λ seen. refl) (c.receive-in-Entropy.ensures.served c.args.sent.now.items))
 
 pub returns-in-Block-clause-served : goal.returns-in-Block-clause-served
 returns-in-Block-clause-served g c =
     let q = g.R.Ring.state c.args.ring.now in
     let new_q = g.R.Ring.state c.take.new.ring in
     rw c.in-Block.is
-    (run_whole Block g.L.TouchLog.after c.args.ram.now c.take.new.ram c.args.log.now c.take.new.log q new_q c.in-Block.block c.take.new.self (Request HEADER_SIZE) (take_step c.args.turn.features)
-    (λ ram q kind seen. serve c.args.turn.features kind c.args.turn.number ram q seen) c.take.result c.args.sent.now.items (λ seen. refl) (c.take.ensures.taken c.args.sent.now.items))
+    (run_whole Block g.L.TouchLog.after c.args.ram.now c.take.new.ram c.args.log.now c.take.new.log q new_q c.in-Block.block c.take.new.self (Request HEADER_SIZE) (take_step c.args.visit.features)
+    (λ ram q kind seen. serve c.args.visit.features kind c.args.visit.number ram q seen) c.take.result c.args.sent.now.items (λ seen. refl) (c.take.ensures.taken c.args.sent.now.items))

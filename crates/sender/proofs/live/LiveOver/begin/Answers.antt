@@ -6,13 +6,13 @@ use Rattle.sender.proofs.Served.{header_told, served_begin, wrote_by}
 use Rattle.sender.proofs.live.LiveOver.begin.Goals as goal
 
 pub invariant_of-self : goal.invariant_of-self
-invariant_of-self g c = let i = c.self.inside in live_again i.machine i.machine i.phase _ i.due i.dirty.set i.dirty.firsts.items i.at c.self.invariant refl tt
+invariant_of-self g c = let i = c.self.inside in live_again i.machine i.machine i.phase _ i.due i.logs.first.set i.logs.first.firsts.items i.at c.self.invariant refl tt
 
 pub invariant_of-self-2 : goal.invariant_of-self-2
 invariant_of-self-2 g c =
     let i = c.self.inside in
-    live_begun i.machine i.phase _ i.due c.fill.new.self i.dirty.set c.clear.new.self i.dirty.firsts.items i.at c.self.invariant
-    (ap length c.fill.ensures ∙ length-replicate (length i.due) true) (ap length c.clear.ensures ∙ length-replicate (length i.dirty.set) false) (omega arith)
+    live_begun i.machine i.phase _ i.due c.fill.new.self i.logs.first.set c.clear.new.self i.logs.first.firsts.items i.at c.self.invariant
+    (ap length c.fill.ensures ∙ length-replicate (length i.due) true) (ap length c.clear.ensures ∙ length-replicate (length i.logs.first.set) false) (omega arith)
 
 pub returns-clause-served : goal.returns-clause-served
 returns-clause-served g c =

@@ -5,13 +5,13 @@ use Rattle.sender.proofs.Served.{closing_took}
 use Rattle.sender.proofs.live.LiveOver.close.Goals as goal
 
 pub invariant_of-self : goal.invariant_of-self
-invariant_of-self g c = let i = c.self.inside in live_again i.machine i.machine i.phase _ i.due i.dirty.set i.dirty.firsts.items i.at c.self.invariant refl tt
+invariant_of-self g c = let i = c.self.inside in live_again i.machine i.machine i.phase _ i.due i.logs.first.set i.logs.first.firsts.items i.at c.self.invariant refl tt
 
 pub invariant_of-self-in-Err-write_end : goal.invariant_of-self-in-Err-write_end
-invariant_of-self-in-Err-write_end g c = let i = c.self.inside in live_again i.machine i.machine i.phase _ i.due i.dirty.set i.dirty.firsts.items i.at c.self.invariant refl tt
+invariant_of-self-in-Err-write_end g c = let i = c.self.inside in live_again i.machine i.machine i.phase _ i.due i.logs.first.set i.logs.first.firsts.items i.at c.self.invariant refl tt
 
 pub invariant_of-self-2 : goal.invariant_of-self-2
-invariant_of-self-2 g c = let i = c.self.inside in live_again i.machine i.machine i.phase _ i.due i.dirty.set i.dirty.firsts.items i.at c.self.invariant refl tt
+invariant_of-self-2 g c = let i = c.self.inside in live_again i.machine i.machine i.phase _ i.due i.logs.first.set i.logs.first.firsts.items i.at c.self.invariant refl tt
 
 pub returns-clause-closed : goal.returns-clause-closed
 returns-clause-closed g c =

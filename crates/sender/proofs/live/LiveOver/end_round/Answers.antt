@@ -5,15 +5,15 @@ use Rattle.sender.proofs.Served.{wrote_by}
 use Rattle.sender.proofs.live.LiveOver.end_round.Goals as goal
 
 pub invariant_of-self : goal.invariant_of-self
-invariant_of-self g c = let i = c.self.inside in live_again i.machine i.machine i.phase _ i.due i.dirty.set i.dirty.firsts.items i.at c.self.invariant refl tt
+invariant_of-self g c = let i = c.self.inside in live_again i.machine i.machine i.phase _ i.due i.logs.first.set i.logs.first.firsts.items i.at c.self.invariant refl tt
 
 pub invariant_of-self-2 : goal.invariant_of-self-2
 invariant_of-self-2 g c =
     let i = c.self.inside in
     let free = rw (← c.self.view_is) at (sym c.refusal.ensures ∙ c.in_default.is) in
     let even = c.self.invariant.sets.dirty_size ∙ sym c.self.invariant.sets.due_size in
-    live_begun i.machine i.phase _ i.due c.swap_out.new.other i.dirty.set c.swap_out.new.self i.dirty.firsts.items i.at c.self.invariant
-    (ap length c.swap_out.ensures.given ∙ even) (ap length c.swap_out.ensures.left ∙ length-replicate (length i.dirty.set) false) (round_fits i.phase c.in-Open.round c.in-Open.is c.self.invariant.sets.round free)
+    live_begun i.machine i.phase _ i.due c.swap_out.new.other i.logs.first.set c.swap_out.new.self i.logs.first.firsts.items i.at c.self.invariant
+    (ap length c.swap_out.ensures.given ∙ even) (ap length c.swap_out.ensures.left ∙ length-replicate (length i.logs.first.set) false) (round_fits i.phase c.in-Open.round c.in-Open.is c.self.invariant.sets.round free)
 
 pub returns-clause-served : goal.returns-clause-served
 returns-clause-served g c =

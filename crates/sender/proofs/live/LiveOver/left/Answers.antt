@@ -23,7 +23,7 @@ returns-clause-few_sectors g c =
       c.left_of.ensures.due_sectors,
       c.left_of.ensures.dirty_sectors,
       rest_few i.due pages,
-      rest_few i.dirty.set pages,
+      rest_few i.logs.first.set pages,
       places.due_size,
       places.dirty_size,
       few_items (state_of i.machine) places.sound,

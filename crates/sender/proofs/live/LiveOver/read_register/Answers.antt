@@ -13,6 +13,6 @@ returns-clause-served g c =
     let was = c.read_register-answer in
     let e = RegRead c.args.dev c.args.offset c.args.width in
     let reply = value_reply was.result in
-    let h : IsAppliedLogged after_taking i.machine i.dirty e reply i.machine i.dirty = unlogged after_taking i.machine i.machine i.dirty e reply tt was.ensures in
+    let h : IsAppliedLogged after_taking i.machine i.logs.first e reply i.machine i.logs.first = unlogged after_taking i.machine i.machine i.logs.first e reply tt was.ensures in
     rw (← c.self.view_is, c.from_value.ensures)
-    (guest_served i.machine i.machine i.dirty i.dirty i.phase i.due i.at (g.W.Sink.sum i.writer) (g.W.Sink.state i.writer) e reply c.self.invariant h still)
+    (guest_served i.machine i.machine i.logs.first i.logs.first i.phase i.due i.at (g.W.Sink.sum i.writer) (g.W.Sink.state i.writer) e reply c.self.invariant h still)

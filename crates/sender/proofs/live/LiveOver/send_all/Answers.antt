@@ -47,7 +47,7 @@ next_past-due-requires-clause-found g c = λ other.
 
 pub next_past-dirty-requires-clause-found : goal.next_past-dirty-requires-clause-found
 next_past-dirty-requires-clause-found g c = λ other.
-    let taken : c.self-in-Some.inside.dirty.set ≡ set c.items.self.dirty c.in-Some.number false = ap (λ (v : LiveSeen). v.dirty) c.self-in-Some.view_is ∙ c.in_default-send.ensures.sent.sent.dirty in
+    let taken : c.self-in-Some.inside.logs.first.set ≡ set c.items.self.dirty c.in-Some.number false = ap (λ (v : LiveSeen). v.dirty) c.self-in-Some.view_is ∙ c.in_default-send.ensures.sent.sent.dirty in
     subst (λ s. IsLeastFrom s 0 c.items.dirty) (sym taken) (still_next c.items.self.dirty c.in-Some.number c.items.dirty c.items.invariant.onward.dirty_next other)
 
 pub items-smaller : goal.items-smaller

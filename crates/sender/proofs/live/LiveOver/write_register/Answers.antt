@@ -12,8 +12,8 @@ invariant_of-self g c =
     let was = c.write_register-answer in
     let e = RegWrite c.args.dev c.args.offset c.args.width c.args.value in
     let reply = written_result was.result in
-    let h : IsAppliedLogged after_taking i.machine i.dirty e reply was.new.self i.dirty = unlogged after_taking i.machine was.new.self i.dirty e reply tt was.ensures.applied in
-    live_guest i.machine was.new.self i.dirty i.dirty i.phase i.due i.at (g.W.Sink.sum i.writer) (g.W.Sink.state i.writer) e reply c.self.invariant h
+    let h : IsAppliedLogged after_taking i.machine i.logs.first e reply was.new.self i.logs.first = unlogged after_taking i.machine was.new.self i.logs.first e reply tt was.ensures.applied in
+    live_guest i.machine was.new.self i.logs.first i.logs.first i.phase i.due i.at (g.W.Sink.sum i.writer) (g.W.Sink.state i.writer) e reply c.self.invariant h
 
 pub returns-clause-served : goal.returns-clause-served
 returns-clause-served g c =
@@ -22,6 +22,6 @@ returns-clause-served g c =
     let was = c.write_register-answer in
     let e = RegWrite c.args.dev c.args.offset c.args.width c.args.value in
     let reply = written_result was.result in
-    let h : IsAppliedLogged after_taking i.machine i.dirty e reply was.new.self i.dirty = unlogged after_taking i.machine was.new.self i.dirty e reply tt was.ensures.applied in
+    let h : IsAppliedLogged after_taking i.machine i.logs.first e reply was.new.self i.logs.first = unlogged after_taking i.machine was.new.self i.logs.first e reply tt was.ensures.applied in
     rw (← c.self.view_is, c.from_written.ensures)
-    (guest_served i.machine was.new.self i.dirty i.dirty i.phase i.due i.at (g.W.Sink.sum i.writer) (g.W.Sink.state i.writer) e reply c.self.invariant h still)
+    (guest_served i.machine was.new.self i.logs.first i.logs.first i.phase i.due i.at (g.W.Sink.sum i.writer) (g.W.Sink.state i.writer) e reply c.self.invariant h still)

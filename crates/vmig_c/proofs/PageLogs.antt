@@ -1,0 +1,168 @@
+-- The log of the pages that calls write.
+use Rattle.std.proofs.Common.{◌≡◌, ◌<◌, ◌≤◌, ℕ, Bool, true, false, List, [], ◌∷◌, refl, sym, ap, ◌∙◌, subst, arith, length, replicate, take, true≢false}
+use Rattle.std.specs.Prelude.{Option, Some, None, MatchOption, is_some, if◌then◌else◌, slice_set}
+use Rattle.std.proofs.lemmas.List.{length-set, length-replicate}
+use Rattle.guestmem.specs.Item.{Item, after_all, page, sector}
+use Rattle.guestmem.specs.Maybe.{after_if, may_if}
+use Rattle.machine.specs.Applied.{IsApplied, IsAppliedLogged, MayItems}
+use Rattle.machine.specs.AppliedLaws.{RefusedChangesNothing}
+use Rattle.machine.specs.Effect.{items_of}
+use Rattle.machine.specs.PageLog.{AreHandedOut, HandsOut, may_note, noted}
+use Rattle.machine.specs.Seen.{Seen}
+use Rattle.machine.specs.Sound.{IsSound}
+use Rattle.machine.specs.StepLaws.{IsRefusal}
+use Rattle.machine.specs.State.{MachineState}
+use Rattle.machine.specs.declared.event.Event.{Event}
+use Rattle.machine.specs.declared.reply.Reply.{Reply}
+use Rattle.sender.specs.Calls.{Does, Serves}
+use Rattle.sender.specs.LiveState.{LiveSeen, refusal_for}
+use Rattle.sender.specs.Logged.{GuestsLogged, ServesLogged}
+use Rattle.sender.specs.declared.event.LiveEvent.TheVariants.{Guest}
+use Rattle.sender.specs.declared.event.LiveReply.{LiveReply}
+use Rattle.sender.specs.declared.event.LiveReply.TheVariants as live
+use Rattle.sender.specs.declared.mig_error.MigError.{MigError}
+use Rattle.c_machine.proofs.Plain.{is_refusal}
+use Rattle.c_machine.specs.Made.{asks_log}
+use Rattle.vmig_c.specs.SendStatus.{live_status}
+use Rattle.vmig_c.specs.HandedOut.{HandedOut, HandsFrom, HandsIf, is_here}
+use Rattle.vmig_c.specs.Kept.{FitsLog, KeptSeen, first_log}
+
+-- The log that is asked for.
+pub asked : (flags : ℕ) (log : List Bool) → asks_log flags ≡ true → log ≡ replicate 16384 false → ◌≡◌ {A = Option (List Bool)} (Some log) (first_log flags)
+asked flags log asks is = rw asks (ap Some is)
+
+pub unasked : (flags : ℕ) → asks_log flags ≡ false → ◌≡◌ {A = Option (List Bool)} None (first_log flags)
+unasked flags asks = rw asks refl
+
+fits_by : (asks : Bool) → FitsLog (if asks then Some (replicate 16384 false) else None)
+fits_by true = length-replicate 16384 false
+fits_by false = tt
+
+pub first_fits : (flags : ℕ) (log : Option (List Bool)) → log ≡ first_log flags → FitsLog log
+first_fits flags log is = subst FitsLog (sym is) (fits_by (asks_log flags))
+
+-- It has a place for each page of a machine.
+pub may_all : (log : Option (List Bool)) (m : MachineState) → FitsLog log → IsSound m → MayItems (may_if may_note) log m
+may_all None m fits sound i has = tt
+may_all (Some pages) m fits sound (page n) has = omega (arith, fits, has, sound.few_pages)
+may_all (Some pages) m fits sound (sector dev n) has = tt
+
+-- So it is after it was told.
+noted_fits : (pages : List Bool) (items : List Item) → length (after_all noted pages items) ≡ length pages
+noted_fits pages [] = refl
+noted_fits pages (page n ∷ items) = noted_fits (slice_set pages n true) items ∙ length-set pages n true
+noted_fits pages (sector dev n ∷ items) = noted_fits pages items
+
+told_some : (pages : List Bool) (items : List Item) → after_all (after_if noted) (Some pages) items ≡ Some (after_all noted pages items)
+told_some pages [] = refl
+told_some pages (i ∷ items) = told_some (noted pages i) items
+
+told_none : (items : List Item) → ◌≡◌ {A = Option (List Bool)} None (after_all (after_if noted) None items)
+told_none [] = refl
+told_none (i ∷ items) = told_none items
+
+told_fits : (log : Option (List Bool)) (items : List Item) → FitsLog log → FitsLog (after_all (after_if noted) log items)
+told_fits None items fits = subst FitsLog (told_none items) tt
+told_fits (Some pages) items fits = subst FitsLog (sym (told_some pages items)) (noted_fits pages items ∙ fits)
+
+pub applied_fits : (m next : Seen) (log new_log : Option (List Bool)) (e : Event) (reply : Reply) → FitsLog log → IsAppliedLogged (after_if noted) m log e reply next new_log → FitsLog new_log
+applied_fits m next log new_log e reply fits a = subst FitsLog (sym a.logged) (told_fits log (items_of a.is_applied.effect) fits)
+
+served_fits_by : (o : Option MigError) (l next : LiveSeen) (log new_log : Option (List Bool)) (e : Event) (reply : LiveReply) → FitsLog log
+    → MatchOption o (GuestsLogged (after_if noted) l log e reply next new_log) (λ x. (reply ≡ live.Mig x) × (next ≡ l) × (new_log ≡ log)) → FitsLog new_log
+served_fits_by None l next log new_log e (live.Guest reply) fits s = subst FitsLog (sym s.logged) (told_fits log (items_of s.guest.is_applied.effect) fits)
+served_fits_by None l next log new_log e (live.Begun k) fits s = absurd s
+served_fits_by None l next log new_log e (live.Copied item) fits s = absurd s
+served_fits_by None l next log new_log e live.RoundDone fits s = absurd s
+served_fits_by None l next log new_log e live.RoundOpen fits s = absurd s
+served_fits_by None l next log new_log e (live.Stopped pages sectors) fits s = absurd s
+served_fits_by None l next log new_log e (live.Mig x) fits s = absurd s
+served_fits_by (Some x) l next log new_log e reply fits s = subst FitsLog (sym s.2) fits
+
+pub served_fits : (l next : LiveSeen) (log new_log : Option (List Bool)) (e : Event) (reply : LiveReply) → FitsLog log → ServesLogged (after_if noted) l log e reply next new_log → FitsLog new_log
+served_fits l next log new_log e reply fits s = served_fits_by (refusal_for l.phase (Guest e)) l next log new_log e reply fits s
+
+-- What is served with a log is served.
+served_by : (o : Option MigError) (l next : LiveSeen) (log new_log : Option (List Bool)) (e : Event) (reply : LiveReply) → MatchOption o (GuestsLogged (after_if noted) l log e reply next new_log) (λ x. (reply ≡ live.Mig x) × (next ≡ l) × (new_log ≡ log))
+    → MatchOption o (Does l (Guest e) reply next) (λ x. (reply ≡ live.Mig x) × (next ≡ l))
+served_by None l next log new_log e (live.Guest reply) s = s.guest
+served_by None l next log new_log e (live.Begun k) s = absurd s
+served_by None l next log new_log e (live.Copied item) s = absurd s
+served_by None l next log new_log e live.RoundDone s = absurd s
+served_by None l next log new_log e live.RoundOpen s = absurd s
+served_by None l next log new_log e (live.Stopped pages sectors) s = absurd s
+served_by None l next log new_log e (live.Mig x) s = absurd s
+served_by (Some x) l next log new_log e reply s = (s.0, s.1)
+
+pub logged_is_served : (l next : LiveSeen) (log new_log : Option (List Bool)) (e : Event) (reply : LiveReply) → ServesLogged (after_if noted) l log e reply next new_log → Serves l (Guest e) reply next
+logged_is_served l next log new_log e reply s = served_by (refusal_for l.phase (Guest e)) l next log new_log e reply s
+
+-- Where there is none, none is kept.
+pub none_kept : (m next : Seen) (log : Option (List Bool)) (e : Event) (reply : Reply) → log ≡ None → IsApplied m e reply next → IsAppliedLogged (after_if noted) m log e reply next log
+none_kept m next log e reply none applied = record { is_applied = applied; logged = rw none (told_none (items_of applied.effect)) }
+
+none_served_by : (o : Option MigError) (l next : LiveSeen) (log : Option (List Bool)) (e : Event) (reply : LiveReply) → log ≡ None → MatchOption o (Does l (Guest e) reply next) (λ x. (reply ≡ live.Mig x) × (next ≡ l))
+    → MatchOption o (GuestsLogged (after_if noted) l log e reply next log) (λ x. (reply ≡ live.Mig x) × (next ≡ l) × (log ≡ log))
+none_served_by None l next log e (live.Guest reply) none does = record { guest = does; logged = rw none (told_none (items_of does.is_applied.effect)) }
+none_served_by None l next log e (live.Begun k) none does = absurd does
+none_served_by None l next log e (live.Copied item) none does = absurd does
+none_served_by None l next log e live.RoundDone none does = absurd does
+none_served_by None l next log e live.RoundOpen none does = absurd does
+none_served_by None l next log e (live.Stopped pages sectors) none does = absurd does
+none_served_by None l next log e (live.Mig x) none does = absurd does
+none_served_by (Some x) l next log e reply none does = (does.0, does.1, refl)
+
+pub none_served : (l next : LiveSeen) (log : Option (List Bool)) (e : Event) (reply : LiveReply) → log ≡ None → Serves l (Guest e) reply next → ServesLogged (after_if noted) l log e reply next log
+none_served l next log e reply none serves = none_served_by (refusal_for l.phase (Guest e)) l next log e reply none serves
+
+-- Of what is refused a log is told nothing.
+pub quiet_log : (m next : Seen) (log new_log : Option (List Bool)) (e : Event) (reply : Reply) → RefusedChangesNothing → IsAppliedLogged (after_if noted) m log e reply next new_log → IsRefusal reply → new_log ≡ log
+quiet_log m next log new_log e reply law a is = a.logged ∙ ap (after_all (after_if noted) log) (law m next e reply a.is_applied is).1
+
+quiet_log_by : (o : Option MigError) (l next : LiveSeen) (log new_log : Option (List Bool)) (e : Event) (reply : LiveReply) → RefusedChangesNothing → 1 ≤ live_status reply → live_status reply < 64
+    → MatchOption o (GuestsLogged (after_if noted) l log e reply next new_log) (λ x. (reply ≡ live.Mig x) × (next ≡ l) × (new_log ≡ log)) → new_log ≡ log
+quiet_log_by None l next log new_log e (live.Guest reply) law some few s =
+    s.logged ∙ ap (after_all (after_if noted) log) (law l.machine next.machine e reply s.guest.is_applied (is_refusal reply some few)).1
+quiet_log_by None l next log new_log e (live.Begun k) law some few s = absurd s
+quiet_log_by None l next log new_log e (live.Copied item) law some few s = absurd s
+quiet_log_by None l next log new_log e live.RoundDone law some few s = absurd s
+quiet_log_by None l next log new_log e live.RoundOpen law some few s = absurd s
+quiet_log_by None l next log new_log e (live.Stopped pages sectors) law some few s = absurd s
+quiet_log_by None l next log new_log e (live.Mig x) law some few s = absurd s
+quiet_log_by (Some x) l next log new_log e reply law some few s = s.2
+
+pub quiet_log_live : (l next : LiveSeen) (log new_log : Option (List Bool)) (e : Event) (reply : LiveReply) → RefusedChangesNothing → 1 ≤ live_status reply → live_status reply < 64 → ServesLogged (after_if noted) l log e reply next new_log → new_log ≡ log
+quiet_log_live l next log new_log e reply law some few s = quiet_log_by (refusal_for l.phase (Guest e)) l next log new_log e reply law some few s
+
+-- Pages that are handed out leave their places.
+handed_long : (pages left : List Bool) (ns : List ℕ) → AreHandedOut pages ns left → length left ≡ length pages
+handed_long pages left [] handed = ap length handed
+handed_long pages left (n ∷ ns) handed = handed_long (slice_set pages n false) left ns handed.1 ∙ length-set pages n false
+
+pub still_fits : (log : Option (List Bool)) (pages left : List Bool) (out new_out : List ℕ) (count : ℕ) → FitsLog log → log ≡ Some pages → HandsOut pages out count new_out left → FitsLog (Some left)
+still_fits log pages left out new_out count fits is hands =
+    let all : length pages ≡ 16384 = subst FitsLog is fits in
+    handed_long pages left (take count new_out) hands.handed ∙ all
+
+-- By whether a machine is here, and whether it keeps a log.
+pub handed : (log : Option (List Bool)) (pages left : List Bool) (out new_out : List ℕ) (count before : ℕ) → log ≡ Some pages → HandsOut pages out count new_out left → HandsFrom log 0 out new_out count before (Some left)
+handed log pages left out new_out count before is hands = rw is (record { rest = left; hands = hands; status_is = refl; left_is = refl })
+
+pub not_handed : (log : Option (List Bool)) (out : List ℕ) (count : ℕ) → log ≡ None → HandsFrom log 27 out out count count log
+not_handed log out count is = rw is ((refl, refl, refl), refl)
+
+pub here : (is : Bool) (log left : Option (List Bool)) (status : ℕ) (out new_out : List ℕ) (count before : ℕ) → is ≡ true → HandsFrom log status out new_out count before left → HandsIf is log status out new_out count before left
+here is log left status out new_out count before so hands = rw so hands
+
+pub away : (is : Bool) (log : Option (List Bool)) (out : List ℕ) (count : ℕ) → is ≡ false → HandsIf is log 8 out out count count log
+away is log out count so = rw so ((refl, refl, refl), refl)
+
+-- By cases on the handle.
+pub handed_none : (k after : Option KeptSeen) (out : List ℕ) (count : ℕ) → is_some k ≡ false → after ≡ k → HandedOut k 8 out out count count after
+handed_none None after out count is same = ((refl, refl, refl), same)
+handed_none (Some m) after out count is same = absurd (true≢false is)
+
+pub handed_some : (k after : Option KeptSeen) (m next : KeptSeen) (status : ℕ) (out new_out : List ℕ) (count before : ℕ) → Some m ≡ k → after ≡ Some next → next ≡ record m { written = next.written } → HandsIf (is_here m.state) m.written status out new_out count before next.written
+    → HandedOut k status out new_out count before after
+handed_some k after m next status out new_out count before is becomes kind hands =
+    subst (λ (o : Option KeptSeen). HandedOut o status out new_out count before after) is (record { left = next.written; is_next = becomes ∙ ap Some kind; hands = hands })
