@@ -2,7 +2,7 @@
 use Rattle.std.specs.Prelude.{◌≡◌, ◌≤◌, ℕ, ◌+◌, ◌^◌, Bool, List, [], ◌∷◌, ◌++◌, length, replicate, if◌then◌else◌}
 use Rattle.byteorder.specs.Endian.{little_bytes}
 use Rattle.guestmem.specs.Number.{IsBytes}
-use Rattle.blk.specs.declared.shape.TheConstants.{SECTORS_MAX}
+use Rattle.blk.specs.declared.shape.TheConstants.{SECTORS_GREATEST}
 
 -- The feature bits that a block device offers in addition to those of every device: FLUSH 9, WRITE_ZEROES 14, and RO 5 if it
 -- is read-only (VIRTIO 1.2, 5.2.3).
@@ -15,9 +15,9 @@ features_of read_only = if read_only then 2 ^ 9 + 2 ^ 14 + 2 ^ 5 else 2 ^ 9 + 2 
 unfoldable pub configuration_of : ℕ → List ℕ
 configuration_of sectors = little_bytes 8 sectors ++ (replicate 40 0 ++ (little_bytes 4 4096 ++ (little_bytes 4 1 ++ 0 ∷ [])))
 
--- What a block device may be made as: it has 1 to 2,097,152 sectors, and an id of 20 bytes.
+-- What a block device may be made as: it has 1 to 4,294,967,295 sectors, and an id of 20 bytes.
 pub record IsBlockShape (sectors : ℕ) (id : List ℕ) : Type 0 where
   pub some : 1 ≤ sectors
-  pub few : sectors ≤ SECTORS_MAX
+  pub few : sectors ≤ SECTORS_GREATEST
   pub id_size : length id ≡ 20
   pub id_bytes : IsBytes id

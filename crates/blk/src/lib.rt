@@ -71,6 +71,6 @@ pub use request::{Kind, Request, Verdict};
 pub use requests::{REQUESTS_MAX, Requests};
 pub use sectors::{Fetched, Sectors};
 pub use shape::{
-    CONFIGURATION_SIZE, DEVICE_ID, FLUSH, ID_SIZE, QUEUE_COUNT, RO, SECTORS_MAX, WRITE_ZEROES,
-    configuration, features, is_block_shape,
+    CONFIGURATION_SIZE, DEVICE_ID, FLUSH, ID_SIZE, QUEUE_COUNT, RO, SECTORS_GREATEST, SECTORS_MAX,
+    WRITE_ZEROES, configuration, features, is_block_shape,
 };

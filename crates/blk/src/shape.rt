@@ -28,7 +28,10 @@ pub const WRITE_ZEROES: u64 = 1 << 14;
 /// The most sectors that one request may clear (VIRTIO 1.2, 5.2.4: max_write_zeroes_sectors).
 pub const ZEROES_MAX: u32 = 4096;
 
-/// The most sectors that a block device can have.
+/// The most sectors that a block device can have: as many as a number of 32 bits can say, 2 TiB in all.
+pub const SECTORS_GREATEST: u64 = 4_294_967_295;
+
+/// The most sectors of a block device whose host asks for no more: 1 GiB in all.
 pub const SECTORS_MAX: u64 = 2_097_152;
 
 /// Bytes in the configuration space (VIRTIO 1.2, 5.2.4).
@@ -55,7 +58,7 @@ pub fn is_block_shape(sectors: u64, id: &[u8; ID_SIZE]) -> bool
     ensures { IsTrue result ↔ IsBlockShape sectors id.now }
 {
     recall_bytes(id);
-    1 <= sectors && sectors <= SECTORS_MAX
+    1 <= sectors && sectors <= SECTORS_GREATEST
 }
 
 /// The features that a block device offers, beside those that every device offers (VIRTIO 1.2, 5.2.3).

@@ -88,7 +88,7 @@ listed p count none =
     listed_by (p.all == 0) (has_words p) p count parts.0 parts.1
 
 -- A number of a page plus the first is a 32-bit number.
-pub below_top : (first span : ℕ) (numbers : List ℕ) → first + span ≤ 16384 → are_pages span numbers ≡ true → AreBelowTop first numbers
+pub below_top : (first span : ℕ) (numbers : List ℕ) → first + span ≤ 4294967295 → are_pages span numbers ≡ true → AreBelowTop first numbers
 below_top first span [] within are k d less = absurd (omega (arith, less))
 below_top first span (n ∷ numbers) within are zero d less = let below : n < span = is_page n span (both_left (nat_lt n span) (are_pages span numbers) are) in omega (arith, below, within)
 below_top first span (n ∷ numbers) within are (suc k) d less = below_top first span numbers within (both_right (nat_lt n span) (are_pages span numbers) are) k d (omega (arith, less))
@@ -136,13 +136,13 @@ of_some p count numbers bitmap none are joined =
 pub no_bits : (p : Pages) (count : ℕ) (numbers : List ℕ) → (length p.words.now == 0) ≡ true → numbers ≡ [] → numbers ≡ of_bitmap p count
 no_bits p count numbers none empty = rw none empty
 
-pub few : (p : Pages) (count span : ℕ) → count ≤ 16384 → pages_refusal p count ≡ None → (length p.words.now == 0) ≡ false → span ≡ span_of p count → span ≤ 16384
+pub few : (p : Pages) (count span : ℕ) → count ≤ 4294967295 → pages_refusal p count ≡ None → (length p.words.now == 0) ≡ false → span ≡ span_of p count → span ≤ 4294967295
 few p count span small fit some is = let less : p.first + span_of p count ≤ count = (there p count fit).within (rw some refl) in omega (arith, small, less, is)
 
 pub room : (p : Pages) (count span : ℕ) → pages_refusal p count ≡ None → (length p.words.now == 0) ≡ false → span ≡ span_of p count → span ≤ 64 * length p.words.now
 room p count span fit some is = let less : span_of p count ≤ 64 * length p.words.now = (there p count fit).bits (rw some refl) in omega (arith, less, is)
 
-pub shiftable : (p : Pages) (count span : ℕ) (numbers : List ℕ) → count ≤ 16384 → pages_refusal p count ≡ None → (length p.words.now == 0) ≡ false → span ≡ span_of p count → numbers ≡ marked p.words.now span → AreBelowTop p.first numbers
+pub shiftable : (p : Pages) (count span : ℕ) (numbers : List ℕ) → count ≤ 4294967295 → pages_refusal p count ≡ None → (length p.words.now == 0) ≡ false → span ≡ span_of p count → numbers ≡ marked p.words.now span → AreBelowTop p.first numbers
 shiftable p count span numbers small fit some is are =
     let less : p.first + span_of p count ≤ count = (there p count fit).within (rw some refl) in
     subst (AreBelowTop p.first) (sym are) (below_top p.first span (marked p.words.now span) (omega (arith, less, small, is)) (marked_below p.words.now span))

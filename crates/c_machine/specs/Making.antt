@@ -1,6 +1,7 @@
 -- Devices that C asks for.
 use Rattle.std.specs.Prelude.{ℕ, ◌==◌, ◌||◌, ◌&&◌, not, nat_lt, Bool, true, List, [], ◌∷◌, length, map, replicate, Some, if◌then◌else◌}
 use Rattle.blk.specs.Sectors.{Sector}
+use Rattle.machine.specs.Limits.{usual}
 use Rattle.machine.specs.Shapes.{is_beyond}
 use Rattle.machine.specs.declared.machine.TheConstants.{DEVICES_MAX}
 use Rattle.machine.specs.declared.shape.Shape.{Shape}
@@ -33,7 +34,7 @@ has_only s = (s.kind == 1 || are_zeros s.mac) && ((s.kind == 2 || has_no_disk s)
 
 -- A device of a known kind within its limits, of which nothing else is said.
 abbrev pub is_plain : DeviceShape → Bool
-is_plain s = has_only s && (is_known s.kind && not (is_beyond (shape_of s)))
+is_plain s = has_only s && (is_known s.kind && not (is_beyond usual (shape_of s)))
 
 abbrev pub are_plain : List DeviceShape → Bool
 are_plain [] = true

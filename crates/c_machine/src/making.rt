@@ -12,7 +12,7 @@ use crate::device_shape::DeviceShape;
 use crate::images::image_disks;
 use crate::over_ram::{ram_back, ram_for};
 use guestmem::NoMemory;
-use machine::{Board, DEVICES_MAX, Disk, Machine, MemDisk, Shape, Unmade};
+use machine::{Board, DEVICES_MAX, Disk, Limits, Machine, MemDisk, Shape, Unmade};
 use region::Slot;
 use std::alloc::Global;
 
@@ -96,6 +96,7 @@ pub fn machine_on<D: Disk + Drop>(
     match Machine::make(
         alloc,
         Board {
+            limits: Limits::usual(),
             base,
             ram: made_of,
             shapes,

@@ -4,7 +4,7 @@
 //! nothing changed. Bits past the last page are not looked at: a bitmap has whole words.
 
 ghost use Rattle.std.specs.Prelude.{◌≡◌, ◌≤◌, ◌*◌, ◌<◌, ◌+◌, ◌/◌, ◌%◌, ℕ, IfOk, IsOk, length, false, true, vec_capacity};
-ghost use Rattle.guestmem.specs.declared.limits.TheConstants.{PAGES_MAX};
+ghost use Rattle.guestmem.specs.declared.limits.TheConstants.{PAGES_GREATEST};
 ghost use Rattle.c_machine.specs.Named.{AreBelowTop, is_marked, marked, numbers_below, shifted};
 
 use dirtylog::bit_from;
@@ -16,7 +16,7 @@ pub const WORD_BITS: usize = 64;
 /// Makes the list that of the pages that are marked. It takes one look for each word, and one for each page, and no memory where the list
 /// has room for all pages.
 pub fn collect_marked(words: &[u64], count: usize, numbers: &mut Vec<u32>) -> Result<(), NoMemory>
-    requires few { count ≤ PAGES_MAX }
+    requires few { count ≤ PAGES_GREATEST }
     requires room { count ≤ 64 * length words.now }
     ensures pages { IfOk result (λ x. numbers.new.items ≡ marked words.now count) }
     ensures memory { count ≤ vec_capacity numbers.old → IsOk result }
@@ -47,7 +47,7 @@ fn collect_from(
     requires start { from % 64 ≡ 0 }
     requires order { from ≤ until }
     requires one_word { until ≤ from + 64 }
-    requires few { until ≤ PAGES_MAX }
+    requires few { until ≤ PAGES_GREATEST }
     requires room { until ≤ 64 * length words.now }
     ensures pages { IfOk result (λ x. numbers.new.items ≡ marked words.now until) }
     ensures capacity { vec_capacity numbers.old ≤ vec_capacity numbers.new }
@@ -83,7 +83,7 @@ fn next_marked(words: &[u64], from: usize, until: usize) -> usize
 
 /// Makes the list that of all pages. It takes no memory where the list has room for them.
 pub fn collect_all(count: usize, numbers: &mut Vec<u32>) -> Result<(), NoMemory>
-    requires { count ≤ PAGES_MAX }
+    requires { count ≤ PAGES_GREATEST }
     ensures pages { IfOk result (λ x. numbers.new.items ≡ numbers_below count) }
     ensures memory { count ≤ vec_capacity numbers.old → IsOk result }
 {

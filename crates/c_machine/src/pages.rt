@@ -35,7 +35,7 @@ pub struct Pages<'a> {
 
 impl Pages<'_> {
     ghost use Rattle.std.specs.Prelude.{◌≡◌, ◌≤◌, ◌<◌, ◌^◌, None, IfOk};
-    ghost use Rattle.guestmem.specs.declared.limits.TheConstants.{PAGES_MAX};
+    ghost use Rattle.guestmem.specs.declared.limits.TheConstants.{PAGES_GREATEST};
     ghost use Rattle.c_machine.specs.Named.{is_known_pages, named_pages, needs_list, of_bitmap, pages_refusal, span_of};
 
     /// Whether this library knows all that the struct asks for.
@@ -47,7 +47,7 @@ impl Pages<'_> {
 
     /// Why these are no pages of a RAM of `count` pages, if so.
     pub fn refusal(&self, count: usize) -> Option<u32>
-        requires { count ≤ PAGES_MAX }
+        requires { count ≤ PAGES_GREATEST }
         ensures { result ≡ pages_refusal self.now count }
     {
         let span = self.span_of(count);
@@ -65,7 +65,7 @@ impl Pages<'_> {
 
     /// How many pages the bitmap covers, of a RAM of `count` pages.
     fn span_of(&self, count: usize) -> usize
-        requires { count ≤ PAGES_MAX }
+        requires { count ≤ PAGES_GREATEST }
         ensures span { result ≡ span_of self.now count }
         ensures few { result < 2 ^ 32 }
     {
@@ -85,7 +85,7 @@ impl Pages<'_> {
     /// Makes the list that of the pages that are named. It takes no memory where the list has room for them.
     #[tactic(auto, using(crate::proofs::NamedPages::of_all, crate::proofs::NamedPages::of_some))]
     pub fn collect(&self, count: usize, numbers: &mut Vec<u32>) -> Result<(), NoMemory>
-        requires few { count ≤ PAGES_MAX }
+        requires few { count ≤ PAGES_GREATEST }
         requires fit { pages_refusal self.now count ≡ None }
         ensures { IfOk result (λ x. numbers.new.items ≡ named_pages self.now count) }
     {
@@ -101,7 +101,7 @@ impl Pages<'_> {
     /// Makes the list that of the pages of the bitmap.
     #[tactic(auto, using(crate::proofs::NamedPages::no_bits, crate::proofs::NamedPages::few, crate::proofs::NamedPages::room, crate::proofs::NamedPages::shiftable, crate::proofs::NamedPages::bits))]
     fn collect_bitmap(&self, count: usize, numbers: &mut Vec<u32>) -> Result<(), NoMemory>
-        requires few { count ≤ PAGES_MAX }
+        requires few { count ≤ PAGES_GREATEST }
         requires fit { pages_refusal self.now count ≡ None }
         ensures { IfOk result (λ x. numbers.new.items ≡ of_bitmap self.now count) }
     {

@@ -1,5 +1,5 @@
 use Rattle.std.specs.Prelude.{◌≡◌, ℕ, ◌-◌, ◌*◌, ◌%◌, ◌≤◌, ◌++◌, List, None, length, replicate}
-use Rattle.guestmem.specs.declared.limits.TheConstants.{PAGE_SIZE, PAGES_MAX}
+use Rattle.guestmem.specs.declared.limits.TheConstants.{PAGE_SIZE, PAGES_GREATEST}
 use Rattle.guestmem.specs.Memory.{Memory}
 
 -- These bytes, and zeros after them up to `size` bytes.
@@ -17,4 +17,4 @@ pub record IsFresh (bytes versions : List ℕ) (room : ℕ) : Type 0 where
   pub inside : length bytes ≤ PAGE_SIZE * length versions
   pub roomy : PAGE_SIZE * length versions ≤ room
   pub some : 1 ≤ length versions
-  pub few : length versions ≤ PAGES_MAX
+  pub few : length versions ≤ PAGES_GREATEST

@@ -9,7 +9,7 @@ ghost use Rattle.guestmem.specs.Memory.{Memory, IsMemory};
 ghost use Rattle.guestmem.specs.Write.{put_at};
 
 use crate::fresh::FreshRam;
-use crate::limits::{PAGE_SIZE, PAGES_MAX};
+use crate::limits::{PAGE_SIZE, PAGES_GREATEST};
 use crate::ram::Ram;
 use std::alloc::{AllocError, Global};
 use std::marker::Model;
@@ -47,7 +47,7 @@ impl ArrivingRam {
     /// Pages of zeros, none of which came yet. Its only error is out of memory.
     pub fn new(alloc: Global, pages: u32) -> Result<ArrivingRam, AllocError>
         requires some { 1 ≤ pages }
-        requires few { pages ≤ PAGES_MAX }
+        requires few { pages ≤ PAGES_GREATEST }
         ensures { IfOk result (λ ram. ram ≡ record { bytes = replicate (PAGE_SIZE * pages) 0; versions = replicate pages 0; place = None }) }
     {
         let ram = FreshRam::new(alloc, pages)?;

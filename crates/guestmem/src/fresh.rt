@@ -8,7 +8,7 @@ ghost use Rattle.guestmem.specs.Number.{IsBytes};
 ghost use Rattle.guestmem.specs.Memory.{Memory, IsMemory};
 ghost use Rattle.guestmem.specs.Write.{put_at};
 
-use crate::limits::{PAGE_SIZE, PAGES_MAX};
+use crate::limits::{PAGE_SIZE, PAGES_GREATEST};
 use crate::ram::{Ram, recall_bytes};
 use crate::storage::Storage;
 use std::alloc::{AllocError, Global};
@@ -41,7 +41,7 @@ impl FreshRam {
     /// Pages of zeros, none of which came yet. Its only error is out of memory.
     pub fn new(alloc: Global, pages: u32) -> Result<FreshRam, AllocError>
         requires some { 1 ≤ pages }
-        requires few { pages ≤ PAGES_MAX }
+        requires few { pages ≤ PAGES_GREATEST }
         ensures { IfOk result (λ ram. ram ≡ record { bytes = replicate (PAGE_SIZE * pages) 0; versions = replicate pages 0; place = None }) }
     {
         let bytes = Vec::with_capacity(alloc, pages as usize * PAGE_SIZE)?;

@@ -1,6 +1,6 @@
 //! Guest memory: one flat list of bytes, whose writes are reported page by page.
 //!
-//! A `Ram` is 1 to 16,384 pages of 4,096 bytes. Code above reads and writes it by the indexes of its bytes, from 0 up; pages occur only
+//! A `Ram` is 1 to 4,294,967,295 pages of 4,096 bytes. Code above reads and writes it by the indexes of its bytes, from 0 up; pages occur only
 //! as `index / 4096`, where a write is reported. Which index a guest-physical address means is in `specs/Address` (`index_of`):
 //!
 //! - each page has a version, which rises by one at every write into it and stays at the greatest `u64` once there, so that a cache
@@ -84,7 +84,7 @@ pub use arriving::ArrivingRam;
 pub use both::Both;
 pub use bytes::Bytes;
 pub use error::RamError;
-pub use limits::{ACCESS_MAX, PAGE_SIZE, PAGES_MAX};
+pub use limits::{ACCESS_MAX, PAGE_SIZE, PAGES_GREATEST, PAGES_MAX};
 pub use log::{NoLog, TouchLog};
 pub use parked::ParkedRam;
 pub use ram::{Ram, recall_bytes};

@@ -11,7 +11,7 @@ ghost use Rattle.guestmem.specs.Lent.{AreBelow, given_back, page_items, raise_ea
 ghost use Rattle.guestmem.specs.Memory.{Memory};
 ghost use Rattle.guestmem.specs.Rises.{Rises};
 
-use crate::limits::{PAGE_SIZE, PAGES_MAX};
+use crate::limits::{PAGE_SIZE, PAGES_GREATEST};
 use crate::log::TouchLog;
 use crate::ram::{Ram, raised_version};
 use crate::storage::Storage;
@@ -26,30 +26,30 @@ pub struct ParkedRam {
 
 impl Model for ParkedRam {
     ghost use Rattle.std.specs.Prelude.{List, ℕ, ◌≤◌, length};
-    ghost use Rattle.guestmem.specs.declared.limits.TheConstants.{PAGES_MAX};
+    ghost use Rattle.guestmem.specs.declared.limits.TheConstants.{PAGES_GREATEST};
 
     ghost Value = { List ℕ };
 
     ghost view = { λ p. p.versions.items };
 
-    ghost invariant = { λ p. (1 ≤ length p.versions.items) × (length p.versions.items ≤ PAGES_MAX) };
+    ghost invariant = { λ p. (1 ≤ length p.versions.items) × (length p.versions.items ≤ PAGES_GREATEST) };
 }
 
 impl ParkedRam {
     /// The RAM with these versions, without its bytes.
     pub(crate) fn of(versions: Vec<u64>) -> ParkedRam
         requires some { 1 ≤ length versions.items }
-        requires few { length versions.items ≤ PAGES_MAX }
+        requires few { length versions.items ≤ PAGES_GREATEST }
         ensures { result ≡ versions.items }
     {
         ParkedRam { versions }
     }
 
-    /// How many pages it has, from 1 to 16,384.
+    /// How many pages it has, at least one.
     pub fn pages(&self) -> usize
         ensures count { result ≡ length self.now }
         ensures some { 1 ≤ result }
-        ensures few { result ≤ PAGES_MAX }
+        ensures few { result ≤ PAGES_GREATEST }
     {
         self.versions.len()
     }

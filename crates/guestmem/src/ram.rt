@@ -20,7 +20,7 @@ ghost use Rattle.region.specs.Address.{address};
 use crate::address::access_refusal;
 use crate::error::RamError;
 use crate::laws::refusals_at_zero;
-use crate::limits::{PAGE_SIZE, PAGES_MAX};
+use crate::limits::{PAGE_SIZE, PAGES_GREATEST};
 use crate::log::TouchLog;
 use crate::parked::{ParkedRam, raise_each};
 use crate::storage::Storage;
@@ -50,7 +50,7 @@ impl Ram {
     /// Pages of zeros, each at version 0. Its only error is out of memory.
     pub fn new(alloc: Global, pages: u32) -> Result<Ram, AllocError>
         requires some { 1 ≤ pages }
-        requires few { pages ≤ PAGES_MAX }
+        requires few { pages ≤ PAGES_GREATEST }
         ensures { IfOk result (λ ram. ram ≡ record { bytes = replicate (PAGE_SIZE * pages) 0; versions = replicate pages 0; place = None }) }
     {
         Ram::with_version(alloc, pages, 0)
@@ -60,7 +60,7 @@ impl Ram {
     /// only error is out of memory.
     pub fn with_version(alloc: Global, pages: u32, start: u64) -> Result<Ram, AllocError>
         requires some { 1 ≤ pages }
-        requires few { pages ≤ PAGES_MAX }
+        requires few { pages ≤ PAGES_GREATEST }
         ensures { IfOk result (λ ram. ram ≡ record { bytes = replicate (PAGE_SIZE * pages) 0; versions = replicate pages start; place = None }) }
     {
         let bytes = vec![in alloc; 0u8; pages as usize * PAGE_SIZE]?;
@@ -76,7 +76,7 @@ impl Ram {
     pub fn over(alloc: Global, region: Region) -> Result<Ram, (AllocError, Region)>
         requires whole { length region.content % PAGE_SIZE ≡ 0 }
         requires some { PAGE_SIZE ≤ length region.content }
-        requires few { length region.content ≤ PAGE_SIZE * PAGES_MAX }
+        requires few { length region.content ≤ PAGE_SIZE * PAGES_GREATEST }
         ensures made { IfOk result (λ ram. ram ≡ record { bytes = region.content; versions = replicate (length region.content / PAGE_SIZE) 0; place = Some (address region) }) }
         ensures back { IfErr result (λ error. error.1 ≡ region) }
     {

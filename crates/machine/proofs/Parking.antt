@@ -4,7 +4,7 @@ use Rattle.std.proofs.lemmas.List.{length-map, length-replicate}
 use Rattle.std.specs.Prelude.{All}
 use Rattle.blk.proofs.Zeros.{zero_bytes}
 use Rattle.guestmem.specs.Memory.{IsMemory, Memory}
-use Rattle.guestmem.specs.declared.limits.TheConstants.{PAGES_MAX}
+use Rattle.guestmem.specs.declared.limits.TheConstants.{PAGES_GREATEST}
 use Rattle.machine.specs.Held.{IsHeld}
 use Rattle.machine.specs.Parked.{ParkedSeen, WasHeld, back_with}
 use Rattle.machine.specs.Seen.{Seen}
@@ -43,21 +43,21 @@ pub sound_held : (shapes : List Shape) (m : Seen) → IsHeld shapes m → AreSou
 sound_held shapes m held = (length m.memory.bytes, held.sound.devices)
 
 -- It is held with zeros.
-with_zeros : (shapes : List Shape) (p : ParkedSeen) → WasHeld shapes p → 1 ≤ length p.versions → length p.versions ≤ PAGES_MAX
+with_zeros : (shapes : List Shape) (p : ParkedSeen) → WasHeld shapes p → 1 ≤ length p.versions → length p.versions ≤ PAGES_GREATEST
     → IsHeld shapes (back_with p (record { bytes = replicate (4096 * length p.versions) 0; versions = p.versions; place = None }))
 with_zeros shapes p held some few =
     let m : Memory = record { bytes = replicate (4096 * length p.versions) 0; versions = p.versions; place = None } in
     held m (record { pages = length-replicate (4096 * length p.versions) 0; some = some; few = few }) (zero_bytes (4096 * length p.versions)) refl
 
 -- So its devices are few, and were made as these.
-pub few_devices : (shapes : List Shape) (p : ParkedSeen) → WasHeld shapes p → 1 ≤ length p.versions → length p.versions ≤ PAGES_MAX → length p.devices ≤ DEVICES_MAX
+pub few_devices : (shapes : List Shape) (p : ParkedSeen) → WasHeld shapes p → 1 ≤ length p.versions → length p.versions ≤ PAGES_GREATEST → length p.devices ≤ DEVICES_MAX
 few_devices shapes p held some few = few_held shapes _ (with_zeros shapes p held some few)
 
-pub some_devices : (shapes : List Shape) (p : ParkedSeen) → WasHeld shapes p → 1 ≤ length p.versions → length p.versions ≤ PAGES_MAX → 1 ≤ length p.devices
+pub some_devices : (shapes : List Shape) (p : ParkedSeen) → WasHeld shapes p → 1 ≤ length p.versions → length p.versions ≤ PAGES_GREATEST → 1 ≤ length p.devices
 some_devices shapes p held some few = some_held shapes _ (with_zeros shapes p held some few)
 
-pub sound_devices : (shapes : List Shape) (p : ParkedSeen) → WasHeld shapes p → 1 ≤ length p.versions → length p.versions ≤ PAGES_MAX → AreSoundDevices (map (λ d. d.state) p.devices)
+pub sound_devices : (shapes : List Shape) (p : ParkedSeen) → WasHeld shapes p → 1 ≤ length p.versions → length p.versions ≤ PAGES_GREATEST → AreSoundDevices (map (λ d. d.state) p.devices)
 sound_devices shapes p held some few = sound_held shapes _ (with_zeros shapes p held some few)
 
-pub are_shapes : (shapes : List Shape) (p : ParkedSeen) → WasHeld shapes p → 1 ≤ length p.versions → length p.versions ≤ PAGES_MAX → shapes ≡ map (λ d. made_as d.state.kind) p.devices
+pub are_shapes : (shapes : List Shape) (p : ParkedSeen) → WasHeld shapes p → 1 ≤ length p.versions → length p.versions ≤ PAGES_GREATEST → shapes ≡ map (λ d. made_as d.state.kind) p.devices
 are_shapes shapes p held some few = (with_zeros shapes p held some few).shapes_are

@@ -1,13 +1,15 @@
 -- New machines, and machines as they were saved.
 use Rattle.std.specs.Prelude.{◌≡◌, ℕ, ◌+◌, ◌*◌, ◌%◌, ◌^◌, ◌||◌, ◌&&◌, ◌==◌, not, nat_le, nat_lt, if◌then◌else◌, Bool, true, false, List, [], ◌∷◌, length, map, replicate, Option, Some, None}
 use Rattle.std.specs.List.{list_any}
-use Rattle.guestmem.specs.declared.limits.TheConstants.{PAGE_SIZE, PAGES_MAX}
+use Rattle.guestmem.specs.declared.limits.TheConstants.{PAGE_SIZE}
 use Rattle.guestmem.specs.Number.{IsBytes}
 use Rattle.blk.specs.Disk.{DiskState}
 use Rattle.blk.specs.Sectors.{Sector, SectorsState, seen_of}
+use Rattle.machine.specs.Limits.{usual}
 use Rattle.machine.specs.Shapes.{first_device, disk_size_of, disk_sizes, is_beyond, made_as}
 use Rattle.machine.specs.State.{MachineState, DeviceState}
 use Rattle.machine.specs.Seen.{DeviceSeen, Marks, no_marks, sectors_of, marks_of, flushed_of, calls_of}
+use Rattle.machine.specs.declared.limits.Limits.{Limits}
 use Rattle.machine.specs.declared.machine.TheConstants.{DEVICES_MAX}
 use Rattle.machine.specs.declared.shape.Shape.{Shape}
 use Rattle.machine.specs.declared.shape.Shape.TheVariants.{Net, Block}
@@ -58,8 +60,8 @@ abbrev pub first_machine : ℕ → List Shape → List (List Sector) → Machine
 first_machine pages shapes disks = made_machine 0 (zero_pages pages) shapes disks
 
 -- Some device is beyond its limits.
-abbrev pub are_beyond : List Shape → Bool
-are_beyond shapes = list_any is_beyond shapes
+abbrev pub are_beyond : Limits → List Shape → Bool
+are_beyond limits shapes = list_any (is_beyond limits) shapes
 
 abbrev pub are_same : List ℕ → List ℕ → Bool
 are_same [] [] = true
@@ -70,26 +72,26 @@ are_same _ _ = false
 abbrev pub is_base : ℕ → ℕ → Bool
 is_base base bytes = base % PAGE_SIZE == 0 && nat_le (base + bytes) (2 ^ 64)
 
--- Whether RAM may have this many bytes: 1 to 16,384 whole pages.
-abbrev pub is_ram_size : ℕ → Bool
-is_ram_size bytes = bytes % PAGE_SIZE == 0 && not (bytes == 0) && nat_le bytes (PAGE_SIZE * PAGES_MAX)
+-- Whether RAM may have this many bytes: whole pages, one to as many as the limits allow.
+abbrev pub is_ram_size : Limits → ℕ → Bool
+is_ram_size limits bytes = bytes % PAGE_SIZE == 0 && not (bytes == 0) && nat_le bytes (PAGE_SIZE * limits.pages)
 
 -- A machine is beyond its limits: by its RAM, which begins at `base`, by the number of its devices, or by one of these.
-abbrev pub is_beyond_limits : ℕ → ℕ → List Shape → Bool
-is_beyond_limits base bytes shapes =
-    not (is_base base bytes) || not (is_ram_size bytes) || length shapes == 0 || nat_lt DEVICES_MAX (length shapes) || are_beyond shapes
+abbrev pub is_beyond_limits : Limits → ℕ → ℕ → List Shape → Bool
+is_beyond_limits limits base bytes shapes =
+    not (is_base base bytes) || not (is_ram_size limits bytes) || length shapes == 0 || nat_lt DEVICES_MAX (length shapes) || are_beyond limits shapes
 
 -- Why no machine is made whose RAM has this many bytes from the address `base` on, of these devices, and of disks of these sizes, if
--- so. The limits are checked first, then the disks: their sizes must be those of the devices that have one, in their order.
-abbrev pub make_refusal : ℕ → ℕ → List Shape → List ℕ → Option NewError
-make_refusal base bytes shapes sizes =
-    if is_beyond_limits base bytes shapes then Some BadShape
+-- so. What is beyond these limits is told first, then the disks: their sizes must be those of the devices that have one, in their order.
+abbrev pub make_refusal : Limits → ℕ → ℕ → List Shape → List ℕ → Option NewError
+make_refusal limits base bytes shapes sizes =
+    if is_beyond_limits limits base bytes shapes then Some BadShape
     else if not (are_same (disk_sizes shapes) sizes) then Some DiskMismatch
     else None
 
--- Why no machine of so many pages from the address 0 on is made, if so.
+-- Why no machine of so many pages from the address 0 on is made within the usual limits, if so.
 abbrev pub new_refusal : ℕ → List Shape → List ℕ → Option NewError
-new_refusal pages shapes sizes = make_refusal 0 (PAGE_SIZE * pages) shapes sizes
+new_refusal pages shapes sizes = make_refusal usual 0 (PAGE_SIZE * pages) shapes sizes
 
 -- The MAC of a network device is 6 bytes, and the id of a block device 20.
 pub record AreBytes (count : ℕ) (list : List ℕ) : Type 0 where

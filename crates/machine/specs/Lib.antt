@@ -12,6 +12,7 @@ pub mod EffectLaws
 pub mod First
 pub mod Held
 pub mod Layout
+pub mod Limits
 pub mod Lines
 pub mod NextWork
 pub mod Looked

@@ -3,7 +3,6 @@ use Rattle.std.specs.Prelude.{ℕ, ◌+◌, ◌^◌, ◌==◌, ◌||◌, nat_lt,
 use Rattle.blk.specs.Shape as blocks
 use Rattle.blk.specs.Block.{first_block}
 use Rattle.console.specs.Size as sizes
-use Rattle.blk.specs.declared.shape.TheConstants as blk
 use Rattle.console.specs.declared.size.ConsoleSize.{ConsoleSize}
 use Rattle.mmio.specs.State.{first_registers}
 use Rattle.chains.specs.declared.position.Positions.{Positions}
@@ -11,6 +10,7 @@ use Rattle.mmio.specs.declared.common.Common.{Common}
 use Rattle.mmio.specs.declared.queue.Queue.{Queue}
 use Rattle.machine.specs.declared.kind.Kind.{Kind}
 use Rattle.machine.specs.declared.kind.Kind.TheVariants as kinds
+use Rattle.machine.specs.declared.limits.Limits.{Limits}
 use Rattle.machine.specs.declared.shape.Shape.{Shape}
 use Rattle.machine.specs.declared.shape.Shape.TheVariants.{Net, Block, Console, Entropy}
 use Rattle.machine.specs.State.{DeviceState}
@@ -80,10 +80,10 @@ abbrev pub disk_sizes : List Shape → List ℕ
 disk_sizes [] = []
 disk_sizes (shape ∷ shapes) = with_size (disk_size_of shape) (disk_sizes shapes)
 
--- Whether a shape is beyond its limits: a block device has 1 to 2,097,152 sectors; other devices have no such limit.
-abbrev pub is_beyond : Shape → Bool
-is_beyond (Block sectors read_only id) = sectors == 0 || nat_lt blk.SECTORS_MAX sectors
-is_beyond _ = false
+-- Whether a shape is beyond its limits: a block device has one to as many sectors as they allow; other devices have no such limit.
+abbrev pub is_beyond : Limits → Shape → Bool
+is_beyond limits (Block sectors read_only id) = sectors == 0 || nat_lt limits.sectors sectors
+is_beyond limits _ = false
 
 -- A new console has 80 columns and 25 rows.
 abbrev pub first_size : ConsoleSize

@@ -1,7 +1,7 @@
 -- What holds of every machine.
 use Rattle.std.specs.Prelude.{◌≡◌, ℕ, ◌+◌, ◌*◌, ◌/◌, ◌%◌, ◌^◌, ◌≤◌, List, length, map, All, IsSomeAnd}
 use Rattle.guestmem.specs.Number.{IsBytes}
-use Rattle.guestmem.specs.declared.limits.TheConstants.{PAGE_SIZE, PAGES_MAX}
+use Rattle.guestmem.specs.declared.limits.TheConstants.{PAGE_SIZE, PAGES_GREATEST}
 use Rattle.mmio.specs.Sound.{IsSoundRegisters}
 use Rattle.console.specs.Shape.{AreHostBytes, IsSoundConsole}
 use Rattle.net.specs.Inbox.{AreFrames}
@@ -68,12 +68,12 @@ pub record IsSoundDevice (base bytes : ℕ) (d : DeviceState) : Type 0 where
 abbrev pub AreSoundDevices : List DeviceState → Type 0
 AreSoundDevices devices = (bytes : ℕ) × All (IsSoundDevice (base_of devices) bytes) devices
 
--- A machine is sound: 1 to 16,384 whole pages of RAM, 1 to 16 devices, each of them sound and of one base, and each disk of its device's size,
+-- A machine is sound: 1 to 4,294,967,295 whole pages of RAM, 1 to 16 devices, each of them sound and of one base, and each disk of its device's size,
 -- with sectors that are 512 bytes or bad.
 pub record IsSound (m : MachineState) : Type 0 where
   pub whole_pages : length m.ram ≡ 4096 * (length m.ram / 4096)
   pub some_pages : 1 ≤ length m.ram / 4096
-  pub few_pages : length m.ram / 4096 ≤ PAGES_MAX
+  pub few_pages : length m.ram / 4096 ≤ PAGES_GREATEST
   pub some_devices : 1 ≤ length m.devices
   pub few_devices : length m.devices ≤ DEVICES_MAX
   pub devices : All (IsSoundDevice (base_of m.devices) (length m.ram)) m.devices

@@ -1,12 +1,13 @@
 //! What a machine is made of, and what is left of it where none is made.
 //!
-//! One struct says what each call that makes a machine is told: where RAM begins, where its bytes come from, what the devices are, and
+//! One struct says what each call that makes a machine is told: how large it may be, where RAM begins, where its bytes come from, what the devices are, and
 //! their disks. Nothing is passed beside it that has to fit it.
 
 ghost use Rattle.std.specs.Prelude.{◌≡◌, ◌≤◌, ◌*◌, ◌%◌, IfOk, IfErr};
-ghost use Rattle.guestmem.specs.declared.limits.TheConstants.{PAGE_SIZE, PAGES_MAX};
+ghost use Rattle.guestmem.specs.declared.limits.TheConstants.{PAGE_SIZE, PAGES_GREATEST};
 ghost use Rattle.machine.specs.Board.{ram_bytes, ram_place, ram_region, ram_size};
 
+use crate::limits::Limits;
 use crate::new_error::NewError;
 use crate::shape::Shape;
 use guestmem::{PAGE_SIZE, Ram};
@@ -15,6 +16,9 @@ use std::alloc::Global;
 
 /// What a machine is made of. Its block devices get the disks in order.
 pub struct Board<'a, D> {
+    /// How large it may be.
+    pub limits: Limits,
+
     /// The guest-physical address at which RAM begins.
     pub base: u64,
 
@@ -64,7 +68,7 @@ impl RamOf {
     pub(crate) fn into_ram(self, alloc: Global) -> Result<Ram, RamOf>
         requires whole { ram_size self % PAGE_SIZE ≡ 0 }
         requires some { PAGE_SIZE ≤ ram_size self }
-        requires few { ram_size self ≤ PAGE_SIZE * PAGES_MAX }
+        requires few { ram_size self ≤ PAGE_SIZE * PAGES_GREATEST }
         ensures bytes { IfOk result (λ ram. ram.bytes ≡ ram_bytes self) }
         ensures place { IfOk result (λ ram. ram.place ≡ ram_place self) }
         ensures same { IfErr result (λ ram. ram ≡ self) }

@@ -6,6 +6,7 @@ ghost use Rattle.machine.specs.AppliedLaws.{HonestDisksGiveTheirs, AnyDiskActsAl
 ghost use Rattle.machine.specs.Calls.{OnlyStepsCall};
 ghost use Rattle.machine.specs.PageLog.{NotedAreThese};
 ghost use Rattle.machine.specs.Parked.{BackIsWritten, MarkIsWritten, ParkedFlushFails, ParkedIsApplied, ParkedIsFlushed, UnnamedIsWritten};
+ghost use Rattle.machine.specs.Limits.{GreatestAllow, LimitsStay};
 ghost use Rattle.machine.specs.EffectLaws.{UntouchedStays, TouchedExists, ShapeStays};
 ghost use Rattle.machine.specs.StepLaws.{EffectsAgree, StepsAgree, RunsAgree, StepStaysWithin, StepKeepsShape, StepStaysSound, RefusalsChangeNothing, MalformedIsContained, MalformedAsksForReset};
 
@@ -24,6 +25,16 @@ pub fn touched_exists()
 /// An effect keeps the size of RAM, the devices' shapes and the disks' sizes.
 pub fn shape_stays()
     ensures { ShapeStays }
+{}
+
+/// A machine of the same shape is within the same limits.
+pub fn limits_stay()
+    ensures { LimitsStay }
+{}
+
+/// The greatest limits allow every sound machine.
+pub fn greatest_allow()
+    ensures { GreatestAllow }
 {}
 
 /// Effects of one event on one machine with one outcome are one effect.

@@ -45,7 +45,8 @@
 //!   sector of a disk, and `read_good_sector` reads one that is not bad, with no look at the marks.
 //! - `play(events)` is a run of steps (`specs/Run`), with a reply to each: one event after another is applied. Where it is refused
 //!   memory, nothing was played.
-//! - `Machine::make` makes a machine of a `Board`: where RAM begins, what it is made of, what the devices are, and their disks. RAM is
+//! - `Machine::make` makes a machine of a `Board`: how large it may be (`Limits`), where RAM begins, what it is made of, what the devices
+//!   are, and their disks. RAM is
 //!   pages of zeros, or the bytes that lie in a `region::Region` and stay where they are; all else has first values. A refusal is the
 //!   first one that holds, and gives the disks and the region back (`specs/First`). `Machine::new` makes one of zeros, at address 0.
 //!   All addresses of the guest count from where RAM begins, and all devices of a machine hold the same base (`specs/Sound`).
@@ -81,6 +82,7 @@ mod fitting;
 mod forgetting;
 mod kind;
 pub mod laws;
+mod limits;
 mod machine;
 mod new_error;
 mod page_log;
@@ -98,6 +100,7 @@ pub use event::Event;
 pub use fitting::are_disks_of;
 pub use guestmem::Bytes;
 pub use kind::Kind;
+pub use limits::Limits;
 pub use machine::{DEVICES_MAX, Machine, Parked, Room, is_base};
 pub use new_error::NewError;
 pub use page_log::PageLog;

@@ -10,7 +10,7 @@ use thiserror::Error;
 /// Why a machine is not made, in the order in which it is tested.
 #[derive(Clone, Copy, Debug, Drop, PartialEq, Eq, Error)]
 pub enum NewError {
-    /// The RAM is not of 1 to 16,384 pages, or the devices are not 1 to 16, or a device is beyond its limits.
+    /// The RAM has no page, or more than the limits allow, or the devices are not 1 to 16, or a device is beyond its limits.
     #[error("invalid machine configuration")]
     BadShape,
 

@@ -16,7 +16,7 @@ pub enum Shape {
 
     /// A block device (VIRTIO 1.2, 5.2).
     Block {
-        /// How many sectors of 512 bytes its disk has: 1 to 2,097,152.
+        /// How many sectors of 512 bytes its disk has: one to as many as the limits of the machine allow.
         sectors: u64,
 
         /// Whether the driver may only read it.

@@ -23,9 +23,9 @@ pub struct Turn {
 }
 
 impl Turn {
-    /// One of so many steps at most, whose first is the first step of all.
+    /// A turn of at most `steps` steps. It begins with the first step of the first device.
     pub fn new(steps: u32) -> Turn
-        ensures left { result.left ≡ steps }
+        ensures { result ≡ record { last = record { dev = 255; pick = 255 }; left = steps } }
     {
         let last = Work {
             dev: u8::MAX,
@@ -55,7 +55,7 @@ pub enum TurnEnd {
     Unfinished,
 
     /// The step `last` ends a write of a driver that did not accept FLUSH, and was passed over. The host flushes the disk, and makes
-    /// the step (`Machine::flush_disk`). The next call goes on behind it.
+    /// the step (`Machine::flush_disk`). The next call continues after it.
     SyncOwed,
 
     /// Memory was refused to the first step. Nothing has changed, and the next call begins with it again.
@@ -67,7 +67,7 @@ pub enum TurnEnd {
     Answer(Stepped),
 }
 
-/// Whether a turn goes on after a step of a device that was answered so.
+/// Whether a turn continues after a step with this answer.
 pub fn goes_on(is_entropy: bool, stepped: Stepped) -> bool
     ensures { (sent : List ℕ) → result ≡ goes_on is_entropy (reply_in stepped sent) }
 {

@@ -14,13 +14,14 @@ use Rattle.receiver.specs.declared.intake.Intake.{Intake}
 use Rattle.receiver.specs.Receiving.{IsFinish, IsTaken, HasRounds, NoNext, NoFault, RefusesSlice, TellsFault, TellsNow, rounds_in, has_failed}
 use Rattle.receiver.specs.declared.stage.Stage.{Stage}
 use Rattle.receiver.specs.declared.stage.Stage.TheVariants as stages
+use Rattle.receiver.specs.declared.terms.Terms.{Terms}
 use Rattle.receiver.specs.declared.ram_terms.RamTerms.{RamTerms}
 use Rattle.receiver.specs.declared.recv_error.RecvError.{RecvError}
 use Rattle.receiver.specs.declared.recv_error.RecvError.TheVariants as errors
 use Rattle.receiver.proofs.Aligned.{LongerRecords, one_opening, records_led, good_spell, next_good}
 use Rattle.receiver.proofs.Knowing.{no_other, none_held}
 use Rattle.receiver.proofs.Working.{front_at, front_of, commit_text, tells_more}
-use Rattle.receiver.specs.Opened.{Opened, ram_at, said_by}
+use Rattle.receiver.specs.Opened.{Opened, said_by, terms_at}
 
 not_longer : (opening : Opened) (before others : List Record) (tail rest : List ℕ) → AreGood opening [] others → NoNext opening before tail → (more : List Record) → others ≡ before ++ more → tail ≡ texts more ++ rest → others ≡ before
 unfolding texts
@@ -75,15 +76,15 @@ no_truncation : (ram : RamTerms) (sizes bytes : List ℕ) (at : ℕ) → ¬ (Fau
 no_truncation ram sizes bytes at (inl h) = h
 no_truncation ram sizes bytes at (inr h) = h.fault
 
-pub slice_told : (base : ℕ) (sizes : List ℕ) (marks new : List Marks) (bytes : List ℕ) (e : RecvError) → MarksRefused marks e new → TellsFault (ram_at base) sizes bytes e → RefusesSlice base sizes marks bytes e
-slice_told base sizes marks new bytes errors.Truncated m t = absurd (no_truncation (ram_at base) sizes bytes t.0 t.1)
-slice_told base sizes marks new bytes errors.DiskFailed m t = record { disk = m.disk; unsteady = m.unsteady }
-slice_told base sizes marks new bytes errors.NoMemory m t = tt
-slice_told base sizes marks new bytes _ m t = t
+pub slice_told : (terms : Terms) (sizes : List ℕ) (marks new : List Marks) (bytes : List ℕ) (e : RecvError) → MarksRefused marks e new → TellsFault (terms_at terms) sizes bytes e → RefusesSlice terms sizes marks bytes e
+slice_told terms sizes marks new bytes errors.Truncated m t = absurd (no_truncation (terms_at terms) sizes bytes t.0 t.1)
+slice_told terms sizes marks new bytes errors.DiskFailed m t = record { disk = m.disk; unsteady = m.unsteady }
+slice_told terms sizes marks new bytes errors.NoMemory m t = tt
+slice_told terms sizes marks new bytes _ m t = t
 
-pub slice_cut : (base : ℕ) (sizes : List ℕ) (marks : List Marks) (bytes : List ℕ) (e : RecvError) → IsFinish bytes e → NoFault (ram_at base) sizes bytes → RefusesSlice base sizes marks bytes e
-slice_cut base sizes marks bytes errors.Truncated h n = (n, h)
-slice_cut base sizes marks bytes _ h n = absurd h
+pub slice_cut : (terms : Terms) (sizes : List ℕ) (marks : List Marks) (bytes : List ℕ) (e : RecvError) → IsFinish bytes e → NoFault (terms_at terms) sizes bytes → RefusesSlice terms sizes marks bytes e
+slice_cut terms sizes marks bytes errors.Truncated h n = (n, h)
+slice_cut terms sizes marks bytes _ h n = absurd h
 
 -- What is told of a first piece is told of the slice.
 pub told_at_once : (ram : RamTerms) (sizes bytes : List ℕ) (e : RecvError) → TellsNow ram sizes [] bytes e → TellsFault ram sizes bytes e

@@ -32,7 +32,7 @@ use Rattle.receiver.proofs.Streams.{digest_bytes}
 use Rattle.receiver.proofs.Working.{commit_text, front_at, front_of}
 
 -- Bytes of which no whole header was read.
-pub not_whole_head : (ram : RamTerms) (sizes held : List ℕ) → WaitsHead held → ¬ (IsWholeFor ram sizes held)
+pub not_whole_head : (ram : RamTerms) (sizes held : List ℕ) → WaitsHead ram.limits held → ¬ (IsWholeFor ram sizes held)
 not_whole_head ram sizes held w h = w.no_header (said_by h.opening) (texts h.before ++ spelled_record (commit (sha256 (opened_header h.opening ++ texts h.before)))) h.front.begins
 
 -- Bytes that go on after the last whole record. Were they whole, their last record would be a whole one that follows.
@@ -96,6 +96,7 @@ ends_refused old x refused told lacking already back = record {
   received = tt;
   marks = tt;
   based = tt;
+  within = tt;
   fits = tt;
   refused = refused;
   whole = tt;

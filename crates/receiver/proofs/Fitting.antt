@@ -8,4 +8,4 @@ use Rattle.machine.specs.declared.shape.Shape.{Shape}
 pub record IsNumbered (pages : ℕ) (shapes : List Shape) (i : ℕ) (firsts : List ℕ) (first : ℕ) : Type 0 where
   pub firsts_are : firsts ++ firsts_from first (map sector_count (drop i shapes)) ≡ firsts_from pages (map sector_count shapes)
   pub size_is : size_from first (map sector_count (drop i shapes)) ≡ size_from pages (map sector_count shapes)
-  pub few : first ≤ 16384 + 2097152 * i
+  pub few : first ≤ 4294967295 + 4294967295 * i

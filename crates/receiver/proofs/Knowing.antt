@@ -36,6 +36,8 @@ use Rattle.receiver.specs.Receiving.{IsArrived, IsKnown, IsTaken, IsWholeFor, No
 use Rattle.receiver.specs.declared.intake.Intake.{Intake}
 use Rattle.receiver.specs.declared.stage.Stage.{Stage}
 use Rattle.receiver.specs.declared.stage.Stage.TheVariants as stages
+use Rattle.machine.specs.Limits.{IsShapeWithin, IsWithinLimits}
+use Rattle.machine.specs.declared.limits.Limits.{Limits}
 use Rattle.receiver.specs.declared.ram_terms.RamTerms.{RamTerms}
 use Rattle.receiver.specs.declared.recv_error.RecvError.{RecvError}
 use Rattle.receiver.proofs.Aligned.{no_record_fault, not_early}
@@ -45,8 +47,8 @@ use Rattle.receiver.proofs.Quiet.{no_page, quiet}
 use Rattle.receiver.proofs.Steps.{devices_are}
 use Rattle.receiver.proofs.Working.{commit_text, front_at, front_of}
 
-pub nothing_known : WaitsHead []
-nothing_known = waits_head [] (head_short [] (omega arith) (λ at h. omega (arith, h.long)) (λ at h. omega (arith, h.long)))
+pub nothing_known : (limits : Limits) → WaitsHead limits []
+nothing_known limits = waits_head limits [] (head_short limits [] (omega arith) (λ at h. omega (arith, h.long)) (λ at h. omega (arith, h.long)))
 
 -- The digest is no other record, and has no fault.
 
@@ -79,11 +81,11 @@ end_quiet opening before digest complete is =
 pub quiet_front : (ram : RamTerms) (sizes bytes : List ℕ) (opening : Opened) (before : List Record) (tail : List ℕ) → IsFront ram sizes bytes opening before tail
     → ((r : Record) (y : List ℕ) → IsNextRecord opening before r → ¬ (tail ≡ spelled_record r ++ y)) → ((k : RecvError) (place : ℕ) → ¬ (IsFault opening before tail k place))
     → NoFault ram sizes bytes
-quiet_front ram sizes bytes opening before tail front none quiets k at (inl h) = no_header_fault ram sizes bytes (said_by opening) (texts before ++ tail) front.begins front.fits front.suits k at h
+quiet_front ram sizes bytes opening before tail front none quiets k at (inl h) = no_header_fault ram sizes bytes (said_by opening) (texts before ++ tail) front.begins front.within front.fits front.suits k at h
 quiet_front ram sizes bytes opening before tail front none quiets k at (inr h) = no_record_fault ram sizes bytes opening before tail front none quiets k at h
 
-no_fault_head : (ram : RamTerms) (sizes held : List ℕ) → WaitsHead held → NoFault ram sizes held
-no_fault_head ram sizes held w k at (inl h) = w.no_fault ram sizes k at h
+no_fault_head : (ram : RamTerms) (sizes held : List ℕ) → WaitsHead ram.limits held → NoFault ram sizes held
+no_fault_head ram sizes held w k at (inl h) = w.no_fault ram sizes k at refl h
 no_fault_head ram sizes held w k at (inr h) = w.no_header (said_by h.opening) (texts h.before ++ h.tail) h.front.begins
 
 no_fault_reading : (ram : RamTerms) (ds : List DiskState) (front held : List ℕ) (i : Intake) → IsReading ram ds front held i → NoFault ram (sizes_in ds) (front ++ held)
@@ -193,6 +195,15 @@ here_sound {ds = ds} {i = i} h all are sectors = read_sound (marked_sectors ds i
 
 sent_sound : {ds : List DiskState} {front : List ℕ} {opening : Opened} {before : List Record} {i : Intake} (h : HasRead ds opening before i front) → devices_in before ≡ length opening.shapes → IsBytes i.ram.bytes → IsSound (read_machine i h.sectors)
 sent_sound {ds = ds} {i = i} h all are = read_sound h.sectors h all are (written_sizes ds i.bad.items h.sectors h.written) h.written.whole
+
+-- The machine that was read is within the limits.
+pub read_within : {ds : List DiskState} {front : List ℕ} {opening : Opened} {before : List Record} {i : Intake} (sectors : List (List Sector)) → HasRead ds opening before i front → devices_in before ≡ length opening.shapes → IsWithinLimits opening.ram.limits (read_machine i sectors)
+read_within {opening = opening} {i = i} sectors h all =
+    let size : length i.ram.bytes / 4096 ≡ opening.pages = omega (arith, h.taken.ram_size) in
+    record {
+      few_pages = subst (λ (n : ℕ). n ≤ opening.ram.limits.pages) (sym size) h.within.few_pages;
+      few_sectors = subst (λ (shapes : List Shape). All (IsShapeWithin opening.ram.limits) shapes) (sym (whole_shapes h all)) h.within.few_sectors;
+    }
 
 -- Its layout is that of the header.
 pub read_layout : {ds : List DiskState} {front : List ℕ} {opening : Opened} {before : List Record} {i : Intake} (h : HasRead ds opening before i front) → devices_in before ≡ length opening.shapes → IsSound (read_machine i h.sectors)

@@ -38,7 +38,7 @@ pub head_not_failed : (stage : Stage) → stage ≡ stages.Head → has_failed s
 head_not_failed stage e = ap has_failed e
 
 -- The header was read before, or is not whole.
-pub not_opened : (r : ReaderSeen) (bytes : List ℕ) → (r.stage ≡ stages.Head → WaitsHead bytes × (length bytes ≤ 495)) → ReadsHeader r bytes (Ok 0) r
+pub not_opened : (r : ReaderSeen) (bytes : List ℕ) → (r.stage ≡ stages.Head → WaitsHead r.ram.limits bytes × (length bytes ≤ 495)) → ReadsHeader r bytes (Ok 0) r
 not_opened r bytes waits = record {
   ram = refl;
   disks = refl;

@@ -6,11 +6,11 @@ use Rattle.std.specs.List.{AllByRecursion}
 use Rattle.sha2.specs.Sha256.{sha256}
 use Rattle.sha2.proofs.Facts256.{length-sha256}
 use Rattle.wire.specs.Header.{spelled_shapes}
-use Rattle.receiver.specs.Opened.{Opened, opened_header, ram_at, said_by}
+use Rattle.receiver.specs.Opened.{Opened, opened_header, said_by, terms_at}
 use Rattle.wire.specs.Header as told
 use Rattle.wire.specs.Records.{Record, spelled_record}
 use Rattle.wire.specs.Stream.{texts}
-use Rattle.machine.specs.Sound.{IsSoundShape}
+use Rattle.machine.specs.declared.limits.Limits.{Limits}
 use Rattle.machine.specs.declared.shape.Shape.{Shape}
 use Rattle.wire.proofs.PartLengths.{length_header}
 use Rattle.wire.proofs.Spelling.{head_same, tail_same, split_same, number_same}
@@ -22,8 +22,8 @@ use Rattle.receiver.specs.declared.recv_error.RecvError.{RecvError}
 use Rattle.receiver.specs.declared.recv_error.RecvError.TheVariants as errors
 use Rattle.receiver.proofs.Quiet.{no_page}
 use Rattle.receiver.proofs.Aligned.{one_opening, LongerRecords, records_led, good_spell, next_good, no_fault_here}
-use Rattle.wire.specs.HeaderFaults.{IsBadMagic, IsBadVersion, IsBadCount, IsBadShape, IsNoShape}
-use Rattle.wire.proofs.HeaderParts.{header_same, says_of, shapes_led, sound_behind, LongerShapes, bad_lengths, no_bad_spelled}
+use Rattle.wire.specs.HeaderFaults.{IsBadMagic, IsBadVersion, IsBadCount, IsBadShape, IsNoShape, IsShapeFor}
+use Rattle.wire.proofs.HeaderParts.{are_sound, header_same, says_of, shapes_led, sound_behind, LongerShapes, bad_lengths, no_bad_spelled}
 use Rattle.receiver.proofs.Heads.{no_header_fault}
 
 abbrev pub Same : RecvError → ℕ → RecvError → ℕ → Type 0
@@ -148,17 +148,17 @@ one_record_fault ram sizes bytes k j at bt f h =
 
 -- Headers.
 
-bad_first : (ss : List Shape) (bad other x y : List ℕ) → AllByRecursion IsSoundShape ss → IsNoShape bad → IsNoShape other → bad ++ x ≡ spelled_shapes ss ++ (other ++ y) → (ss ≡ []) × (length bad ≡ length other)
-bad_first [] bad other x y good n m e = (refl, bad_lengths bad other x y n m e)
-bad_first (s ∷ ss) bad other x y good n m e = absurd (no_bad_spelled s bad x (spelled_shapes ss ++ (other ++ y)) good.0 n (e ∙ append_assoc _ (spelled_shapes ss) (other ++ y)))
+bad_first : (limits : Limits) (ss : List Shape) (bad other x y : List ℕ) → AllByRecursion (IsShapeFor limits) ss → IsNoShape limits bad → IsNoShape limits other → bad ++ x ≡ spelled_shapes ss ++ (other ++ y) → (ss ≡ []) × (length bad ≡ length other)
+bad_first limits [] bad other x y good n m e = (refl, bad_lengths limits bad other x y n m e)
+bad_first limits (s ∷ ss) bad other x y good n m e = absurd (no_bad_spelled limits s bad x (spelled_shapes ss ++ (other ++ y)) good.0 n (e ∙ append_assoc _ (spelled_shapes ss) (other ++ y)))
 
-shapes_one : (ss ts : List Shape) (bad other x y : List ℕ) → All IsSoundShape ss → All IsSoundShape ts → IsNoShape bad → IsNoShape other → LongerShapes ss ts (bad ++ x) (other ++ y) ⊎ LongerShapes ts ss (other ++ y) (bad ++ x) → (length (spelled_shapes ss) + length bad ≡ length (spelled_shapes ts) + length other)
-shapes_one ss ts bad other x y h k n m (inl l) =
-    let o = bad_first l.more bad other x y (sound_behind ss l.more ts l.all k) n m l.left in
+shapes_one : (limits : Limits) (ss ts : List Shape) (bad other x y : List ℕ) → All (IsShapeFor limits) ss → All (IsShapeFor limits) ts → IsNoShape limits bad → IsNoShape limits other → LongerShapes ss ts (bad ++ x) (other ++ y) ⊎ LongerShapes ts ss (other ++ y) (bad ++ x) → (length (spelled_shapes ss) + length bad ≡ length (spelled_shapes ts) + length other)
+shapes_one limits ss ts bad other x y h k n m (inl l) =
+    let o = bad_first limits l.more bad other x y (sound_behind (IsShapeFor limits) ss l.more ts l.all k) n m l.left in
     let same : ts ≡ ss = l.all ∙ ap (λ (z : List Shape). ss ++ z) o.0 ∙ append-nil ss in
     omega (arith, o.1, ap (λ (z : List Shape). length (spelled_shapes z)) same)
-shapes_one ss ts bad other x y h k n m (inr l) =
-    let o = bad_first l.more other bad y x (sound_behind ts l.more ss l.all h) m n l.left in
+shapes_one limits ss ts bad other x y h k n m (inr l) =
+    let o = bad_first limits l.more other bad y x (sound_behind (IsShapeFor limits) ts l.more ss l.all h) m n l.left in
     let same : ss ≡ ts = l.all ∙ ap (λ (z : List Shape). ts ++ z) o.0 ∙ append-nil ts in
     omega (arith, o.1, ap (λ (z : List Shape). length (spelled_shapes z)) same)
 
@@ -178,20 +178,20 @@ one_version ram sizes bytes p f errors.BadShape q (inr h) = absurd (f.never h.sa
 one_version ram sizes bytes p f errors.ShapeMismatch q h = absurd (f.never (says_of h.begins).known)
 one_version ram sizes bytes p f _ q h = absurd h
 
-one_count : (ram : RamTerms) (sizes bytes : List ℕ) (p : ℕ) → IsBadCount bytes p → (j : RecvError) (q : ℕ) → IsHeaderFault ram sizes bytes j q → Same errors.BadShape p j q
+one_count : (ram : RamTerms) (sizes bytes : List ℕ) (p : ℕ) → IsBadCount ram.limits bytes p → (j : RecvError) (q : ℕ) → IsHeaderFault ram sizes bytes j q → Same errors.BadShape p j q
 one_count ram sizes bytes p f errors.BadMagic q h = absurd (h.never f.says.magic)
 one_count ram sizes bytes p f errors.BadVersion q h = absurd (h.never f.says.known)
 one_count ram sizes bytes p f errors.BadShape q (inl h) = (refl, f.there ∙ sym h.there)
 one_count ram sizes bytes p f errors.BadShape q (inr h) = absurd (f.never (rw (sym f.says.pages_are ∙ h.says.pages_are, sym f.says.count_is ∙ h.says.count_is) h.may))
-one_count ram sizes bytes p f errors.ShapeMismatch q h = absurd (no_header_fault (ram_at 0) (disk_sizes h.opening.shapes) bytes h.opening h.more h.begins refl tt errors.BadShape p (inl f))
+one_count ram sizes bytes p f errors.ShapeMismatch q h = absurd (no_header_fault (terms_at (record { base = 0; limits = ram.limits })) (disk_sizes h.opening.shapes) bytes h.opening h.more h.begins h.within refl tt errors.BadShape p (inl f))
 one_count ram sizes bytes p f _ q h = absurd h
 
-one_shape_fault : (ram : RamTerms) (sizes bytes : List ℕ) (p : ℕ) → IsBadShape bytes p → (j : RecvError) (q : ℕ) → IsHeaderFault ram sizes bytes j q → Same errors.BadShape p j q
+one_shape_fault : (ram : RamTerms) (sizes bytes : List ℕ) (p : ℕ) → IsBadShape ram.limits bytes p → (j : RecvError) (q : ℕ) → IsHeaderFault ram sizes bytes j q → Same errors.BadShape p j q
 one_shape_fault ram sizes bytes p f errors.BadMagic q h = absurd (h.never f.says.magic)
 one_shape_fault ram sizes bytes p f errors.BadVersion q h = absurd (h.never f.says.known)
 one_shape_fault ram sizes bytes p f errors.BadShape q (inl h) = absurd (h.never (rw (sym h.says.pages_are ∙ f.says.pages_are, sym h.says.count_is ∙ f.says.count_is) f.may))
-one_shape_fault ram sizes bytes p f errors.BadShape q (inr h) = (refl, omega (arith, f.there, h.there, shapes_one f.shapes h.shapes f.bad h.bad f.more h.more f.sound h.sound f.never h.never (shapes_led f.shapes h.shapes (f.bad ++ f.more) (h.bad ++ h.more) f.sound h.sound (sym f.whole ∙ h.whole))))
-one_shape_fault ram sizes bytes p f errors.ShapeMismatch q h = absurd (no_header_fault (ram_at 0) (disk_sizes h.opening.shapes) bytes h.opening h.more h.begins refl tt errors.BadShape p (inr f))
+one_shape_fault ram sizes bytes p f errors.BadShape q (inr h) = (refl, omega (arith, f.there, h.there, shapes_one ram.limits f.shapes h.shapes f.bad h.bad f.more h.more f.sound h.sound f.never h.never (shapes_led f.shapes h.shapes (f.bad ++ f.more) (h.bad ++ h.more) (are_sound ram.limits f.shapes f.sound) (are_sound ram.limits h.shapes h.sound) (sym f.whole ∙ h.whole))))
+one_shape_fault ram sizes bytes p f errors.ShapeMismatch q h = absurd (no_header_fault (terms_at (record { base = 0; limits = ram.limits })) (disk_sizes h.opening.shapes) bytes h.opening h.more h.begins h.within refl tt errors.BadShape p (inr f))
 one_shape_fault ram sizes bytes p f _ q h = absurd h
 
 header_length : {bytes x y : List ℕ} {o p : told.Opening} → told.Begins bytes o x → told.Begins bytes p y → length (told.header o) ≡ length (told.header p)
@@ -200,8 +200,8 @@ header_length {o = o} {p = p} a b = omega (arith, length_header o, length_header
 one_mismatch : (ram : RamTerms) (sizes bytes : List ℕ) (p : ℕ) → IsMismatch ram sizes bytes p → (j : RecvError) (q : ℕ) → IsHeaderFault ram sizes bytes j q → Same errors.ShapeMismatch p j q
 one_mismatch ram sizes bytes p f errors.BadMagic q h = absurd (h.never (says_of f.begins).magic)
 one_mismatch ram sizes bytes p f errors.BadVersion q h = absurd (h.never (says_of f.begins).known)
-one_mismatch ram sizes bytes p f errors.BadShape q (inl h) = absurd (no_header_fault (ram_at 0) (disk_sizes f.opening.shapes) bytes f.opening f.more f.begins refl tt errors.BadShape q (inl h))
-one_mismatch ram sizes bytes p f errors.BadShape q (inr h) = absurd (no_header_fault (ram_at 0) (disk_sizes f.opening.shapes) bytes f.opening f.more f.begins refl tt errors.BadShape q (inr h))
+one_mismatch ram sizes bytes p f errors.BadShape q (inl h) = absurd (no_header_fault (terms_at (record { base = 0; limits = ram.limits })) (disk_sizes f.opening.shapes) bytes f.opening f.more f.begins f.within refl tt errors.BadShape q (inl h))
+one_mismatch ram sizes bytes p f errors.BadShape q (inr h) = absurd (no_header_fault (terms_at (record { base = 0; limits = ram.limits })) (disk_sizes f.opening.shapes) bytes f.opening f.more f.begins f.within refl tt errors.BadShape q (inr h))
 one_mismatch ram sizes bytes p f errors.ShapeMismatch q h = (refl, f.there ∙ header_length f.begins h.begins ∙ sym h.there)
 one_mismatch ram sizes bytes p f _ q h = absurd h
 
@@ -215,6 +215,6 @@ one_header_fault ram sizes bytes _ p f = absurd f
 
 pub one_fault : (ram : RamTerms) (sizes bytes : List ℕ) (k j : RecvError) (at bt : ℕ) → Fault ram sizes bytes k at → Fault ram sizes bytes j bt → Same k at j bt
 one_fault ram sizes bytes k j at bt (inl f) (inl h) = one_header_fault ram sizes bytes k at f j bt h
-one_fault ram sizes bytes k j at bt (inl f) (inr h) = absurd (no_header_fault ram sizes bytes (said_by h.opening) (texts h.before ++ h.tail) h.front.begins h.front.fits h.front.suits k at f)
-one_fault ram sizes bytes k j at bt (inr f) (inl h) = absurd (no_header_fault ram sizes bytes (said_by f.opening) (texts f.before ++ f.tail) f.front.begins f.front.fits f.front.suits j bt h)
+one_fault ram sizes bytes k j at bt (inl f) (inr h) = absurd (no_header_fault ram sizes bytes (said_by h.opening) (texts h.before ++ h.tail) h.front.begins h.front.within h.front.fits h.front.suits k at f)
+one_fault ram sizes bytes k j at bt (inr f) (inl h) = absurd (no_header_fault ram sizes bytes (said_by f.opening) (texts f.before ++ f.tail) f.front.begins f.front.within f.front.fits f.front.suits j bt h)
 one_fault ram sizes bytes k j at bt (inr f) (inr h) = one_record_fault ram sizes bytes k j at bt f h

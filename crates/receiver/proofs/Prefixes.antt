@@ -108,7 +108,7 @@ header_stays ram sizes b c errors.BadMagic p h = record { long = omega (arith, h
 header_stays ram sizes b c errors.BadVersion p h = record { long = omega (arith, h.long, length-append b c); magic = number_at-append 0 4 b c (omega (arith, h.long)) ∙ h.magic; never = λ e. h.never (subst IsVersion (number_at-append 4 4 b c (omega (arith, h.long))) e); there = h.there }
 header_stays ram sizes b c errors.BadShape p (inl h) = inl (record { pages = h.pages; count = h.count; says = says_on b c h.pages h.count h.says; never = h.never; there = h.there })
 header_stays ram sizes b c errors.BadShape p (inr h) = inr (record { pages = h.pages; count = h.count; shapes = h.shapes; bad = h.bad; more = h.more ++ c; says = says_on b c h.pages h.count h.says; may = h.may; fewer = h.fewer; sound = h.sound; whole = drop-append-le 16 b c h.says.long ∙ ap (λ (x : List ℕ). x ++ c) h.whole ∙ append_assoc (spelled_shapes h.shapes) (h.bad ++ h.more) c ∙ ap (λ (x : List ℕ). spelled_shapes h.shapes ++ x) (append_assoc h.bad h.more c); never = h.never; there = h.there })
-header_stays ram sizes b c errors.ShapeMismatch p h = record { opening = h.opening; more = h.more ++ c; begins = record { good = h.begins.good; whole = ap (λ (x : List ℕ). x ++ c) h.begins.whole ∙ append_assoc (told.header h.opening) h.more c }; never = h.never; there = h.there }
+header_stays ram sizes b c errors.ShapeMismatch p h = record { opening = h.opening; more = h.more ++ c; begins = record { good = h.begins.good; whole = ap (λ (x : List ℕ). x ++ c) h.begins.whole ∙ append_assoc (told.header h.opening) h.more c }; never = h.never; within = h.within; there = h.there }
 header_stays ram sizes b c _ p h = absurd h
 
 header_holds : (ram : RamTerms) (sizes b c : List ℕ) (k : RecvError) (p : ℕ) → p ≤ length b → IsHeaderFault ram sizes (b ++ c) k p → IsHeaderFault ram sizes b k p
@@ -121,7 +121,7 @@ header_holds ram sizes b c errors.BadShape p le (inr h) =
     inr (record { pages = h.pages; count = h.count; shapes = h.shapes; bad = h.bad; more = d.w; says = says_at b c h.pages h.count long h.says; may = h.may; fewer = h.fewer; sound = h.sound; whole = d.left ∙ append_assoc (spelled_shapes h.shapes) h.bad d.w; never = h.never; there = h.there })
 header_holds ram sizes b c errors.ShapeMismatch p le h =
     let d = behind b c (told.header h.opening) h.more h.begins.whole (omega (arith, le, h.there)) in
-    record { opening = h.opening; more = d.w; begins = record { good = h.begins.good; whole = d.left }; never = h.never; there = h.there }
+    record { opening = h.opening; more = d.w; begins = record { good = h.begins.good; whole = d.left }; within = h.within; never = h.never; there = h.there }
 header_holds ram sizes b c _ p le h = absurd h
 
 record_stays : (ram : RamTerms) (sizes b c : List ℕ) (k : RecvError) (at : ℕ) → IsRecordFault ram sizes b k at → IsRecordFault ram sizes (b ++ c) k at
@@ -138,6 +138,7 @@ record_stays ram sizes b c k at h = record {
     based = h.front.based;
     fits = h.front.fits;
     suits = h.front.suits;
+    within = h.front.within;
     good = h.front.good;
   };
   fault = stays_here h.opening h.before h.tail c k h.place h.fault;
@@ -154,7 +155,7 @@ record_holds ram sizes b c k at le h =
       before = h.before;
       tail = d.w;
       place = h.place;
-      front = record { begins = record { good = h.front.begins.good; whole = d.left ∙ append_assoc (opened_header h.opening) (texts h.before) d.w }; based = h.front.based; fits = h.front.fits; suits = h.front.suits; good = h.front.good };
+      front = record { begins = record { good = h.front.begins.good; whole = d.left ∙ append_assoc (opened_header h.opening) (texts h.before) d.w }; based = h.front.based; fits = h.front.fits; suits = h.front.suits; within = h.front.within; good = h.front.good };
       fault = holds_here h.opening h.before d.w c k h.place (omega (arith, le, h.there, ap length d.left, length-append front d.w)) fault;
       there = h.there;
     }

@@ -4,7 +4,7 @@ use Rattle.std.proofs.lemmas.List.{take_at, length-append, length-drop, length-r
 use Rattle.std.proofs.Math.Seq.{take-add}
 use Rattle.sha2.specs.Sha256.{sha256}
 use Rattle.sha2.specs.declared.Sha256.{Sha256}
-use Rattle.receiver.specs.Opened.{BeginsOpened, HasPages, Opened, opened_header, opened_layout, ram_at, said_by}
+use Rattle.receiver.specs.Opened.{BeginsOpened, HasPages, Opened, opened_header, opened_layout, said_by, terms_at}
 use Rattle.wire.specs.Records.{Record}
 use Rattle.wire.specs.Stream.{texts, rounds}
 use Rattle.blk.specs.Disk.{AreSectors, DiskState}
@@ -16,9 +16,11 @@ use Rattle.receiver.proofs.Takings.{new_taken}
 use Rattle.receiver.specs.Good.{AreGood}
 use Rattle.machine.specs.Shapes.{disk_sizes}
 use Rattle.receiver.specs.Disks.{AreRefused, sizes_in}
-use Rattle.receiver.specs.Faults.{IsComplete, IsTrailing, IsHeaderFault, Fault, TellsHead}
+use Rattle.receiver.specs.Faults.{ShowsHeaderFault, IsComplete, IsTrailing, IsHeaderFault, Fault, TellsHead}
 use Rattle.receiver.specs.Fed.{AreWritten, HasRead, IsReadWhole, IsUpTo, Tells, device_records}
 use Rattle.receiver.specs.declared.intake.Intake.{Intake}
+use Rattle.machine.specs.Limits.{AreWithin}
+use Rattle.machine.specs.declared.limits.Limits.{Limits}
 use Rattle.receiver.specs.declared.ram_terms.RamTerms.{RamTerms}
 use Rattle.receiver.specs.declared.recv_error.RecvError.{RecvError}
 use Rattle.receiver.specs.declared.recv_error.RecvError.TheVariants as errors
@@ -37,13 +39,14 @@ new_written ds bad whole is =
     let marks : AreMarksOf ds bad = rw is (new_marks_fit (sizes_in ds)) in
     record { marks = marks; whole = marked_whole ds bad whole; bad_are = marked_bad ds bad marks; held = λ honest. refl }
 
-pub new_read : (ds : List DiskState) (bytes rest : List ℕ) (opening : Opened) (i : Intake) → BeginsOpened bytes opening rest → sizes_in ds ≡ disk_sizes opening.shapes → HasPages opening.ram opening.pages → length i.ram.bytes ≡ 4096 * opening.pages → i.named ≡ replicate (size_of (opened_layout opening)) false → i.rounds ≡ 0
+pub new_read : (ds : List DiskState) (bytes rest : List ℕ) (opening : Opened) (i : Intake) → BeginsOpened bytes opening rest → sizes_in ds ≡ disk_sizes opening.shapes → HasPages opening.ram opening.pages → AreWithin opening.ram.limits opening.pages opening.shapes → length i.ram.bytes ≡ 4096 * opening.pages → i.named ≡ replicate (size_of (opened_layout opening)) false → i.rounds ≡ 0
     → i.terms.version ≡ opening.version → i.terms.ram ≡ opening.ram → i.shapes.items ≡ opening.shapes → i.devices.items ≡ [] → i.firsts.items ≡ firsts_of (opened_layout opening) → i.bad.items ≡ map (λ n. replicate n false) (sizes_in ds) → All (λ (d : DiskState). AreSectors d.sectors) ds → HasRead ds opening [] i (opened_header opening)
 unfolding AreGood texts rounds device_records
-new_read ds bytes rest opening i b fits suits size marks ends version based same none firsts bad whole = record {
+new_read ds bytes rest opening i b fits suits within size marks ends version based same none firsts bad whole = record {
   head = b.good;
   fits = fits;
   suits = suits;
+  within = within;
   good = tt;
   whole = sym (append-nil (opened_header opening));
   version_is = version;
@@ -68,19 +71,19 @@ head_taken held opening len le b =
     let size : length (opened_header opening) ≡ len = omega (arith, le, ap length b.whole, length-append (opened_header opening) (drop len held), length-drop len held) in
     ap (take len) b.whole ∙ take_at (opened_header opening) (drop len held) len size
 
-pub mismatch : (ram : RamTerms) (sizes held rest : List ℕ) (opening : Opened) → BeginsOpened held opening rest → ¬ ((sizes ≡ disk_sizes opening.shapes) × HasPages ram opening.pages) → (at : ℕ) × Fault ram sizes held errors.ShapeMismatch at
-mismatch ram sizes held rest opening b never = (length (opened_header opening), inl (record { opening = said_by opening; more = rest; begins = b; never = never; there = refl }))
+pub mismatch : (ram : RamTerms) (sizes held rest : List ℕ) (opening : Opened) → BeginsOpened held opening rest → AreWithin ram.limits opening.pages opening.shapes → ¬ ((sizes ≡ disk_sizes opening.shapes) × HasPages ram opening.pages) → (at : ℕ) × Fault ram sizes held errors.ShapeMismatch at
+mismatch ram sizes held rest opening b within never = (length (opened_header opening), inl (record { opening = said_by opening; more = rest; begins = b; within = within; never = never; there = refl }))
 
-header_told : (ram : RamTerms) (sizes held : List ℕ) (e : RecvError) → TellsHead e ((ram : RamTerms) (sizes : List ℕ) → (at : ℕ) × IsHeaderFault ram sizes held e at) → Tells e ((at : ℕ) × Fault ram sizes held e at)
+header_told : (ram : RamTerms) (sizes held : List ℕ) (e : RecvError) → TellsHead e (ShowsHeaderFault ram.limits held e) → Tells e ((at : ℕ) × Fault ram sizes held e at)
 header_told ram sizes held errors.DiskFailed f = tt
 header_told ram sizes held errors.NoMemory f = tt
-header_told ram sizes held _ f = ((f ram sizes).0, inl (f ram sizes).1)
+header_told ram sizes held _ f = ((f ram sizes refl).0, inl (f ram sizes refl).1)
 
-never_disk_head : (held : List ℕ) (e : RecvError) → TellsHead e ((ram : RamTerms) (sizes : List ℕ) → (at : ℕ) × IsHeaderFault ram sizes held e at) → e ≢ errors.DiskFailed
-never_disk_head held e f same = let g : (ram : RamTerms) (sizes : List ℕ) → (at : ℕ) × IsHeaderFault ram sizes held errors.DiskFailed at = rw same at f in (g (ram_at 0) []).1
+never_disk_head : (limits : Limits) (held : List ℕ) (e : RecvError) → TellsHead e (ShowsHeaderFault limits held e) → e ≢ errors.DiskFailed
+never_disk_head limits held e f same = let g : ShowsHeaderFault limits held errors.DiskFailed = rw same at f in (g (terms_at (record { base = 0; limits = limits })) [] refl).1
 
-pub header_refused : (ram : RamTerms) (ds : List DiskState) (held : List ℕ) (e : RecvError) → TellsHead e ((ram : RamTerms) (sizes : List ℕ) → (at : ℕ) × IsHeaderFault ram sizes held e at) → AreRefused ds ds e × Tells e ((at : ℕ) × Fault ram (sizes_in ds) held e at)
-header_refused ram ds held e t = (refused_kept ds e (never_disk_head held e t), header_told ram (sizes_in ds) held e t)
+pub header_refused : (ram : RamTerms) (ds : List DiskState) (held : List ℕ) (e : RecvError) → TellsHead e (ShowsHeaderFault ram.limits held e) → AreRefused ds ds e × Tells e ((at : ℕ) × Fault ram (sizes_in ds) held e at)
+header_refused ram ds held e t = (refused_kept ds e (never_disk_head ram.limits held e t), header_told ram (sizes_in ds) held e t)
 
 -- The records after the header, which has `len` bytes.
 headed : (len at : ℕ) (bytes : List ℕ) → take len bytes ++ take at (drop len bytes) ≡ take (len + at) bytes

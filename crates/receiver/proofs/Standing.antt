@@ -315,6 +315,7 @@ ended_on ds opening before i ended front h = record {
   head = h.head;
   fits = h.fits;
   suits = h.suits;
+  within = h.within;
   good = h.good;
   whole = h.whole;
   version_is = h.version_is;

@@ -31,7 +31,7 @@ use Rattle.receiver.specs.Good.{AreGood, AreNamed, IsNextRecord, devices_in}
 use Rattle.receiver.specs.Faults.{MayTag}
 use Rattle.receiver.specs.Fed.{AreWritten, HasRead, device_records}
 use Rattle.receiver.specs.declared.intake.Intake.{Intake}
-use Rattle.receiver.specs.declared.intake.Terms.{Terms}
+use Rattle.receiver.specs.declared.intake.ReadTerms.{ReadTerms}
 
 pub good-snoc : (opening : Opened) (acc rs : List Record) (r : Record) → AreGood opening acc rs → IsNextRecord opening (acc ++ rs) r → AreGood opening acc (rs ++ r ∷ [])
 unfolding AreGood
@@ -95,10 +95,11 @@ more_entry ds ds2 front opening before i j r sectors h none follows entry number
       head = h.head;
       fits = sizes ∙ h.fits;
       suits = h.suits;
+      within = h.within;
       good = good-snoc opening [] before r h.good follows;
       whole = texts_more front (opened_header opening) before r h.whole;
-      version_is = ap (λ (x : Terms). x.version) same.terms ∙ h.version_is;
-      ram_is = ap (λ (x : Terms). x.ram) same.terms ∙ h.ram_is;
+      version_is = ap (λ (x : ReadTerms). x.version) same.terms ∙ h.version_is;
+      ram_is = ap (λ (x : ReadTerms). x.ram) same.terms ∙ h.ram_is;
       shapes_are = same.shapes ∙ h.shapes_are;
       firsts_are = same.firsts ∙ h.firsts_are;
       sectors = sectors;
@@ -242,10 +243,11 @@ more_device ds front opening others shape before i j n raw d h named spells next
       head = h.head;
       fits = h.fits;
       suits = h.suits;
+      within = h.within;
       good = good-snoc opening [] before r h.good (record { spells = spells; has = tt; may = record { named = named; next = next; shape = shape; others = others; here = here; state = d; is = is } });
       whole = texts_more front (opened_header opening) before r h.whole;
-      version_is = ap (λ (x : Terms). x.version) same_terms ∙ h.version_is;
-      ram_is = ap (λ (x : Terms). x.ram) same_terms ∙ h.ram_is;
+      version_is = ap (λ (x : ReadTerms). x.version) same_terms ∙ h.version_is;
+      ram_is = ap (λ (x : ReadTerms). x.ram) same_terms ∙ h.ram_is;
       shapes_are = same_shapes ∙ h.shapes_are;
       firsts_are = same_firsts ∙ h.firsts_are;
       sectors = h.sectors;

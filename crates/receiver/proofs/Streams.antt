@@ -1,4 +1,5 @@
 -- A stream that is not whole.
+use Rattle.machine.specs.declared.limits.Limits.{Limits}
 use Rattle.receiver.specs.declared.ram_terms.RamTerms.{RamTerms}
 use Rattle.std.proofs.Common.{◌≡◌, ℕ, suc, ◌+◌, ◌≤◌, ◌⊎◌, inl, inr, List, [], ◌∷◌, ◌++◌, length, refl, sym, ap, subst, ◌∙◌, append_assoc, append-nil, arith}
 use Rattle.std.proofs.lemmas.List.{drop_at}
@@ -72,7 +73,7 @@ not_led : (opening : Opened) (before others : List Record) (tail digest : List �
 not_led opening before others tail digest good spell none other (inl l) = not_led_on opening.version l.more tail (5 ∷ digest) none (spell_behind opening.version before l.more (rw l.all at spell)) other l.left
 not_led opening before others tail digest good spell none other (inr l) = not_led_off opening before others l.more tail digest good l.all other l.left
 
-pub no_stream_head : (held : List ℕ) (m : MachineState) → WaitsHead held → ¬ (IsStream held m)
+pub no_stream_head : {limits : Limits} (held : List ℕ) (m : MachineState) → WaitsHead limits held → ¬ (IsStream held m)
 no_stream_head held m w s = w.no_header (opening_in s.version (pages_of m) m.devices) _ (stream_begins s.by)
 
 pub no_stream_reading : (ram : RamTerms) (ds : List DiskState) (read tail held : List ℕ) (i : Intake) (m : MachineState) → IsBytes held → held ≡ read ++ tail → IsReading ram ds read tail i → ¬ (IsStream held m)

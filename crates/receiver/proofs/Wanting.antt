@@ -75,7 +75,7 @@ device_on ram sizes b c all low from h e le =
       number = h.number;
       body = h.body;
       more = h.more ++ c;
-      front = record { begins = record { good = h.front.begins.good; whole = parts }; based = h.front.based; fits = h.front.fits; suits = h.front.suits; good = h.front.good };
+      front = record { begins = record { good = h.front.begins.good; whole = parts }; based = h.front.based; fits = h.front.fits; suits = h.front.suits; within = h.front.within; good = h.front.good };
       behind = omega (arith, le, h.behind);
     }
 

@@ -1,4 +1,5 @@
 -- No fault stands in a stream.
+use Rattle.machine.specs.Limits.{IsWithinLimits}
 use Rattle.receiver.specs.declared.ram_terms.RamTerms.{RamTerms}
 use Rattle.std.proofs.Common.{◌≡◌, ℕ, ◌+◌, ◌*◌, ◌≤◌, List, [], ◌∷◌, ◌++◌, length, drop, refl, sym, ap, ◌∙◌, append_assoc, append-nil, drop-drop, arith}
 use Rattle.std.specs.Prelude.{is_some}
@@ -120,8 +121,8 @@ record StreamFront (ram : RamTerms) (sizes bytes : List ℕ) (m : MachineState) 
   complete : IsComplete (opens_with ram s) (s.entries ++ device_records 0 m.devices) 5
   digest_is : digest ≡ sha256 (opened_header (opens_with ram s) ++ texts (s.entries ++ device_records 0 m.devices))
 
-stream_front : (ram : RamTerms) (sizes bytes : List ℕ) (m : MachineState) (s : IsStream bytes m) → base_of m.devices ≡ ram.base → HasPages ram (pages_of m) → sizes ≡ disk_sizes (shapes_in m.devices) → StreamFront ram sizes bytes m s
-stream_front ram sizes bytes m s based suits fits =
+stream_front : (ram : RamTerms) (sizes bytes : List ℕ) (m : MachineState) (s : IsStream bytes m) → base_of m.devices ≡ ram.base → HasPages ram (pages_of m) → IsWithinLimits ram.limits m → sizes ≡ disk_sizes (shapes_in m.devices) → StreamFront ram sizes bytes m s
+stream_front ram sizes bytes m s based suits within fits =
     let opening = opens_with ram s in
     let devices = device_records 0 m.devices in
     let all = s.entries ++ devices in
@@ -144,16 +145,16 @@ stream_front ram sizes bytes m s based suits fits =
     s.by.whole ∙ ap (λ (x : List ℕ). before_all ++ x) (commit_text digest) ∙ ap (λ (x : List ℕ). x ++ (5 ∷ digest)) (sym front) ∙ append_assoc (opened_header opening) (texts all) (5 ∷ digest) in
     record {
       digest = digest;
-      front = record { begins = record { good = b.good; whole = whole }; based = refl; fits = fits; suits = suits; good = good };
+      front = record { begins = record { good = b.good; whole = whole }; based = refl; fits = fits; suits = suits; within = within; good = good };
       complete = complete;
       digest_is = ap sha256 (sym front);
     }
 
-pub stream_quiet : (ram : RamTerms) (sizes bytes : List ℕ) (m : MachineState) → IsStream bytes m → base_of m.devices ≡ ram.base → HasPages ram (pages_of m) → sizes ≡ disk_sizes (shapes_in m.devices) → NoFault ram sizes bytes
-stream_quiet ram sizes bytes m s based suits fits =
+pub stream_quiet : (ram : RamTerms) (sizes bytes : List ℕ) (m : MachineState) → IsStream bytes m → base_of m.devices ≡ ram.base → HasPages ram (pages_of m) → IsWithinLimits ram.limits m → sizes ≡ disk_sizes (shapes_in m.devices) → NoFault ram sizes bytes
+stream_quiet ram sizes bytes m s based suits within fits =
     let opening = opens_with ram s in
     let all = s.entries ++ device_records 0 m.devices in
-    let f = stream_front ram sizes bytes m s based suits fits in
+    let f = stream_front ram sizes bytes m s based suits within fits in
     quiet_front ram sizes bytes opening all (5 ∷ f.digest) f.front (λ r y g e. no_other opening all f.digest r y g e) (end_quiet opening all f.digest f.complete f.digest_is)
 
 rounds_entries : (es : List Record) (ds : List DeviceState) → rounds (es ++ device_records 0 ds) ≡ rounds es
@@ -162,9 +163,9 @@ rounds_entries [] ds = rounds_none 0 ds
 rounds_entries (round_end n ∷ es) ds = ap (λ (k : ℕ). k + 1) (rounds_entries es ds)
 rounds_entries (_ ∷ es) ds = rounds_entries es ds
 
-pub stream_rounds : (ram : RamTerms) (sizes bytes : List ℕ) (m : MachineState) (n : ℕ) (s : IsStream bytes m) → base_of m.devices ≡ ram.base → HasPages ram (pages_of m) → sizes ≡ disk_sizes (shapes_in m.devices) → HasRounds ram sizes bytes n → rounds s.entries ≡ n
-stream_rounds ram sizes bytes m n s based suits fits h =
+pub stream_rounds : (ram : RamTerms) (sizes bytes : List ℕ) (m : MachineState) (n : ℕ) (s : IsStream bytes m) → base_of m.devices ≡ ram.base → HasPages ram (pages_of m) → IsWithinLimits ram.limits m → sizes ≡ disk_sizes (shapes_in m.devices) → HasRounds ram sizes bytes n → rounds s.entries ≡ n
+stream_rounds ram sizes bytes m n s based suits within fits h =
     let opening = opens_with ram s in
     let all = s.entries ++ device_records 0 m.devices in
-    let f = stream_front ram sizes bytes m s based suits fits in
+    let f = stream_front ram sizes bytes m s based suits within fits in
     sym (h.some opening all (5 ∷ f.digest) f.front (λ r y g e. no_other opening all f.digest r y g e) ∙ rounds_entries s.entries m.devices)

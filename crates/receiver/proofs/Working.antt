@@ -76,6 +76,7 @@ front_of {opening = opening} {before = before} bytes tail h e = record {
   based = refl;
   fits = h.fits;
   suits = h.suits;
+  within = h.within;
   good = h.good;
 }
 

@@ -3,16 +3,18 @@ use Rattle.std.specs.Prelude.{◌≡◌, ℕ, ◌+◌, List, [], ◌++◌, lengt
 use denote.RawPtr.{Ptr}
 use Rattle.blk.specs.Disk.{DiskState}
 use Rattle.machine.specs.First.{dealt_marks}
+use Rattle.machine.specs.Limits.{IsWithinLimits}
 use Rattle.machine.specs.Seen.{Seen, all_marks, state_of}
 use Rattle.machine.specs.Shapes.{disk_sizes}
 use Rattle.machine.specs.State.{base_of}
 use Rattle.wire.specs.Header as told
 use Rattle.wire.specs.Stream.{IsStream, shapes_in}
 use Rattle.receiver.specs.Disks.{AreHonestDisks, MarksAfter, disk_marks_of, sizes_of}
-use Rattle.receiver.specs.Opened.{ram_at}
+use Rattle.receiver.specs.Opened.{terms_at}
 use Rattle.receiver.specs.Receiving.{HasBeenFed, HasDevice, IsArrived, IsFinish, IsGivenUp, IsReceived, IsWholeFor, NoFault, Received, RefusesSlice, TellsNow, end_error}
 use Rattle.receiver.specs.declared.ram_terms.RamTerms.{RamTerms}
 use Rattle.receiver.specs.declared.recv_error.RecvError.{RecvError}
+use Rattle.receiver.specs.declared.terms.Terms.{Terms}
 use Rattle.receiver.specs.declared.recv_error.RecvError.TheVariants.{AlreadyFailed, NoMemory, Truncated}
 
 -- A receiver that was fed nothing, with these disks, of which the host says this of RAM; the RAM that was handed in lies at `at`.
@@ -53,6 +55,7 @@ pub record EndsWith {E : Type 0} (why : E → RecvError) (Gives : E → Type 0) 
   pub received : IfOk result (λ m. AreHonestDisks old.marks → (b : List ℕ) → HasBeenFed old b → IsStream b (state_of m))
   pub marks : IfOk result (λ m. all_marks m ≡ dealt_marks (shapes_in (state_of m).devices) old.marks)
   pub based : IfOk result (λ m. base_of (state_of m).devices ≡ old.ram.base)
+  pub within : IfOk result (λ m. IsWithinLimits old.ram.limits (state_of m))
   pub fits : IfOk result (λ m. old.sizes ≡ disk_sizes (shapes_in (state_of m).devices))
   pub refused : IfErr result (λ x. (b : List ℕ) → HasBeenFed old b → IsFinish b (why x))
   pub whole : OnOk result ((b : List ℕ) → HasBeenFed old b → IsWholeFor old.ram old.sizes b)
@@ -71,11 +74,12 @@ abbrev pub FinishesOrBack : Received → Result Seen (RecvError × Received) →
 FinishesOrBack old result = EndsWith (λ x. x.0) (λ x. IsGivenUp old x.1) old result
 
 -- A whole slice was received, or refused.
-pub record Receives {D : Type 0} (state : D → DiskState) (disks : List D) (base : ℕ) (bytes : List ℕ) (result : Result (Seen × ℕ) RecvError) : Type 0 where
+pub record Receives {D : Type 0} (state : D → DiskState) (disks : List D) (terms : Terms) (bytes : List ℕ) (result : Result (Seen × ℕ) RecvError) : Type 0 where
   pub arrived : IfOk result (λ x. IsArrived bytes (state_of x.0))
   pub received : IfOk result (λ x. AreHonestDisks (disk_marks_of state disks) → IsReceived bytes (state_of x.0) x.1)
   pub marks : IfOk result (λ x. all_marks x.0 ≡ dealt_marks (shapes_in (state_of x.0).devices) (disk_marks_of state disks))
-  pub based : IfOk result (λ x. base_of (state_of x.0).devices ≡ base)
+  pub based : IfOk result (λ x. base_of (state_of x.0).devices ≡ terms.base)
+  pub within : IfOk result (λ x. IsWithinLimits terms.limits (state_of x.0))
   pub fits : IfOk result (λ x. sizes_of state disks ≡ disk_sizes (shapes_in (state_of x.0).devices))
-  pub whole : OnOk result (IsWholeFor (ram_at base) (sizes_of state disks) bytes)
-  pub refused : IfErr result (λ e. RefusesSlice base (sizes_of state disks) (disk_marks_of state disks) bytes e)
+  pub whole : OnOk result (IsWholeFor (terms_at terms) (sizes_of state disks) bytes)
+  pub refused : IfErr result (λ e. RefusesSlice terms (sizes_of state disks) (disk_marks_of state disks) bytes e)

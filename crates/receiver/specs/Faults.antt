@@ -12,8 +12,10 @@ use Rattle.wire.specs.declared.header_error.HeaderError.{HeaderError}
 use Rattle.wire.specs.declared.header_error.HeaderError.TheVariants as heads
 use Rattle.guestmem.specs.Item as items
 use Rattle.machine.specs.Layout.{IsItemIn}
+use Rattle.machine.specs.Limits.{AreWithin}
 use Rattle.machine.specs.Shapes.{disk_sizes}
 use Rattle.machine.specs.State.{DeviceState}
+use Rattle.machine.specs.declared.limits.Limits.{Limits}
 use Rattle.machine.specs.declared.shape.Shape.{Shape}
 use Rattle.receiver.specs.Opened.{HasPages, Opened, BeginsOpened, opened_header, opened_layout}
 use Rattle.receiver.specs.Good.{AreGood, AreNamed, devices_in}
@@ -173,19 +175,20 @@ IsFault opening before tail _ place = ⊥
 
 -- The header.
 
--- ShapeMismatch (4), found at the end of the header: the disks are not those of the machine, or the RAM that was handed in has another
--- number of pages.
+-- ShapeMismatch (4), found at the end of the header of a machine within the limits: the disks are not those of the machine, or the RAM
+-- that was handed in has another number of pages.
 pub record IsMismatch (ram : RamTerms) (sizes bytes : List ℕ) (at : ℕ) : Type 0 where
   pub opening : told.Opening
   pub more : List ℕ
   pub begins : told.Begins bytes opening more
+  pub within : AreWithin ram.limits opening.pages opening.shapes
   pub never : ¬ ((sizes ≡ disk_sizes opening.shapes) × HasPages ram opening.pages)
   pub there : at ≡ length (told.header opening)
 
 abbrev pub IsHeaderFault : RamTerms → List ℕ → List ℕ → RecvError → ℕ → Type 0
 IsHeaderFault ram sizes bytes BadMagic at = IsBadMagic bytes at
 IsHeaderFault ram sizes bytes BadVersion at = IsBadVersion bytes at
-IsHeaderFault ram sizes bytes BadShape at = IsBadCount bytes at ⊎ IsBadShape bytes at
+IsHeaderFault ram sizes bytes BadShape at = IsBadCount ram.limits bytes at ⊎ IsBadShape ram.limits bytes at
 IsHeaderFault ram sizes bytes ShapeMismatch at = IsMismatch ram sizes bytes at
 IsHeaderFault ram sizes bytes _ at = ⊥
 
@@ -196,23 +199,28 @@ recv_error_of heads.BadVersion = BadVersion
 recv_error_of heads.BadShape = BadShape
 recv_error_of heads.NoMemory = NoMemory
 
+-- The bytes show this fault of the header within the limits, whatever else is said of RAM and disks.
+abbrev pub ShowsHeaderFault : Limits → List ℕ → RecvError → Type 0
+ShowsHeaderFault limits bytes e = (ram : RamTerms) (sizes : List ℕ) → ram.limits ≡ limits → (at : ℕ) × IsHeaderFault ram sizes bytes e at
+
 -- What a refusal means: there is this fault of the header, unless memory was refused.
 abbrev pub TellsHead : RecvError → Type 0 → Type 0
 TellsHead NoMemory F = Unit {0}
 TellsHead _ F = F
 
--- The bytes begin with no whole header, and with no fault of one.
-pub record WaitsHead (bytes : List ℕ) : Type 0 where
+-- The bytes begin with no whole header, and with no fault of one within the limits.
+pub record WaitsHead (limits : Limits) (bytes : List ℕ) : Type 0 where
   pub no_header : (opening : told.Opening) (rest : List ℕ) → ¬ (told.Begins bytes opening rest)
-  pub no_fault : (ram : RamTerms) (sizes : List ℕ) (k : RecvError) (at : ℕ) → ¬ (IsHeaderFault ram sizes bytes k at)
+  pub no_fault : (ram : RamTerms) (sizes : List ℕ) (k : RecvError) (at : ℕ) → ram.limits ≡ limits → ¬ (IsHeaderFault ram sizes bytes k at)
 
--- The bytes begin with a header of a machine with disks of these sizes, and of as many pages as the RAM that was handed in, then come
--- whole good records, then `tail`.
+-- The bytes begin with a header of a machine within the limits, with disks of these sizes, and of as many pages as the RAM that was
+-- handed in, then come whole good records, then `tail`.
 pub record IsFront (ram : RamTerms) (sizes bytes : List ℕ) (opening : Opened) (before : List Record) (tail : List ℕ) : Type 0 where
   pub begins : BeginsOpened bytes opening (texts before ++ tail)
   pub based : opening.ram ≡ ram
   pub fits : sizes ≡ disk_sizes opening.shapes
   pub suits : HasPages ram opening.pages
+  pub within : AreWithin ram.limits opening.pages opening.shapes
   pub good : AreGood opening [] before
 
 pub record IsRecordFault (ram : RamTerms) (sizes bytes : List ℕ) (k : RecvError) (at : ℕ) : Type 0 where

@@ -11,6 +11,7 @@ use Rattle.wire.specs.Records.{Record, device, commit, spelled_record, BeginsNoR
 use Rattle.wire.specs.Stream.{IsEntry, AreNumbered, rounds, shapes_in, texts}
 use Rattle.machine.specs.First.{AreMarksOf, dealt_sectors, marked_sectors}
 use Rattle.machine.specs.Layout.{firsts_of}
+use Rattle.machine.specs.Limits.{AreWithin}
 use Rattle.machine.specs.Shapes.{disk_sizes}
 use Rattle.machine.specs.Sound.{IsSoundDevice}
 use Rattle.blk.specs.Sectors.{AreWhole, Sector}
@@ -39,11 +40,12 @@ pub record AreWritten (disks : List DiskState) (bad : List (List Bool)) (written
   pub held : AreHonestDisks (all_marks_in disks) → marked_sectors disks bad ≡ written
 
 -- The intake has taken in these bytes, a header and these whole good records. The disks have the sizes of those of the devices, and
--- RAM that was handed in has the machine's pages.
+-- RAM that was handed in has the machine's pages, and the machine is within the limits.
 pub record HasRead (disks : List DiskState) (opening : Opened) (before : List Record) (i : Intake) (front : List ℕ) : Type 0 where
   pub head : IsOpenedHeader opening
   pub fits : sizes_in disks ≡ disk_sizes opening.shapes
   pub suits : HasPages opening.ram opening.pages
+  pub within : AreWithin opening.ram.limits opening.pages opening.shapes
   pub good : AreGood opening [] before
   pub whole : front ≡ opened_header opening ++ texts before
   pub version_is : i.terms.version ≡ opening.version

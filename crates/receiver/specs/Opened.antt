@@ -1,7 +1,11 @@
--- What a receiver knows of a machine once it has read the header: what the header says, and what the host says of the machine's RAM,
--- the address at which it begins and the length of the RAM that was handed in. No stream tells that address.
-use Rattle.std.specs.Prelude.{◌≡◌, ◌*◌, ℕ, List, length, IfSome, Some, None}
+-- What a receiver knows of a machine once it has read the header: what the header says, and what the host says of the machine: the
+-- address at which its RAM begins, the length of the RAM that was handed in, and how large it may be. No stream tells that address, or
+-- the limits.
+use Rattle.std.specs.Prelude.{◌≡◌, ◌*◌, ℕ, List, length, IfSome, Option, Some, None}
+use Rattle.guestmem.specs.Memory.{Memory}
+use Rattle.machine.specs.Limits.{greatest, usual}
 use Rattle.receiver.specs.declared.ram_terms.RamTerms.{RamTerms}
+use Rattle.receiver.specs.declared.terms.Terms.{Terms}
 use Rattle.machine.specs.Layout.{Layout}
 use Rattle.machine.specs.declared.shape.Shape.{Shape}
 use Rattle.wire.specs.Header as told
@@ -34,12 +38,30 @@ opened_layout opening = told.layout_in (said_by opening)
 abbrev pub BeginsOpened : List ℕ → Opened → List ℕ → Type 0
 BeginsOpened bytes opening rest = told.Begins bytes (said_by opening) rest
 
--- RAM begins at this address, and none was handed in, or one with these bytes.
+-- RAM begins at this address, and the limits are the usual or the greatest.
+abbrev pub usual_at : ℕ → Terms
+usual_at base = record { base = base; limits = usual }
+
+abbrev pub greatest_at : ℕ → Terms
+greatest_at base = record { base = base; limits = greatest }
+
+-- These terms, and no RAM was handed in, or one with these bytes.
+abbrev pub terms_at : Terms → RamTerms
+terms_at terms = record { base = terms.base; len = None; limits = terms.limits }
+
+abbrev pub terms_over : Terms → List ℕ → RamTerms
+terms_over terms bytes = record { base = terms.base; len = Some (length bytes); limits = terms.limits }
+
+abbrev pub told_by : Terms → Option Memory → RamTerms
+told_by terms None = terms_at terms
+told_by terms (Some ram) = terms_over terms ram.bytes
+
+-- The same within the usual limits.
 abbrev pub ram_at : ℕ → RamTerms
-ram_at base = record { base = base; len = None }
+ram_at base = terms_at (usual_at base)
 
 abbrev pub given_at : ℕ → List ℕ → RamTerms
-given_at base bytes = record { base = base; len = Some (length bytes) }
+given_at base bytes = terms_over (usual_at base) bytes
 
 -- The RAM that the host handed in, if it did, has this count of pages.
 abbrev pub HasPages : RamTerms → ℕ → Type 0

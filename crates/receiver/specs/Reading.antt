@@ -44,7 +44,7 @@ pub record StandsAside (old new : ReaderSeen) : Type 0 where
 
 -- After a look for the header of the bytes: it was read, and has `at` bytes; or it was read before, or is not whole; or it is refused.
 abbrev pub HeaderAt : ReaderSeen → List ℕ → Result ℕ RecvError → ReaderSeen → Stage → Type 0
-HeaderAt old bytes (Ok at) new stages.Head = (at ≡ 0) × WaitsHead bytes × (new.digest ≡ old.digest)
+HeaderAt old bytes (Ok at) new stages.Head = (at ≡ 0) × WaitsHead new.ram.limits bytes × (new.digest ≡ old.digest)
 HeaderAt old bytes (Ok at) new (stages.Records i) = IsUpTo i.ended new.ram new.disks new.digest (take at bytes) i
 HeaderAt old bytes (Ok at) new stages.Failed = ⊥
 HeaderAt old bytes (Err e) new stage = AreRefused old.disks new.disks e × Tells e ((at : ℕ) × Fault old.ram (sizes_in old.disks) bytes e at)

@@ -15,13 +15,14 @@ use Rattle.machine.specs.Room.{RoomSeen}
 use Rattle.machine.specs.Seen.{Marks}
 use Rattle.machine.specs.State.{MachineState}
 use Rattle.receiver.specs.Disks.{IsUnsteady, all_marks_in, sizes_in}
-use Rattle.receiver.specs.Opened.{Opened, opened_header, ram_at}
+use Rattle.receiver.specs.Opened.{Opened, opened_header, terms_at}
 use Rattle.receiver.specs.Good.{IsNextRecord}
 use Rattle.receiver.specs.Faults.{Fault, IsComplete, IsFront, WaitsHead}
 use Rattle.receiver.specs.Fed.{IsKnownIn, Tells}
 use Rattle.receiver.specs.Waiting.{LacksBytes}
 use Rattle.receiver.specs.declared.ram_terms.RamTerms.{RamTerms}
 use Rattle.receiver.specs.declared.stage.Stage.{Stage}
+use Rattle.receiver.specs.declared.terms.Terms.{Terms}
 use Rattle.receiver.specs.declared.stage.Stage.TheVariants as stages
 use Rattle.receiver.specs.declared.recv_error.RecvError.{RecvError}
 use Rattle.receiver.specs.declared.recv_error.RecvError.TheVariants.{AlreadyFailed, DiskFailed, NoMemory, Truncated}
@@ -29,7 +30,7 @@ use Rattle.receiver.specs.declared.recv_error.RecvError.TheVariants.{AlreadyFail
 -- What a receiver that was told this of RAM, with these disks, at this stage, knows of the bytes: those of `front` are worked off, and those after it are held.
 -- The digest is that of the front.
 abbrev pub IsKnown : RamTerms → List DiskState → Sha256 → List ℕ → List ℕ → Stage → Type 0
-IsKnown ram disks digest front held stages.Head = (front ≡ []) × Holds256 digest [] × WaitsHead held
+IsKnown ram disks digest front held stages.Head = (front ≡ []) × Holds256 digest [] × WaitsHead ram.limits held
 IsKnown ram disks digest front held (stages.Records i) = IsKnownIn i.ended ram disks digest front held i
 IsKnown ram disks digest front held stages.Failed = ⊥
 
@@ -188,11 +189,11 @@ pub record HasDevice (ram : RamTerms) (sizes bytes : List ℕ) (from : ℕ) : Ty
 
 -- What a refusal of a whole slice means: a fault of the bytes; or (`Truncated`) that they have no fault but are not a stream of
 -- any machine; or that a disk failed, where some disk is not steady; or that memory was refused.
-abbrev pub RefusesSlice : ℕ → List ℕ → List Marks → List ℕ → RecvError → Type 0
-RefusesSlice base sizes marks bytes NoMemory = Unit {0}
-RefusesSlice base sizes marks bytes DiskFailed = IsUnsteady marks
-RefusesSlice base sizes marks bytes Truncated = NoFault (ram_at base) sizes bytes × ((m : MachineState) → ¬ (IsStream bytes m))
-RefusesSlice base sizes marks bytes e = (at : ℕ) × Fault (ram_at base) sizes bytes e at
+abbrev pub RefusesSlice : Terms → List ℕ → List Marks → List ℕ → RecvError → Type 0
+RefusesSlice terms sizes marks bytes NoMemory = Unit {0}
+RefusesSlice terms sizes marks bytes DiskFailed = IsUnsteady marks
+RefusesSlice terms sizes marks bytes Truncated = NoFault (terms_at terms) sizes bytes × ((m : MachineState) → ¬ (IsStream bytes m))
+RefusesSlice terms sizes marks bytes e = (at : ℕ) × Fault (terms_at terms) sizes bytes e at
 
 -- The bytes do not continue with a whole record that may follow the good ones.
 abbrev pub NoNext : Opened → List Record → List ℕ → Type 0

@@ -38,9 +38,9 @@ use wire::{
 /// How many bytes the digest has.
 const DIGEST_LEN: usize = 32;
 
-/// What a stream is read under: its version, and what the host says of the machine's RAM. No record changes them.
+/// What a stream is read under: its version, and what the host says of the machine. No record changes them.
 #[derive(Clone, Copy)]
-pub struct Terms {
+pub struct ReadTerms {
     pub version: u32,
     pub ram: RamTerms,
 }
@@ -54,11 +54,11 @@ pub struct Terms {
 #[derive(Drop)]
 pub struct Intake {
     pub alloc: Global,
-    pub terms: Terms,
+    pub terms: ReadTerms,
     pub shapes: Vec<Shape>,
     pub ram: ArrivingRam,
     pub named: BitSet,
-    pub firsts: Vec<u32>,
+    pub firsts: Vec<u64>,
     pub bad: Vec<BitSet>,
     pub rounds: u32,
     pub devices: Vec<DeviceState>,
@@ -203,7 +203,9 @@ fn find_sector(intake: &Intake, dev: u8, number: u32) -> Option<Spot>
         return None;
     }
     let disk = disks_before(&intake.shapes, place);
-    let item = intake.firsts[place] as u64 + number as u64;
+    let _count = intake.named.len();
+    let first = intake.firsts[place];
+    let item = first + number as u64;
     Some(Spot { disk, item })
 }
 
@@ -307,7 +309,7 @@ fn take_device(intake: &mut Intake, number: u8, len: u32, behind: &[u8]) -> Resu
     let (body, _) = behind.split_at(len as usize);
     let shape = nth(&intake.shapes, number as usize);
     let ram_len = intake.ram.len();
-    let Terms { version, ram } = intake.terms;
+    let ReadTerms { version, ram } = intake.terms;
     match decode_device_at(intake.alloc, version, shape, ram.base, ram_len, body) {
         Ok(state) => {
             intake.devices.push_reserved(state);

@@ -5,9 +5,10 @@
 
 ghost use Rattle.std.specs.Prelude.{◌≡◌, ◌≤◌, ◌*◌, [], ℕ, List, All, None, IfErr, IfOk, OnErr, OnOk, IfSome, IsTrue, ◌↔◌, false, map, replicate, length};
 ghost use Rattle.blk.specs.Disk.{AreSectors};
-ghost use Rattle.guestmem.specs.declared.limits.TheConstants.{PAGE_SIZE, PAGES_MAX};
+ghost use Rattle.guestmem.specs.declared.limits.TheConstants.{PAGE_SIZE, PAGES_GREATEST};
 ghost use Rattle.wire.specs.Header.{header, Begins, IsHeader, said};
 ghost use Rattle.machine.specs.Layout.{firsts_of, layout_by, size_of};
+ghost use Rattle.machine.specs.Limits.{AreWithin};
 ghost use Rattle.machine.specs.Shapes.{disk_sizes};
 ghost use Rattle.receiver.specs.Disks.{sizes_of};
 ghost use Rattle.receiver.specs.Fed.{HasRead};
@@ -16,7 +17,7 @@ ghost use Rattle.receiver.specs.Receiving.{length_aside, place_aside};
 ghost use Rattle.receiver.specs.Standing.{IsSized};
 ghost use Rattle.receiver.specs.declared.recv_error.RecvError.TheVariants as errors;
 
-use crate::intake::{Intake, Terms};
+use crate::intake::{Intake, ReadTerms};
 use crate::ram_terms::RamTerms;
 use crate::recv_error::RecvError;
 use dirtylog::BitSet;
@@ -27,15 +28,15 @@ use std::mem;
 use wire::Header;
 
 /// The item number of the first sector of each device, and the count of items.
-fn number_items(alloc: Global, pages: u32, shapes: &[Shape]) -> Result<(Vec<u32>, u32), NoMemory>
+fn number_items(alloc: Global, pages: u32, shapes: &[Shape]) -> Result<(Vec<u64>, u64), NoMemory>
     requires { (version : ℕ) × IsHeader (record { version = version; pages = pages; shapes = shapes.now }) }
     ensures { IfOk result (λ x. (x.0.items ≡ firsts_of (layout_by pages shapes.now)) × (x.1 ≡ size_of (layout_by pages shapes.now))) }
 {
     let mut firsts = Vec::with_capacity(alloc, shapes.len())?;
-    let mut first = pages;
+    let mut first = pages as u64;
     for shape in shapes {
         firsts.push(first)?;
-        first += shape.sectors() as u32;
+        first += shape.sectors();
     }
     Ok((firsts, first))
 }
@@ -60,7 +61,7 @@ fn ram_of(
     pages: u32,
 ) -> Result<ArrivingRam, NoMemory>
     requires some { 1 ≤ pages }
-    requires few { pages ≤ PAGES_MAX }
+    requires few { pages ≤ PAGES_GREATEST }
     requires fits { IfSome aside.old (λ ram. length ram.bytes ≡ PAGE_SIZE * pages) }
     ensures size { IfOk result (λ ram. length ram.bytes ≡ PAGE_SIZE * pages) }
     ensures place { IfOk result (λ ram. ram.place ≡ place_aside aside.old) }
@@ -101,6 +102,7 @@ pub fn new_intake<D: Disk>(
     heading: Header,
 ) -> Result<Intake, NoMemory>
     requires header { IsHeader (said heading) }
+    requires within { AreWithin ram.limits heading.pages heading.shapes.items }
     requires given { ram.len ≡ length_aside aside.old }
     requires suits { HasPages ram heading.pages }
     requires fits { sizes_of D.state disks.now ≡ disk_sizes heading.shapes.items }
@@ -121,12 +123,12 @@ pub fn new_intake<D: Disk>(
     recall_disks(disks);
     let (firsts, count) = number_items(alloc, pages, &shapes)?;
     let bad = new_marks(alloc, disks)?;
-    let named = BitSet::new(alloc, count as u64)?;
+    let named = BitSet::new(alloc, count)?;
     let devices = Vec::with_capacity(alloc, shapes.len())?;
     let memory = ram_of(alloc, aside, pages)?;
     Ok(Intake {
         alloc,
-        terms: Terms { version, ram },
+        terms: ReadTerms { version, ram },
         shapes,
         ram: memory,
         named,

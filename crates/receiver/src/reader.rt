@@ -10,7 +10,7 @@ ghost use Rattle.std.specs.Prelude.{◌≡◌, ◌≤◌, drop, length};
 ghost use Rattle.std.specs.Vec.{vec_capacity};
 ghost use Rattle.receiver.specs.Receiving.{place_aside};
 
-use crate::heading::read_heading;
+use crate::heading::read_heading_within;
 use crate::intake::{Intake, work_off};
 use crate::opening::{check_fit, new_intake};
 use crate::ram_terms::RamTerms;
@@ -30,7 +30,7 @@ use wire::RECORD_MAX;
 pub struct Reader<D: Disk> {
     pub alloc: Global,
 
-    /// What the host says of the machine's RAM.
+    /// What the host says of the machine.
     pub ram: RamTerms,
     pub disks: Vec<D>,
 
@@ -151,7 +151,7 @@ impl<D: Disk + Drop> Reader<D> {
         if !self.stage.is_head() {
             return Ok(0);
         }
-        let Some(heading) = read_heading(self.alloc, bytes)? else {
+        let Some(heading) = read_heading_within(self.alloc, self.ram.limits, bytes)? else {
             return Ok(0);
         };
         if let Err(error) = check_fit(self.ram, &self.disks, &heading) {

@@ -5,7 +5,7 @@
 //! ask a receiver for bytes, and each clause is for all bytes that it was fed.
 //!
 //! It is given a RAM and not a region: whoever has the region makes the RAM, and is refused memory there, with the region back.
-//! What it knows of its RAM (`RamTerms`) is a parameter of all faults, as the sizes of the disks are.
+//! What the host says of it (`RamTerms`) is a parameter of all faults, as the sizes of the disks are.
 
 ghost use Rattle.std.specs.Prelude.{◌≡◌, map, true};
 ghost use Rattle.receiver.specs.Disks.{disk_marks_of, sizes_of};
@@ -17,6 +17,7 @@ use crate::ram_terms::RamTerms;
 use crate::reader::Reader;
 use crate::recv_error::RecvError;
 use crate::stage::Stage;
+use crate::terms::Terms;
 use guestmem::{ArrivingRam, Ram};
 use machine::{Disk, Machine};
 use sha2::{Digest, Sha256};
@@ -49,10 +50,11 @@ impl<D: Disk + Drop> Receiver<D> {
     ghost use Rattle.std.specs.Prelude.{◌≡◌, ℕ, List, ◌≤◌, IfSome, None, length, map, true, false};
     ghost use Rattle.receiver.specs.Calls.{Feeds, Finishes, FinishesOrBack, IsNew};
     ghost use Rattle.receiver.specs.Disks.{sizes_of};
-    ghost use Rattle.receiver.specs.Opened.{given_at, ram_at};
-    ghost use Rattle.receiver.specs.Receiving.{HasBeenFed, HasRounds, IsWholeFor};
+    ghost use Rattle.receiver.specs.Opened.{given_at, ram_at, told_by};
+    ghost use Rattle.receiver.specs.Receiving.{HasBeenFed, HasRounds, IsWholeFor, length_aside, place_aside};
 
-    /// A receiver that was fed nothing, with these disks, of a machine whose RAM begins at the address 0. It takes no memory.
+    /// A receiver that was fed nothing, with these disks, of a machine whose RAM begins at the address 0, within the usual limits. It
+    /// takes no memory.
     pub fn new(alloc: Global, disks: Vec<D>) -> Receiver<D>
         ensures { IsNew D.state disks.items (ram_at 0) None result }
     {
@@ -64,11 +66,7 @@ impl<D: Disk + Drop> Receiver<D> {
     pub fn new_at(alloc: Global, disks: Vec<D>, base: u64) -> Receiver<D>
         ensures { IsNew D.state disks.items (ram_at base) None result }
     {
-        Receiver {
-            reader: Reader::new(alloc, disks, RamTerms { base, len: None }, None),
-            held: Vec::new(alloc),
-            lacking: 0,
-        }
+        Receiver::with_terms(alloc, disks, None, Terms::usual_at(base))
     }
 
     /// As `new`, with the RAM that the machine is to have: its pages are written straight into it. Its bytes may be anything. The
@@ -83,12 +81,50 @@ impl<D: Disk + Drop> Receiver<D> {
     pub fn new_in_at(alloc: Global, disks: Vec<D>, ram: Ram, base: u64) -> Receiver<D>
         ensures { IsNew D.state disks.items (given_at base ram.bytes) ram.place result }
     {
-        let terms = RamTerms {
-            base,
-            len: Some(ram.len()),
-        };
+        Receiver::with_terms(alloc, disks, Some(ram), Terms::usual_at(base))
+    }
+
+    /// A receiver that was fed nothing, with these disks, and the RAM that the machine is to have, if the host has one (see `new_in`), of a
+    /// machine as these terms say. It takes no memory.
+    pub fn with_terms(alloc: Global, disks: Vec<D>, ram: Option<Ram>, terms: Terms) -> Receiver<D>
+        ensures { IsNew D.state disks.items (told_by terms ram) (place_aside ram) result }
+    {
+        let Terms { base, limits } = terms;
+        match ram {
+            None => Receiver::reading(
+                alloc,
+                disks,
+                RamTerms {
+                    base,
+                    len: None,
+                    limits,
+                },
+                None,
+            ),
+            Some(ram) => {
+                let len = Some(ram.len());
+                Receiver::reading(
+                    alloc,
+                    disks,
+                    RamTerms { base, len, limits },
+                    Some(ArrivingRam::over(ram)),
+                )
+            }
+        }
+    }
+
+    /// As `with_terms`, where the RAM stands aside.
+    fn reading(
+        alloc: Global,
+        disks: Vec<D>,
+        ram: RamTerms,
+        aside: Option<ArrivingRam>,
+    ) -> Receiver<D>
+        requires { ram.len ≡ length_aside aside }
+        ensures { IsNew D.state disks.items ram (place_aside aside) result }
+    {
         Receiver {
-            reader: Reader::new(alloc, disks, terms, Some(ArrivingRam::over(ram))),
+            reader: Reader::new(alloc, disks, ram, aside),
             held: Vec::new(alloc),
             lacking: 0,
         }

@@ -12,10 +12,11 @@ use Rattle.machine.specs.declared.reply.Reply.{Reply}
 use Rattle.machine.proofs.Agreeing.{runs_same}
 use Rattle.machine.proofs.Dealing.{dealt_all}
 use Rattle.receiver.specs.Disks.{AreHonestDisks}
-use Rattle.receiver.specs.Opened.{ram_at}
+use Rattle.receiver.specs.Opened.{greatest_at, terms_at}
 use Rattle.receiver.specs.Receiving.{NoFault, RefusesSlice}
 use Rattle.receiver.specs.declared.recv_error.RecvError.{RecvError}
 use Rattle.receiver.specs.declared.recv_error.RecvError.TheVariants as errors
+use Rattle.machine.proofs.Fresh.{greatest_allow}
 use Rattle.receiver.proofs.Whole.{stream_quiet}
 use Rattle.sender.specs.declared.event.LiveEvent.{LiveEvent}
 use Rattle.sender.specs.declared.event.LiveReply.{LiveReply}
@@ -36,7 +37,7 @@ mismatched machine source events sizes marks replies bytes g never = record {
 }
 
 -- What a refusal tells of a stream whose disks fit.
-refusal : (base : ℕ) (sizes : List ℕ) (marks : List Marks) (bytes : List ℕ) (machine : Seen) (source : MachineState) (e : RecvError) → DoFit sizes machine → NoFault (ram_at base) sizes bytes → IsStream bytes source → RefusesSlice base sizes marks bytes e → TellsWhy sizes marks machine e
+refusal : (base : ℕ) (sizes : List ℕ) (marks : List Marks) (bytes : List ℕ) (machine : Seen) (source : MachineState) (e : RecvError) → DoFit sizes machine → NoFault (terms_at (greatest_at base)) sizes bytes → IsStream bytes source → RefusesSlice (greatest_at base) sizes marks bytes e → TellsWhy sizes marks machine e
 refusal base sizes marks bytes machine source errors.NoMemory fits quiet stream h = fits
 refusal base sizes marks bytes machine source errors.DiskFailed fits quiet stream h = (fits, h)
 refusal base sizes marks bytes machine source errors.Truncated fits quiet stream h = absurd (h.1 source stream)
@@ -58,17 +59,17 @@ refusal base sizes marks bytes machine source errors.AlreadyFailed fits quiet st
 still_fit : (sizes : List ℕ) (machine source : Seen) → IsSameShape (state_of machine) (state_of source) → DoFit sizes machine → sizes ≡ disk_sizes (shapes_in (state_of source).devices)
 still_fit sizes machine source same fits = fits ∙ ap disk_sizes (sym same.devices)
 
-pub refused : (machine source : Seen) (events : List LiveEvent) (base : ℕ) (sizes : List ℕ) (marks : List Marks) (replies : List LiveReply) (bytes : List ℕ) (e : RecvError) → HasSentStream machine events source replies bytes → DoFit sizes machine → base ≡ base_of (state_of source).devices → RefusesSlice base sizes marks bytes e → IsRefused machine events sizes marks source replies e
+pub refused : (machine source : Seen) (events : List LiveEvent) (base : ℕ) (sizes : List ℕ) (marks : List Marks) (replies : List LiveReply) (bytes : List ℕ) (e : RecvError) → HasSentStream machine events source replies bytes → DoFit sizes machine → base ≡ base_of (state_of source).devices → RefusesSlice (greatest_at base) sizes marks bytes e → IsRefused machine events sizes marks source replies e
 refused machine source events base sizes marks replies bytes e g fits based told = record {
   stops = g.stops;
   answered = g.answered;
   mismatch = λ never. absurd (never fits);
-  unsteady = λ is. (let P : RecvError → Type 0 = λ x. RefusesSlice base sizes marks bytes x in subst P is told);
+  unsteady = λ is. (let P : RecvError → Type 0 = λ x. RefusesSlice (greatest_at base) sizes marks bytes x in subst P is told);
   why =
       let s = g.streamed in
       let at : base_of s.as_told.devices ≡ base = ap base_of s.devices ∙ sym based in
       let sized : sizes ≡ disk_sizes (shapes_in s.as_told.devices) = still_fit sizes machine source g.answered.shape fits ∙ ap (λ (ds : List DeviceState). disk_sizes (shapes_in ds)) (sym s.devices) in
-      refusal base sizes marks bytes machine s.as_told e fits (stream_quiet (ram_at base) sizes bytes s.as_told s.stream at tt sized) s.stream told;
+      refusal base sizes marks bytes machine s.as_told e fits (stream_quiet (terms_at (greatest_at base)) sizes bytes s.as_told s.stream at tt (greatest_allow s.as_told s.stream.by.sound) sized) s.stream told;
 }
 
 -- A machine over honest disks is one with honest disks.

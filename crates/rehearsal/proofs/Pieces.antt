@@ -4,7 +4,7 @@ use Rattle.std.specs.Prelude.{IfErr, Result, Ok, Err}
 use Rattle.machine.specs.Seen.{Marks}
 use Rattle.receiver.specs.Disks.{MarksRefused}
 use Rattle.receiver.specs.Faults.{Fault}
-use Rattle.receiver.specs.Opened.{ram_at}
+use Rattle.receiver.specs.Opened.{greatest_at, terms_at}
 use Rattle.receiver.specs.Receiving.{HasBeenFed, IsFinish, NoFault, Received, RefusesSlice, TellsFault, TellsNow}
 use Rattle.receiver.specs.declared.ram_terms.RamTerms.{RamTerms}
 use Rattle.receiver.specs.declared.recv_error.RecvError.{RecvError}
@@ -52,13 +52,13 @@ quiet_all ram sizes old bytes rest based same f quiet =
     subst O based (subst Q same (subst P (sym f.whole) (quiet f.so_far f.fed)))
 
 -- What a refusal says of all bytes, of a piece and in the end.
-pub refused_piece : (base : ℕ) (sizes : List ℕ) (marks new : List Marks) (r : Received) (bytes rest piece others : List ℕ) (e : RecvError) → r.ram ≡ ram_at base → r.sizes ≡ sizes → r.marks ≡ marks → IsFed r bytes rest → rest ≡ piece ++ others → MarksRefused r.marks e new → ((b : List ℕ) → HasBeenFed r b → TellsNow r.ram r.sizes b piece e)
-    → RefusesSlice base sizes marks bytes e
+pub refused_piece : (base : ℕ) (sizes : List ℕ) (marks new : List Marks) (r : Received) (bytes rest piece others : List ℕ) (e : RecvError) → r.ram ≡ terms_at (greatest_at base) → r.sizes ≡ sizes → r.marks ≡ marks → IsFed r bytes rest → rest ≡ piece ++ others → MarksRefused r.marks e new → ((b : List ℕ) → HasBeenFed r b → TellsNow r.ram r.sizes b piece e)
+    → RefusesSlice (greatest_at base) sizes marks bytes e
 refused_piece base sizes marks new r bytes rest piece others e based same same_marks f cut failed tells =
     let P : List Marks → Type 0 = λ ms. MarksRefused ms e new in
-    slice_told base sizes marks new bytes e (subst P same_marks failed) (told (ram_at base) sizes r bytes rest piece others e based same f cut tells)
+    slice_told (greatest_at base) sizes marks new bytes e (subst P same_marks failed) (told (terms_at (greatest_at base)) sizes r bytes rest piece others e based same f cut tells)
 
-pub refused_end : {T : Type 0} (result : Result T RecvError) (base : ℕ) (sizes : List ℕ) (marks : List Marks) (old new : Received) (bytes rest : List ℕ) → old.ram ≡ ram_at base → old.sizes ≡ sizes → IsFed old bytes rest → ((b : List ℕ) → HasBeenFed old b → HasBeenFed new (b ++ rest)) → ((b : List ℕ) → HasBeenFed old b → NoFault old.ram old.sizes (b ++ rest))
-    → IfErr result (λ e. (b : List ℕ) → HasBeenFed new b → IsFinish b e) → IfErr result (λ e. RefusesSlice base sizes marks bytes e)
+pub refused_end : {T : Type 0} (result : Result T RecvError) (base : ℕ) (sizes : List ℕ) (marks : List Marks) (old new : Received) (bytes rest : List ℕ) → old.ram ≡ terms_at (greatest_at base) → old.sizes ≡ sizes → IsFed old bytes rest → ((b : List ℕ) → HasBeenFed old b → HasBeenFed new (b ++ rest)) → ((b : List ℕ) → HasBeenFed old b → NoFault old.ram old.sizes (b ++ rest))
+    → IfErr result (λ e. (b : List ℕ) → HasBeenFed new b → IsFinish b e) → IfErr result (λ e. RefusesSlice (greatest_at base) sizes marks bytes e)
 refused_end (Ok x) base sizes marks old new bytes rest based same f on quiet h = tt
-refused_end (Err e) base sizes marks old new bytes rest based same f on quiet h = slice_cut base sizes marks bytes e (h bytes (fed_all old new bytes rest f on)) (quiet_all (ram_at base) sizes old bytes rest based same f quiet)
+refused_end (Err e) base sizes marks old new bytes rest based same f on quiet h = slice_cut (greatest_at base) sizes marks bytes e (h bytes (fed_all old new bytes rest f on)) (quiet_all (terms_at (greatest_at base)) sizes old bytes rest based same f quiet)

@@ -11,12 +11,13 @@ ghost use Rattle.machine.specs.First.{dealt_marks};
 ghost use Rattle.machine.specs.Seen.{all_marks, state_of};
 ghost use Rattle.machine.specs.State.{base_of};
 ghost use Rattle.receiver.specs.Disks.{AreHonestDisks, disk_marks_of, sizes_of};
+ghost use Rattle.receiver.specs.Opened.{greatest_at};
 ghost use Rattle.receiver.specs.Receiving.{RefusesSlice};
 ghost use Rattle.wire.specs.Stream.{IsStream, shapes_in};
 ghost use Rattle.rehearsal.specs.Rehearsing.{GoOn, HasSentStream, IsNotStopped, IsRefusedWith, IsRehearsal, is_stopped};
 
-use machine::{Disk, Machine, Reply, are_disks_of};
-use receiver::{Receiver, RecvError};
+use machine::{Disk, Limits, Machine, Reply, are_disks_of};
+use receiver::{Receiver, RecvError, Terms};
 use sender::{Live, LiveEvent, LiveReply};
 use std::alloc::Global;
 use wire::WriteSink;
@@ -243,9 +244,10 @@ fn receive_in_pieces<E: Disk + Drop>(
     ensures received { IfOk result (λ m. AreHonestDisks (disk_marks_of E.state disks.items) → IsStream bytes.now (state_of m)) }
     ensures marks { IfOk result (λ m. all_marks m ≡ dealt_marks (shapes_in (state_of m).devices) (disk_marks_of E.state disks.items)) }
     ensures based { IfOk result (λ m. base_of (state_of m).devices ≡ base) }
-    ensures refused { IfErr result (λ e. RefusesSlice base (sizes_of E.state disks.items) (disk_marks_of E.state disks.items) bytes.now e) }
+    ensures refused { IfErr result (λ e. RefusesSlice (greatest_at base) (sizes_of E.state disks.items) (disk_marks_of E.state disks.items) bytes.now e) }
 {
-    let mut receiver = Receiver::new_at(alloc, disks, base);
+    let limits = Limits::greatest();
+    let mut receiver = Receiver::with_terms(alloc, disks, None, Terms { base, limits });
     let mut rest = bytes;
     for cut in cuts {
         let (piece, others) = rest.split_at((*cut).min(rest.len()));

@@ -4,7 +4,7 @@ use crate::disks::{TestDisk, disks_of};
 use crate::sectors::write_sector;
 use anyhow::{Result, bail, ensure};
 use books::{Book, Question, Scenario, Script};
-use machine::{Board, Event, Machine, RamOf};
+use machine::{Board, Event, Limits, Machine, RamOf};
 use sender::LiveEvent;
 use std::alloc::Global;
 use std::io::Write;
@@ -28,6 +28,7 @@ pub fn play(alloc: Global, script: &Script) -> Result<Machine<TestDisk>> {
     } = parse(alloc, script.trace())?;
     let disks = disks_of(alloc, script, shapes.as_slice())?;
     let board = Board {
+        limits: Limits::usual(),
         base: script.base(),
         ram: RamOf::Pages(pages),
         shapes: shapes.as_slice(),

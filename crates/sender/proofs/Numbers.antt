@@ -30,9 +30,9 @@ shapes_long m shapes are = ap length are ∙ length-map m.devices (λ (d : Devic
 pub record IsAt (m : MachineState) (dev first : ℕ) : Type 0 where
   pub sound : IsSound m
   pub is : first ≡ size_from (pages_of m) (take dev (map length m.disks))
-  pub few : first ≤ 16384 + 4294967295 * dev
+  pub few : first ≤ 4294967295 + 4294967295 * dev
 
-pub at_first : (m : MachineState) (first : ℕ) → IsSound m → first ≡ pages_of m → first ≤ 16384 → IsAt m 0 first
+pub at_first : (m : MachineState) (first : ℕ) → IsSound m → first ≡ pages_of m → first ≤ 4294967295 → IsAt m 0 first
 at_first m first sound is few = record { sound = sound; is = is; few = omega (arith, few) }
 
 pub at_next : (m : MachineState) (dev first size : ℕ) → IsAt m dev first → dev < length m.devices → size ≡ size_on m dev → size ≤ 4294967295 → IsAt m (dev + 1) (first + size)
@@ -84,7 +84,7 @@ pub record Seeks (m : MachineState) (number dev first : ℕ) : Type 0 where
   pub from : first ≤ number
   pub item : item_at (layout_of m) number ≡ sector_from dev first (drop dev (map length m.disks)) number
 
-pub seeks_first : (m : MachineState) (number first : ℕ) → IsSound m → first ≡ pages_of m → first ≤ 16384 → first ≤ number → Seeks m number 0 first
+pub seeks_first : (m : MachineState) (number first : ℕ) → IsSound m → first ≡ pages_of m → first ≤ 4294967295 → first ≤ number → Seeks m number 0 first
 seeks_first m number first sound is few from = record {
   at = at_first m first sound is few;
   from = from;

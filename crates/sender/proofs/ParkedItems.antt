@@ -5,7 +5,7 @@ use Rattle.std.specs.Prelude.{IsTrue}
 use Rattle.blk.proofs.Zeros.{zero_bytes}
 use Rattle.dirtylog.specs.Members.{member_count}
 use Rattle.guestmem.specs.Memory.{IsMemory, Memory}
-use Rattle.guestmem.specs.declared.limits.TheConstants.{PAGES_MAX}
+use Rattle.guestmem.specs.declared.limits.TheConstants.{PAGES_GREATEST}
 use Rattle.machine.specs.Layout.{Layout, layout_of, size_of}
 use Rattle.machine.specs.Parked.{ParkedSeen, WhateverRam, back_with, parked_states}
 use Rattle.machine.specs.Seen.{DeviceSeen, Seen, state_of}
@@ -32,22 +32,22 @@ sound_devices m sound = (length m.memory.bytes, sound.devices)
 abbrev with_zeros : ParkedSeen → Seen
 with_zeros p = back_with p (record { bytes = replicate (4096 * length p.versions) 0; versions = p.versions; place = None })
 
-sound_zeros : (p : ParkedSeen) → 1 ≤ length p.versions → length p.versions ≤ PAGES_MAX → WhateverRam p (λ m. IsSound (state_of (back_with p m))) → IsSound (state_of (with_zeros p))
+sound_zeros : (p : ParkedSeen) → 1 ≤ length p.versions → length p.versions ≤ PAGES_GREATEST → WhateverRam p (λ m. IsSound (state_of (back_with p m))) → IsSound (state_of (with_zeros p))
 sound_zeros p some few sound = sound (with_zeros p).memory (record { pages = length-replicate (4096 * length p.versions) 0; some = some; few = few }) (zero_bytes (4096 * length p.versions)) refl
 
-pub parked_few : (p : ParkedSeen) → 1 ≤ length p.versions → length p.versions ≤ PAGES_MAX → WhateverRam p (λ m. IsSound (state_of (back_with p m))) → length p.devices ≤ DEVICES_MAX
+pub parked_few : (p : ParkedSeen) → 1 ≤ length p.versions → length p.versions ≤ PAGES_GREATEST → WhateverRam p (λ m. IsSound (state_of (back_with p m))) → length p.devices ≤ DEVICES_MAX
 parked_few p some few sound = few_devices (with_zeros p) (sound_zeros p some few sound)
 
-pub parked_sound : (p : ParkedSeen) → 1 ≤ length p.versions → length p.versions ≤ PAGES_MAX → WhateverRam p (λ m. IsSound (state_of (back_with p m))) → AreSoundDevices (map (λ (d : DeviceSeen). d.state) p.devices)
+pub parked_sound : (p : ParkedSeen) → 1 ≤ length p.versions → length p.versions ≤ PAGES_GREATEST → WhateverRam p (λ m. IsSound (state_of (back_with p m))) → AreSoundDevices (map (λ (d : DeviceSeen). d.state) p.devices)
 parked_sound p some few sound = sound_devices (with_zeros p) (sound_zeros p some few sound)
 
 -- Its items.
 pub parked_pages : (p : ParkedSeen) → length p.versions ≤ size_of (parked_layout p)
 parked_pages p = size_grows (map length (map (λ (d : DeviceSeen). d.sectors) p.devices)) (length p.versions)
 
-pub parked_items : (p : ParkedSeen) → 1 ≤ length p.versions → length p.versions ≤ PAGES_MAX → WhateverRam p (λ m. IsSound (state_of (back_with p m))) → size_of (parked_layout p) ≤ 68719493104
+pub parked_items : (p : ParkedSeen) → 1 ≤ length p.versions → length p.versions ≤ PAGES_GREATEST → WhateverRam p (λ m. IsSound (state_of (back_with p m))) → size_of (parked_layout p) ≤ 73014444015
 parked_items p some few sound =
-    subst (λ (l : Layout). size_of l ≤ 68719493104) (layout_is (with_zeros p) p (length-replicate (4096 * length p.versions) 0) refl) (few_items (state_of (with_zeros p)) (sound_zeros p some few sound))
+    subst (λ (l : Layout). size_of l ≤ 73014444015) (layout_is (with_zeros p) p (length-replicate (4096 * length p.versions) 0) refl) (few_items (state_of (with_zeros p)) (sound_zeros p some few sound))
 
 -- A stop, if no further page were dirty.
 pub stop_parked : (p : LiveParkedSeen) (firsts : List ℕ) (at : ℕ) (m : Memory) (next : LiveSeen) (pages sectors : ℕ) (b : List ℕ) (devices : ℕ) → SetsFit (parked_layout p.parked) p.phase p.due p.dirty firsts at → IsMemory m → length m.versions ≡ length p.parked.versions

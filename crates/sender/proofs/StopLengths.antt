@@ -41,7 +41,7 @@ sizes_few (n ∷ ns) first few =
 sector_counts : (m : MachineState) → IsSound m → All (λ (n : ℕ). n ≤ 4294967295) (map length m.disks)
 sector_counts m sound = rw sound.disks (All-map (λ (n : ℕ). n ≤ 4294967295) (λ (d : DeviceState). sector_count (made_as d.kind)) m.devices (λ k d below. few_in (made_as (get_or m.devices k d).kind) (sound.devices k d below).shape))
 
-pub few_items : (m : MachineState) → IsSound m → size_of (layout_of m) ≤ 68719493104
+pub few_items : (m : MachineState) → IsSound m → size_of (layout_of m) ≤ 73014444015
 few_items m sound =
     let sizes = map length m.disks in
     let counts = sizes_few sizes (pages_of m) (sector_counts m sound) in

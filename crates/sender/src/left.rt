@@ -29,7 +29,7 @@ pub(crate) fn left_of(due: &BitSet, dirty: &BitSet, pages: u64) -> Left
 
 /// The most bytes that a stop would write for these items, and for devices whose records take `devices` bytes.
 pub(crate) fn most_bytes(items: Left, devices: u64) -> u64
-    requires pages { items.due_pages + items.dirty_pages ≤ 32768 }
+    requires pages { items.due_pages + items.dirty_pages ≤ 8589934590 }
     requires sectors { items.due_sectors + items.dirty_sectors < 2 ^ 38 }
     requires devices { devices ≤ 2097248 }
     ensures { result ≡ 4101 * (items.due_pages + items.dirty_pages) + 519 * (items.due_sectors + items.dirty_sectors) + devices + 33 }

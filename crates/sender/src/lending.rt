@@ -49,7 +49,7 @@ impl<D: Disk, W: Digesting> Model for LiveParked<D, W> {
 }
 
 impl<D: Disk, W: Digesting> LiveParked<D, W> {
-    /// How many pages its RAM has, from 1 to 16,384.
+    /// How many pages its RAM has, at least one.
     pub fn pages(&self) -> usize
         ensures { result ≡ length self.now.parked.versions }
     {
@@ -80,7 +80,8 @@ impl<D: Disk, W: Digesting> LiveParked<D, W> {
         ensures due_sectors { result.due_sectors ≡ member_count (drop (length self.now.parked.versions) self.now.due) }
         ensures dirty_pages { result.dirty_pages ≡ member_count (take (length self.now.parked.versions) self.now.dirty) }
         ensures dirty_sectors { result.dirty_sectors ≡ member_count (drop (length self.now.parked.versions) self.now.dirty) }
-        ensures few_pages { result.due_pages + result.dirty_pages ≤ 32768 }
+        ensures few_pages { result.due_pages + result.dirty_pages ≤ 2 * length self.now.parked.versions }
+        ensures pages_fit { result.due_pages + result.dirty_pages ≤ 8589934590 }
         ensures few_sectors { result.due_sectors + result.dirty_sectors < 2 ^ 38 }
     {
         self.parked.recall();

@@ -6,7 +6,7 @@
 //! A stop goes over its two sets side by side, and searches each on only from the member that it has just sent: a search of
 //! both from each item on would go over the rest of a set that has one late member for each item of the other.
 
-ghost use Rattle.std.specs.Prelude.{◌≡◌, ◌≢◌, ◌<◌, ◌^◌, ◌-◌, ◌+◌, ◌≤◌, ◌++◌, IfOk, IfErr, None, OnOk, Some, [], drop, false, length, min, take, true};
+ghost use Rattle.std.specs.Prelude.{◌≡◌, ◌≢◌, ◌<◌, ◌^◌, ◌-◌, ◌+◌, ◌*◌, ◌≤◌, ◌++◌, IfOk, IfErr, None, OnOk, Some, [], drop, false, length, min, take, true};
 ghost use Rattle.guestmem.specs.Lent.{AreBelow};
 ghost use Rattle.dirtylog.specs.Members.{HasNone, IsLeastFrom, member_count};
 ghost use Rattle.machine.specs.declared.event.Event.TheVariants as events;
@@ -211,7 +211,8 @@ impl<D: Disk, W: Digesting> LiveOver<D, W> {
         ensures due_sectors { result.due_sectors ≡ member_count (drop (pages_of (now self.now)) self.now.due) }
         ensures dirty_pages { result.dirty_pages ≡ member_count (take (pages_of (now self.now)) self.now.dirty) }
         ensures dirty_sectors { result.dirty_sectors ≡ member_count (drop (pages_of (now self.now)) self.now.dirty) }
-        ensures few_pages { result.due_pages + result.dirty_pages ≤ 32768 }
+        ensures few_pages { result.due_pages + result.dirty_pages ≤ 2 * pages_of (now self.now) }
+        ensures pages_fit { result.due_pages + result.dirty_pages ≤ 8589934590 }
         ensures few_sectors { result.due_sectors + result.dirty_sectors < 2 ^ 38 }
     {
         self.recall();

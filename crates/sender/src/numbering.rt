@@ -16,7 +16,7 @@ use std::alloc::{AllocError, Global};
 /// How many pages a machine has.
 pub(crate) fn page_count<D: Disk>(machine: &Machine<D>) -> u64
     ensures count { result ≡ pages_of (state_of machine.now) }
-    ensures few { result ≤ 16384 }
+    ensures few { result ≤ 4294967295 }
     ensures sound { IsSound (state_of machine.now) }
 {
     let _shapes = machine.shapes();

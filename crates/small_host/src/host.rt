@@ -13,7 +13,7 @@ pub const SECTORS: u64 = 8;
 /// lets its guest run between two turns.
 const STEPS: u32 = 1000;
 
-/// A machine, its interrupt lines as the guest has them, and how far its devices' turn has come: the next one goes on there.
+/// A machine, its interrupt lines as the guest has them, and where the last turn of its devices ended: the next one continues there.
 #[derive(Drop)]
 pub struct Host<G: Guest<MemDisk> + Drop> {
     guest: G,

@@ -5,7 +5,7 @@ use Rattle.receiver.proofs.Counting.{slice_cut, slice_told, told_at_once}
 use Rattle.receiver.proofs.Working.{tells_more}
 use Rattle.receiver.specs.Disks.{MarksRefused}
 use Rattle.receiver.specs.Faults.{Fault as StreamFault}
-use Rattle.receiver.specs.Opened.{ram_at}
+use Rattle.receiver.specs.Opened.{ram_at, usual_at}
 use Rattle.receiver.specs.Receiving.{HasBeenFed, IsFinish, NoFault, Received, RefusesSlice, TellsFault, TellsNow}
 use Rattle.receiver.specs.declared.ram_terms.RamTerms.{RamTerms}
 use Rattle.receiver.specs.declared.recv_error.RecvError.{RecvError}
@@ -34,7 +34,7 @@ pub front_refused : (stream front : List ℕ) (base : ℕ) (sizes : List ℕ) (m
 front_refused stream front base sizes marks new e fault is m t = inr (record {
   more = [];
   refusal = e;
-  refused = subst (λ (b : List ℕ). RefusesSlice base sizes marks b e) (sym (append-nil front)) (slice_told base sizes marks new front e m (told_at_once (ram_at base) sizes front e t));
+  refused = subst (λ (b : List ℕ). RefusesSlice (usual_at base) sizes marks b e) (sym (append-nil front)) (slice_told (usual_at base) sizes marks new front e m (told_at_once (ram_at base) sizes front e t));
   is = is;
 })
 
@@ -48,7 +48,7 @@ pub piece_refused : (stream front more piece : List ℕ) (base : ℕ) (sizes : L
 piece_refused stream front more piece base sizes marks new e fault is m t = inr (record {
   more = more ++ piece;
   refusal = e;
-  refused = subst (λ (b : List ℕ). RefusesSlice base sizes marks b e) (append_assoc front more piece) (slice_told base sizes marks new ((front ++ more) ++ piece) e m (told_so_far (ram_at base) sizes (front ++ more) piece e t));
+  refused = subst (λ (b : List ℕ). RefusesSlice (usual_at base) sizes marks b e) (append_assoc front more piece) (slice_told (usual_at base) sizes marks new ((front ++ more) ++ piece) e m (told_so_far (ram_at base) sizes (front ++ more) piece e t));
   is = is;
 })
 
@@ -58,7 +58,7 @@ pub end_refused : (stream front more : List ℕ) (base : ℕ) (sizes : List ℕ)
 end_refused stream front more base sizes marks e fault is h quiet = inr (record {
   more = more;
   refusal = e;
-  refused = slice_cut base sizes marks (front ++ more) e h quiet;
+  refused = slice_cut (usual_at base) sizes marks (front ++ more) e h quiet;
   is = is;
 })
 

@@ -4,6 +4,7 @@ use Rattle.guestmem.specs.declared.limits.TheConstants.{PAGE_SIZE}
 use Rattle.machine.specs.State.{MachineState}
 use Rattle.receiver.specs.Disks.{disk_marks_of, sizes_of}
 use Rattle.traces.specs.Replies.{AppendsBeginning, checked_line}
+use Rattle.machine.specs.Limits.{AreWithin, usual}
 use Rattle.wire.specs.Header.{Begins, Opening, header}
 use Rattle.rehearsal.specs.InMemory.{memory_state}
 use Rattle.vmig.proofs.MemoryDisks.{refused_steadily, zeros_sized}
@@ -21,22 +22,23 @@ begins_on front more opening rest b = record {
   whole = ap (λ (x : List ℕ). x ++ more) b.whole ∙ append_assoc (header opening) rest more;
 }
 
-front_sized : (front more : List ℕ) (opening : Opening) (rest : List ℕ) (disks : List (List (List ℕ))) → Begins front opening rest → disks ≡ zero_disks opening.shapes → AreSizesOf (front ++ more) (map length disks)
-front_sized front more opening rest disks b are = inl (record {
+front_sized : (front more : List ℕ) (opening : Opening) (rest : List ℕ) (disks : List (List (List ℕ))) → Begins front opening rest → AreWithin usual opening.pages opening.shapes → disks ≡ zero_disks opening.shapes → AreSizesOf (front ++ more) (map length disks)
+front_sized front more opening rest disks b within are = inl (record {
   opening = opening;
   rest = rest ++ more;
   begins = begins_on front more opening rest b;
+  within = within;
   sizes_are = zeros_sized opening.shapes disks are;
 })
 
-pub rest_told : (stream front : List ℕ) (opening : Opening) (rest : List ℕ) (disks : List (List (List ℕ))) (fault : Fault) → Begins front opening rest → disks ≡ zero_disks opening.shapes
+pub rest_told : (stream front : List ℕ) (opening : Opening) (rest : List ℕ) (disks : List (List (List ℕ))) (fault : Fault) → Begins front opening rest → AreWithin usual opening.pages opening.shapes → disks ≡ zero_disks opening.shapes
     → TellsOfRest stream front 0 (sizes_of memory_state disks) (disk_marks_of memory_state disks) fault → TellsOfChecked stream fault
-rest_told stream front opening rest disks fault b are (inl file) = inl file
-rest_told stream front opening rest disks fault b are (inr told) = inr (
+rest_told stream front opening rest disks fault b within are (inl file) = inl file
+rest_told stream front opening rest disks fault b within are (inr told) = inr (
   front ++ told.more,
   inr (record {
     sizes = map length disks;
-    fit = front_sized front told.more opening rest disks b are;
+    fit = front_sized front told.more opening rest disks b within are;
     refusal = told.refusal;
     refused = refused_steadily 0 disks (front ++ told.more) told.refusal told.refused;
     is = told.is;

@@ -4,6 +4,7 @@ use Rattle.std.specs.List.{AllByRecursion}
 use Rattle.std.proofs.lemmas.List.Elements.{All-from_recursion}
 use Rattle.guestmem.specs.declared.limits.TheConstants.{PAGE_SIZE}
 use Rattle.machine.proofs.MadeAs.{first_as}
+use Rattle.machine.specs.Limits.{usual}
 use Rattle.machine.specs.First.{are_same, dealt_marks, first_machine, is_beyond_limits, marks_in, new_refusal}
 use Rattle.machine.specs.Seen.{Marks, Seen, all_marks, state_of}
 use Rattle.machine.specs.Shapes.{disk_sizes, first_device, made_as}
@@ -48,10 +49,10 @@ still_none beyond same within fits = rw (within, fits) refl
 
 -- A machine that is made without disks wants none.
 pub without_disks : (pages : ℕ) (shapes : List Shape) → new_refusal pages shapes [] ≡ None → disk_sizes shapes ≡ []
-without_disks pages shapes none = none_same (disk_sizes shapes) (not_refused (is_beyond_limits 0 (PAGE_SIZE * pages) shapes) (are_same (disk_sizes shapes) []) none).fits
+without_disks pages shapes none = none_same (disk_sizes shapes) (not_refused (is_beyond_limits usual 0 (PAGE_SIZE * pages) shapes) (are_same (disk_sizes shapes) []) none).fits
 
 pub none_with_disks : (pages : ℕ) (shapes : List Shape) → new_refusal pages shapes [] ≡ None → new_refusal pages shapes (disk_sizes shapes) ≡ None
-none_with_disks pages shapes none = still_none (is_beyond_limits 0 (PAGE_SIZE * pages) shapes) (are_same (disk_sizes shapes) (disk_sizes shapes)) (not_refused (is_beyond_limits 0 (PAGE_SIZE * pages) shapes) (are_same (disk_sizes shapes) []) none).within (same_self (disk_sizes shapes))
+none_with_disks pages shapes none = still_none (is_beyond_limits usual 0 (PAGE_SIZE * pages) shapes) (are_same (disk_sizes shapes) (disk_sizes shapes)) (not_refused (is_beyond_limits usual 0 (PAGE_SIZE * pages) shapes) (are_same (disk_sizes shapes) []) none).within (same_self (disk_sizes shapes))
 
 -- What a refusal without disks tells, but for their want.
 other_by : (beyond same again : Bool) (e : NewError) (fault : Fault) → again ≡ true → ¬ (e ≡ DiskMismatch) → fault ≡ shape_fault e → MatchOption (refusal_by beyond same) (e ≡ NoMemory) (λ x. e ≡ x)
@@ -76,7 +77,7 @@ pub told_first : {M : Type 0} (pages : ℕ) (shapes : List Shape) (sizes : List 
     → MatchOption (new_refusal pages shapes (disk_sizes shapes)) (fault ≡ faults.NoMemory) (λ refusal. fault ≡ shape_fault refusal)
 told_first pages shapes sizes r e fault none is refused memory other told =
     let P : List ℕ → Type 0 = λ xs. MatchOption (new_refusal pages shapes xs) (e ≡ NoMemory) (λ x. e ≡ x) in
-    other_by (is_beyond_limits 0 (PAGE_SIZE * pages) shapes) (are_same (disk_sizes shapes) []) (are_same (disk_sizes shapes) (disk_sizes shapes)) e fault (same_self (disk_sizes shapes)) other told
+    other_by (is_beyond_limits usual 0 (PAGE_SIZE * pages) shapes) (are_same (disk_sizes shapes) []) (are_same (disk_sizes shapes) (disk_sizes shapes)) e fault (same_self (disk_sizes shapes)) other told
     (subst P none (why_not (new_refusal pages shapes sizes) r e is refused memory))
 
 -- What one with disks tells.
@@ -105,7 +106,7 @@ pub wants_disks : {M : Type 0} (pages : ℕ) (shapes : List Shape) (sizes : List
     → (new_refusal pages shapes sizes ≡ None → IfErr r (λ x. x ≡ NoMemory)) → new_refusal pages shapes (disk_sizes shapes) ≡ None
 wants_disks pages shapes sizes r none is refused memory =
     let P : List ℕ → Type 0 = λ xs. new_refusal pages shapes xs ≡ Some DiskMismatch in
-    mismatch_by (is_beyond_limits 0 (PAGE_SIZE * pages) shapes) (are_same (disk_sizes shapes) []) (are_same (disk_sizes shapes) (disk_sizes shapes)) (same_self (disk_sizes shapes))
+    mismatch_by (is_beyond_limits usual 0 (PAGE_SIZE * pages) shapes) (are_same (disk_sizes shapes) []) (are_same (disk_sizes shapes) (disk_sizes shapes)) (same_self (disk_sizes shapes))
     (subst P none (mismatch_is (new_refusal pages shapes sizes) (why_not (new_refusal pages shapes sizes) r DiskMismatch is refused memory)))
 
 -- A machine over disks of zeros is fresh.

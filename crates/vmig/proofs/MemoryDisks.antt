@@ -4,6 +4,7 @@ use Rattle.std.proofs.lemmas.List.{length-replicate, map-append, take_more}
 use Rattle.machine.specs.Shapes.{disk_size_of, disk_sizes, with_size}
 use Rattle.machine.specs.declared.shape.Shape.{Shape}
 use Rattle.receiver.specs.Disks.{AreHonestDisks, IsUnsteady, disk_marks_of, sizes_of}
+use Rattle.receiver.specs.Opened.{usual_at}
 use Rattle.receiver.specs.Receiving.{RefusesSlice}
 use Rattle.receiver.specs.declared.recv_error.RecvError.{RecvError}
 use Rattle.receiver.specs.declared.recv_error.RecvError.TheVariants as errors
@@ -26,7 +27,7 @@ never_unsteady : (disks : List (List (List ℕ))) → ¬ (IsUnsteady (disk_marks
 never_unsteady disks h = let is : true ≡ false = sym ((reliable disks).steady h.disk) ∙ h.unsteady in cc
 
 -- What a refusal tells with such disks it tells with disks that never fail.
-pub refused_steadily : (base : ℕ) (disks : List (List (List ℕ))) (bytes : List ℕ) (e : RecvError) → RefusesSlice base (sizes_of memory_state disks) (disk_marks_of memory_state disks) bytes e → RefusesSlice base (map length disks) [] bytes e
+pub refused_steadily : (base : ℕ) (disks : List (List (List ℕ))) (bytes : List ℕ) (e : RecvError) → RefusesSlice (usual_at base) (sizes_of memory_state disks) (disk_marks_of memory_state disks) bytes e → RefusesSlice (usual_at base) (map length disks) [] bytes e
 refused_steadily base disks bytes errors.NoMemory h = tt
 refused_steadily base disks bytes errors.DiskFailed h = absurd (never_unsteady disks h)
 refused_steadily base disks bytes errors.Truncated h = rw (sizes_are disks) at h

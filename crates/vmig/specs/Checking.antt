@@ -4,9 +4,11 @@ use Rattle.guestmem.specs.declared.limits.TheConstants.{PAGE_SIZE}
 use Rattle.machine.specs.Shapes.{disk_sizes}
 use Rattle.machine.specs.State.{MachineState, base_of}
 use Rattle.machine.specs.declared.shape.Shape.{Shape}
+use Rattle.receiver.specs.Opened.{usual_at}
 use Rattle.receiver.specs.Receiving.{IsReceived, RefusesSlice}
 use Rattle.receiver.specs.declared.recv_error.RecvError.{RecvError}
 use Rattle.traces.specs.Replies.{checked_line}
+use Rattle.machine.specs.Limits.{AreWithin, usual}
 use Rattle.wire.specs.Header.{Begins, Opening}
 use Rattle.vmig.specs.Faults.{TellsOfFile, stream_fault}
 use Rattle.vmig.specs.declared.fault.Fault.{Fault}
@@ -30,16 +32,17 @@ pub record IsStreamMachine (machine : MachineState) (n : ℕ) : Type 0 where
   pub received : IsReceived bytes machine n
   pub based : base_of machine.devices ≡ 0
 
--- The header of a machine with disks of these sizes.
+-- The header of a machine within the usual limits, with disks of these sizes.
 pub record TellsSizes (bytes sizes : List ℕ) : Type 0 where
   pub opening : Opening
   pub rest : List ℕ
   pub begins : Begins bytes opening rest
+  pub within : AreWithin usual opening.pages opening.shapes
   pub sizes_are : sizes ≡ disk_sizes opening.shapes
 
--- The bytes begin with no header.
+-- The bytes begin with no header of a machine within the usual limits.
 abbrev pub BeginsNot : List ℕ → Type 0
-BeginsNot bytes = (opening : Opening) (rest : List ℕ) → ¬ (Begins bytes opening rest)
+BeginsNot bytes = (opening : Opening) (rest : List ℕ) → AreWithin usual opening.pages opening.shapes → ¬ (Begins bytes opening rest)
 
 pub record TellsNone (bytes sizes : List ℕ) : Type 0 where
   pub no_header : BeginsNot bytes
@@ -55,7 +58,7 @@ pub record TellsOfBytes (bytes : List ℕ) (fault : Fault) : Type 0 where
   pub sizes : List ℕ
   pub fit : AreSizesOf bytes sizes
   pub refusal : RecvError
-  pub refused : RefusesSlice 0 sizes [] bytes refusal
+  pub refused : RefusesSlice (usual_at 0) sizes [] bytes refusal
   pub is : fault ≡ stream_fault refusal
 
 abbrev pub TellsOfStream : List ℕ → Fault → Type 0

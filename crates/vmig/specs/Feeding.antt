@@ -3,7 +3,7 @@
 use Rattle.std.specs.Prelude.{◌≡◌, ◌⊎◌, ℕ, List, ◌++◌}
 use Rattle.machine.specs.Seen.{Marks}
 use Rattle.machine.specs.State.{MachineState, base_of}
-use Rattle.receiver.specs.Opened.{ram_at}
+use Rattle.receiver.specs.Opened.{ram_at, usual_at}
 use Rattle.receiver.specs.Receiving.{HasBeenFed, IsArrived, IsReceived, NoFault, Received, RefusesSlice}
 use Rattle.receiver.specs.declared.recv_error.RecvError.{RecvError}
 use Rattle.vmig.specs.Faults.{TellsOfFile, stream_fault}
@@ -39,7 +39,7 @@ pub record IsArrivedOn (front : List ℕ) (m : MachineState) : Type 0 where
 pub record TellsOfBytesOn (front : List ℕ) (base : ℕ) (sizes : List ℕ) (marks : List Marks) (fault : Fault) : Type 0 where
   pub more : List ℕ
   pub refusal : RecvError
-  pub refused : RefusesSlice base sizes marks (front ++ more) refusal
+  pub refused : RefusesSlice (usual_at base) sizes marks (front ++ more) refusal
   pub is : fault ≡ stream_fault refusal
 
 -- What a fault says of the stream in the file of this name, whose front was read: the file could not be read, or the stream is

@@ -7,6 +7,7 @@ use Rattle.machine.specs.Seen.{Marks, Seen, state_of}
 use Rattle.machine.specs.State.{MachineState, base_of}
 use Rattle.machine.specs.declared.event.Event.{Event}
 use Rattle.machine.specs.declared.reply.Reply.{Reply}
+use Rattle.receiver.specs.Opened.{usual_at}
 use Rattle.receiver.specs.Receiving.{IsArrived, RefusesSlice}
 use Rattle.receiver.specs.declared.recv_error.RecvError.{RecvError}
 use Rattle.traces.specs.Trace.{HoldsEvents, RefusesEvents}
@@ -74,7 +75,7 @@ pub record TellsOfEvents (text : List ℕ) (fault : Fault) : Type 0 where
 pub record TellsOfPieces (sizes : List ℕ) (marks : List Marks) (fault : Fault) : Type 0 where
   pub bytes : List ℕ
   pub refusal : RecvError
-  pub refused : RefusesSlice 0 sizes marks bytes refusal
+  pub refused : RefusesSlice (usual_at 0) sizes marks bytes refusal
   pub is : fault ≡ stream_fault refusal
 
 -- What a fault says of the stream in the file of this name: it could not be read, or it is refused; or memory was.

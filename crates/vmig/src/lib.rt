@@ -47,11 +47,14 @@ pub use guestmem::{
 };
 pub use machine::{
     Board, Bytes, DEVICES_MAX, DeviceState, Disk, DiskFault, Event, FaultDisk, FileDisk, Kind,
-    Machine, MemDisk, NewError, PageLog, Parked, RamOf, Refusal, Reply, SECTOR_SIZE, SECTORS_MAX,
-    Shape, Stepped, SyncOwed, Turn, TurnEnd, Unmade, Work, is_base,
+    Limits, Machine, MemDisk, NewError, PageLog, Parked, RamOf, Refusal, Reply, SECTOR_SIZE,
+    SECTORS_MAX, Shape, Stepped, SyncOwed, Turn, TurnEnd, Unmade, Work, is_base,
 };
 pub use program::execute;
-pub use receiver::{Receiver, RecvError, read_heading, receive, receive_at};
+pub use receiver::{
+    Receiver, RecvError, Terms, read_heading, read_heading_within, receive, receive_at,
+    receive_with,
+};
 pub use region::Region;
 pub use rehearsal::{Rehearsal, rehearse};
 pub use sender::{

@@ -6,8 +6,9 @@ use Rattle.std.proofs.lemmas.Bool.Decides.{nat_tests}
 use Rattle.std.proofs.lemmas.List.{append-nil, append_assoc, drop_all, drop_more}
 use Rattle.machine.specs.Shapes.{sector_count}
 use Rattle.machine.specs.declared.shape.Shape.{Shape}
+use Rattle.machine.specs.Limits.{usual}
 use Rattle.wire.specs.Header.{Begins, Opening}
-use Rattle.receiver.specs.Faults.{IsHeaderFault, TellsHead}
+use Rattle.receiver.specs.Faults.{ShowsHeaderFault, TellsHead}
 use Rattle.receiver.specs.declared.ram_terms.RamTerms.{RamTerms}
 use Rattle.receiver.specs.declared.recv_error.RecvError.{RecvError}
 use Rattle.receiver.specs.declared.recv_error.RecvError.TheVariants.{NoMemory}
@@ -59,7 +60,7 @@ pub unfit : (limits : Limits) (expected : List Shape) (bytes front more : List �
 unfit limits expected bytes front more opening rest status all begins refused =
     (refl, rw (← all) (inl (record { opening = opening; rest = rest ++ more; begins = begins_longer front more opening rest begins; refused = refused })))
 
-pub faulty : (limits : Limits) (expected : List Shape) (bytes front more : List ℕ) (error : RecvError) (status : ℕ) → front ++ more ≡ bytes → TellsHead error ((ram : RamTerms) (sizes : List ℕ) → (at : ℕ) × IsHeaderFault ram sizes front error at) → status ≡ stream_status error
+pub faulty : (limits : Limits) (expected : List Shape) (bytes front more : List ℕ) (error : RecvError) (status : ℕ) → front ++ more ≡ bytes → TellsHead error (ShowsHeaderFault usual front error) → status ≡ stream_status error
     → (status ≡ status) × (IsUnfit limits expected bytes status ⊎ IsFaultyHead bytes status)
 faulty limits expected bytes front more error status all why is = (refl, inr (record { front = front; rest = more; are = sym all; refused = record { error = error; status_is = is; why = why } }))
 

@@ -1,5 +1,5 @@
 -- Machines whose streams arrive in pieces.
-use Rattle.std.proofs.Common.{◌≡◌, ℕ, Bool, true, false, List, [], ◌∷◌, ◌++◌, refl, sym, ap, ◌∙◌, subst, map, length, take, drop, inl, inr, append_assoc, arith, true≢false}
+use Rattle.std.proofs.Common.{◌≡◌, ◌⊎◌, ℕ, Bool, true, false, List, [], ◌∷◌, ◌++◌, refl, sym, ap, ◌∙◌, subst, map, length, take, drop, inl, inr, append_assoc, arith, true≢false}
 use denote.RawPtr.{Ptr}
 use Rattle.std.specs.Prelude.{IsTrue, IfErr, IfOk, Result, Ok, Err, Option, Some, None, slice_get}
 use Rattle.guestmem.specs.Memory.{Memory}
@@ -11,6 +11,9 @@ use Rattle.machine.specs.Seen.{DeviceSeen, Marks, Seen, all_marks, marks_at, no_
 use Rattle.machine.specs.Shapes.{disk_sizes}
 use Rattle.machine.specs.State.{MachineState, base_of}
 use Rattle.machine.specs.Layout.{pages_of}
+use Rattle.machine.specs.Limits.{AreWithin, usual}
+use Rattle.machine.specs.declared.limits.Limits as machines
+use Rattle.wire.specs.HeaderFaults.{IsBadCount, IsBadShape}
 use Rattle.wire.specs.Header.{Begins, Opening, header}
 use Rattle.wire.proofs.PartLengths.{length_header}
 use Rattle.wire.specs.Stream.{IsStream, device_texts, opening_in, shapes_in, texts}
@@ -21,7 +24,7 @@ use Rattle.receiver.specs.declared.recv_error.RecvError.{RecvError}
 use Rattle.receiver.specs.declared.recv_error.RecvError.TheVariants.{BadMagic, BadVersion, BadShape, ShapeMismatch, BadTag, BadPage, BadSector, BadRound, BadDevice, BadDigest, Missing, Trailing, Truncated, DiskFailed, NoMemory, AlreadyFailed}
 use Rattle.receiver.proofs.Heads.{no_header_fault}
 use Rattle.receiver.proofs.Prefixes.{header_stays, stays}
-use Rattle.receiver.specs.Faults.{Fault, IsHeaderFault, TellsHead, WaitsHead}
+use Rattle.receiver.specs.Faults.{Fault, IsHeaderFault, ShowsHeaderFault, TellsHead, WaitsHead}
 use Rattle.receiver.specs.Opened.{ram_at, said_by}
 use Rattle.receiver.specs.declared.ram_terms.RamTerms.{RamTerms}
 use Rattle.vmig_c.specs.ArrivalSeen.{ArrivalSeen, AtHead, AtBody, Refused, Over}
@@ -29,7 +32,7 @@ use Rattle.vmig_c.specs.Awaited.{AreSteady, CountsRounds, GoesOnWith, IsClosed, 
 use Rattle.vmig_c.specs.declared.arrival.Progress.{Progress}
 use Rattle.vmig_c.specs.declared.arrival.Progress.TheVariants.{Head, Body, Failed}
 use Rattle.vmig_c.specs.declared.arrival.Progress.TheVariants as progress
-use Rattle.vmig_c.specs.Headed.{AreFitting, HasHeader, HasNoHeader}
+use Rattle.vmig_c.specs.Headed.{AreFitting, HasHeader, HasNoHeader, HasNoneWithin}
 use Rattle.c_machine.specs.Plain.{mem_state}
 use Rattle.c_machine.proofs.Plain.{as_many}
 use Rattle.vmig_c.proofs.Streams.{of_found}
@@ -41,6 +44,7 @@ longer bytes piece sizes h = record {
   opening = h.opening;
   rest = h.rest ++ piece;
   begins = record { good = h.begins.good; whole = ap (λ (b : List ℕ). b ++ piece) h.begins.whole ∙ append_assoc _ h.rest piece };
+  within = h.within;
   sizes_are = h.sizes_are;
 }
 
@@ -132,13 +136,13 @@ pub all_refused : (ram : RamTerms) (r : Received) (new : List Marks) (bytes size
 all_refused ram r new bytes sizes e first based are steady fit marks tells = subst (λ (n : RamTerms). TellsWhy n bytes e) based (told r.ram r.sizes [] bytes e (rw are fit) (tells [] first) (never_failed r new e steady marks))
 
 -- The header was found, or not.
-pub begun_coming : (ram : RamTerms) (place : Option Ptr) (r : Received) (bytes : List ℕ) (opening : Opening) (rest : List ℕ) → Begins bytes opening rest → IsFedTo ram place (disk_sizes opening.shapes) bytes r → GoesOnWith bytes (AtBody r)
-begun_coming ram place r bytes opening rest begins h =
-    let header : HasHeader bytes r.sizes = record { opening = opening; rest = rest; begins = begins; sizes_are = h.sizes_are } in
+pub begun_coming : (ram : RamTerms) (place : Option Ptr) (r : Received) (bytes : List ℕ) (opening : Opening) (rest : List ℕ) → Begins bytes opening rest → AreWithin usual opening.pages opening.shapes → IsFedTo ram place (disk_sizes opening.shapes) bytes r → GoesOnWith bytes (AtBody r)
+begun_coming ram place r bytes opening rest begins within h =
+    let header : HasHeader bytes r.sizes = record { opening = opening; rest = rest; begins = begins; within = within; sizes_are = h.sizes_are } in
     record { come = (h.fed, header); fit = inl header; quiet = rw (h.ram_is, h.sizes_are) (h.quiet) }
 
-pub fits_header : (bytes : List ℕ) (opening : Opening) (rest : List ℕ) → Begins bytes opening rest → AreFitting bytes (disk_sizes opening.shapes)
-fits_header bytes opening rest begins = inl (record { opening = opening; rest = rest; begins = begins; sizes_are = refl })
+pub fits_header : (bytes : List ℕ) (opening : Opening) (rest : List ℕ) → Begins bytes opening rest → AreWithin usual opening.pages opening.shapes → AreFitting bytes (disk_sizes opening.shapes)
+fits_header bytes opening rest begins within = inl (record { opening = opening; rest = rest; begins = begins; within = within; sizes_are = refl })
 
 -- The stream of each machine begins with a header.
 headless : (bytes : List ℕ) → HasNoHeader bytes → (m : MachineState) → ¬ (IsStream bytes m)
@@ -218,13 +222,18 @@ pub based_at : (base : ℕ) (ram : Option Memory) → base ≡ (terms_for base r
 based_at base None = refl
 based_at base (Some ram) = refl
 
-no_fault_in : (ram : RamTerms) (sizes bytes : List ℕ) (k : RecvError) (at : ℕ) → WaitsHead bytes → ¬ (Fault ram sizes bytes k at)
-no_fault_in ram sizes bytes k at waits (inl h) = waits.no_fault ram sizes k at h
-no_fault_in ram sizes bytes k at waits (inr h) = waits.no_header (said_by h.opening) _ h.front.begins
+-- The limits are the usual ones.
+pub terms_usual : (base : ℕ) (ram : Option Memory) → (terms_for base ram).limits ≡ usual
+terms_usual base None = refl
+terms_usual base (Some ram) = refl
+
+no_fault_in : (ram : RamTerms) (sizes bytes : List ℕ) (k : RecvError) (at : ℕ) → ram.limits ≡ usual → WaitsHead usual bytes → ¬ (Fault ram sizes bytes k at)
+no_fault_in ram sizes bytes k at is waits (inl h) = waits.no_fault ram sizes k at is h
+no_fault_in ram sizes bytes k at is waits (inr h) = waits.no_header (said_by h.opening) _ h.front.begins
 
 -- A header that is not whole.
-pub head_goes_on : (ram : RamTerms) (place : Option Ptr) (held : List ℕ) → WaitsHead held → GoesOnWith held (AtHead ram place held)
-head_goes_on ram place held waits = record { come = refl; fit = inr waits.no_header; quiet = λ k at fault. no_fault_in ram [] held k at waits fault }
+pub head_goes_on : (ram : RamTerms) (place : Option Ptr) (held : List ℕ) → ram.limits ≡ usual → WaitsHead usual held → GoesOnWith held (AtHead ram place held)
+head_goes_on ram place held is waits = record { come = refl; fit = inr (λ opening rest within. waits.no_header opening rest); quiet = λ k at fault. no_fault_in ram [] held k at is waits fault }
 
 pub head_fed : (ram : RamTerms) (place : Option Ptr) (held piece : List ℕ) (next : ArrivalSeen) → awaited_ram next ≡ ram → awaited_place next ≡ place → GoesOnWith (held ++ piece) next → IsFed (AtHead ram place held) piece next
 head_fed ram place held piece next based there h = record { went_on = tt; goes_on = λ b is. subst (λ (x : List ℕ). GoesOnWith (x ++ piece) next) (sym is) h; ram = based; place = there }
@@ -239,7 +248,7 @@ empty_head opening rest begins = omega (arith, ap (λ (l : List ℕ). length l) 
 faulty_longer : (ram : RamTerms) (bytes rest sizes : List ℕ) (e : RecvError) → HasHeader bytes sizes → IsFaulty ram bytes e → IsFaulty ram (bytes ++ rest) e
 faulty_longer ram bytes rest sizes e header f = elim f.fit as (λ _. IsFaulty ram (bytes ++ rest) e) [
   | inl h ↦ record { sizes = f.sizes; fit = inl (longer bytes rest f.sizes h); at = f.at; fault = stays ram f.sizes bytes rest e f.at f.fault }
-  | inr none ↦ absurd (none header.opening header.rest header.begins)
+  | inr none ↦ absurd (none header.opening header.rest header.within header.begins)
 ]
 
 pub told_longer : (ram : RamTerms) (bytes rest sizes : List ℕ) (e : RecvError) → HasHeader bytes sizes → TellsWhy ram bytes e → TellsWhy ram (bytes ++ rest) e
@@ -261,56 +270,59 @@ told_longer ram bytes rest sizes DiskFailed header t = faulty_longer ram bytes r
 told_longer ram bytes rest sizes AlreadyFailed header t = faulty_longer ram bytes rest sizes AlreadyFailed header t
 
 -- A fault in bytes that begin with no header is one of all longer bytes.
-other_sizes : (ram : RamTerms) (sizes others bytes : List ℕ) (e : RecvError) (at : ℕ) → HasNoHeader bytes → IsHeaderFault ram sizes bytes e at → IsHeaderFault (ram_at 0) others bytes e at
-other_sizes ram sizes others bytes BadMagic at none h = h
-other_sizes ram sizes others bytes BadVersion at none h = h
-other_sizes ram sizes others bytes BadShape at none h = h
-other_sizes ram sizes others bytes ShapeMismatch at none h = absurd (none h.opening h.more h.begins)
-other_sizes ram sizes others bytes BadTag at none h = absurd h
-other_sizes ram sizes others bytes BadPage at none h = absurd h
-other_sizes ram sizes others bytes BadSector at none h = absurd h
-other_sizes ram sizes others bytes BadRound at none h = absurd h
-other_sizes ram sizes others bytes BadDevice at none h = absurd h
-other_sizes ram sizes others bytes BadDigest at none h = absurd h
-other_sizes ram sizes others bytes Missing at none h = absurd h
-other_sizes ram sizes others bytes Trailing at none h = absurd h
-other_sizes ram sizes others bytes Truncated at none h = absurd h
-other_sizes ram sizes others bytes DiskFailed at none h = absurd h
-other_sizes ram sizes others bytes NoMemory at none h = absurd h
-other_sizes ram sizes others bytes AlreadyFailed at none h = absurd h
+usually : (ram : RamTerms) (opening : Opening) → ram.limits ≡ usual → AreWithin ram.limits opening.pages opening.shapes → AreWithin usual opening.pages opening.shapes
+usually ram opening is within = subst (λ (l : machines.Limits). AreWithin l opening.pages opening.shapes) is within
 
-in_header : (ram : RamTerms) (sizes others bytes : List ℕ) (e : RecvError) (at : ℕ) → HasNoHeader bytes → Fault ram sizes bytes e at → IsHeaderFault (ram_at 0) others bytes e at
-in_header ram sizes others bytes e at none (inl h) = other_sizes ram sizes others bytes e at none h
-in_header ram sizes others bytes e at none (inr h) = absurd (none (said_by h.opening) _ h.front.begins)
+other_sizes : (ram : RamTerms) (sizes others bytes : List ℕ) (e : RecvError) (at : ℕ) → ram.limits ≡ usual → HasNoneWithin bytes → IsHeaderFault ram sizes bytes e at → IsHeaderFault (ram_at 0) others bytes e at
+other_sizes ram sizes others bytes BadMagic at is none h = h
+other_sizes ram sizes others bytes BadVersion at is none h = h
+other_sizes ram sizes others bytes BadShape at is none h = subst (λ (l : machines.Limits). IsBadCount l bytes at ⊎ IsBadShape l bytes at) is h
+other_sizes ram sizes others bytes ShapeMismatch at is none h = absurd (none h.opening h.more (usually ram h.opening is h.within) h.begins)
+other_sizes ram sizes others bytes BadTag at is none h = absurd h
+other_sizes ram sizes others bytes BadPage at is none h = absurd h
+other_sizes ram sizes others bytes BadSector at is none h = absurd h
+other_sizes ram sizes others bytes BadRound at is none h = absurd h
+other_sizes ram sizes others bytes BadDevice at is none h = absurd h
+other_sizes ram sizes others bytes BadDigest at is none h = absurd h
+other_sizes ram sizes others bytes Missing at is none h = absurd h
+other_sizes ram sizes others bytes Trailing at is none h = absurd h
+other_sizes ram sizes others bytes Truncated at is none h = absurd h
+other_sizes ram sizes others bytes DiskFailed at is none h = absurd h
+other_sizes ram sizes others bytes NoMemory at is none h = absurd h
+other_sizes ram sizes others bytes AlreadyFailed at is none h = absurd h
 
-still_headless : (ram : RamTerms) (sizes bytes rest : List ℕ) (e : RecvError) (at : ℕ) → HasNoHeader bytes → Fault ram sizes bytes e at → HasNoHeader (bytes ++ rest)
-still_headless ram sizes bytes rest e at none f opening more begins =
-    no_header_fault (ram_at 0) (disk_sizes opening.shapes) (bytes ++ rest) opening more begins refl tt e at (header_stays (ram_at 0) (disk_sizes opening.shapes) bytes rest e at (in_header ram sizes (disk_sizes opening.shapes) bytes e at none f))
+in_header : (ram : RamTerms) (sizes others bytes : List ℕ) (e : RecvError) (at : ℕ) → ram.limits ≡ usual → HasNoneWithin bytes → Fault ram sizes bytes e at → IsHeaderFault (ram_at 0) others bytes e at
+in_header ram sizes others bytes e at is none (inl h) = other_sizes ram sizes others bytes e at is none h
+in_header ram sizes others bytes e at is none (inr h) = absurd (none (said_by h.opening) _ (usually ram (said_by h.opening) is h.front.within) h.front.begins)
 
-faulty_headless : (ram : RamTerms) (bytes rest : List ℕ) (e : RecvError) → HasNoHeader bytes → IsFaulty ram bytes e → IsFaulty ram (bytes ++ rest) e
-faulty_headless ram bytes rest e none f = record { sizes = f.sizes; fit = inr (still_headless ram f.sizes bytes rest e f.at none f.fault); at = f.at; fault = stays ram f.sizes bytes rest e f.at f.fault }
+still_headless : (ram : RamTerms) (sizes bytes rest : List ℕ) (e : RecvError) (at : ℕ) → ram.limits ≡ usual → HasNoneWithin bytes → Fault ram sizes bytes e at → HasNoneWithin (bytes ++ rest)
+still_headless ram sizes bytes rest e at is none f opening more within begins =
+    no_header_fault (ram_at 0) (disk_sizes opening.shapes) (bytes ++ rest) opening more begins within refl tt e at (header_stays (ram_at 0) (disk_sizes opening.shapes) bytes rest e at (in_header ram sizes (disk_sizes opening.shapes) bytes e at is none f))
+
+faulty_headless : (ram : RamTerms) (bytes rest : List ℕ) (e : RecvError) → ram.limits ≡ usual → HasNoneWithin bytes → IsFaulty ram bytes e → IsFaulty ram (bytes ++ rest) e
+faulty_headless ram bytes rest e is none f = record { sizes = f.sizes; fit = inr (still_headless ram f.sizes bytes rest e f.at is none f.fault); at = f.at; fault = stays ram f.sizes bytes rest e f.at f.fault }
 
 -- What is told of the head of bytes that begin with no header, whatever follows.
-faulty_head : (ram : RamTerms) (bytes rest : List ℕ) (e : RecvError) → HasNoHeader bytes → ((ram : RamTerms) (sizes : List ℕ) → (at : ℕ) × IsHeaderFault ram sizes bytes e at) → IsFaulty ram (bytes ++ rest) e
-faulty_head ram bytes rest e none why = let f = why ram [] in faulty_headless ram bytes rest e none (record { sizes = []; fit = inr none; at = f.0; fault = inl f.1 })
+faulty_head : (ram : RamTerms) (bytes rest : List ℕ) (e : RecvError) → ram.limits ≡ usual → HasNoneWithin bytes → ShowsHeaderFault usual bytes e → IsFaulty ram (bytes ++ rest) e
+faulty_head ram bytes rest e is none why = let f = why ram [] is in faulty_headless ram bytes rest e is none (record { sizes = []; fit = inr none; at = f.0; fault = inl f.1 })
 
-pub told_head : (ram : RamTerms) (bytes rest : List ℕ) (e : RecvError) → HasNoHeader bytes → TellsHead e ((ram : RamTerms) (sizes : List ℕ) → (at : ℕ) × IsHeaderFault ram sizes bytes e at) → TellsWhy ram (bytes ++ rest) e
-told_head ram bytes rest NoMemory none t = tt
-told_head ram bytes rest BadMagic none t = faulty_head ram bytes rest BadMagic none t
-told_head ram bytes rest BadVersion none t = faulty_head ram bytes rest BadVersion none t
-told_head ram bytes rest BadShape none t = faulty_head ram bytes rest BadShape none t
-told_head ram bytes rest ShapeMismatch none t = faulty_head ram bytes rest ShapeMismatch none t
-told_head ram bytes rest BadTag none t = faulty_head ram bytes rest BadTag none t
-told_head ram bytes rest BadPage none t = faulty_head ram bytes rest BadPage none t
-told_head ram bytes rest BadSector none t = faulty_head ram bytes rest BadSector none t
-told_head ram bytes rest BadRound none t = faulty_head ram bytes rest BadRound none t
-told_head ram bytes rest BadDevice none t = faulty_head ram bytes rest BadDevice none t
-told_head ram bytes rest BadDigest none t = faulty_head ram bytes rest BadDigest none t
-told_head ram bytes rest Missing none t = faulty_head ram bytes rest Missing none t
-told_head ram bytes rest Trailing none t = faulty_head ram bytes rest Trailing none t
-told_head ram bytes rest Truncated none t = faulty_head ram bytes rest Truncated none t
-told_head ram bytes rest DiskFailed none t = faulty_head ram bytes rest DiskFailed none t
-told_head ram bytes rest AlreadyFailed none t = faulty_head ram bytes rest AlreadyFailed none t
+pub told_head : (ram : RamTerms) (bytes rest : List ℕ) (e : RecvError) → ram.limits ≡ usual → HasNoneWithin bytes → TellsHead e (ShowsHeaderFault usual bytes e) → TellsWhy ram (bytes ++ rest) e
+told_head ram bytes rest NoMemory is none t = tt
+told_head ram bytes rest BadMagic is none t = faulty_head ram bytes rest BadMagic is none t
+told_head ram bytes rest BadVersion is none t = faulty_head ram bytes rest BadVersion is none t
+told_head ram bytes rest BadShape is none t = faulty_head ram bytes rest BadShape is none t
+told_head ram bytes rest ShapeMismatch is none t = faulty_head ram bytes rest ShapeMismatch is none t
+told_head ram bytes rest BadTag is none t = faulty_head ram bytes rest BadTag is none t
+told_head ram bytes rest BadPage is none t = faulty_head ram bytes rest BadPage is none t
+told_head ram bytes rest BadSector is none t = faulty_head ram bytes rest BadSector is none t
+told_head ram bytes rest BadRound is none t = faulty_head ram bytes rest BadRound is none t
+told_head ram bytes rest BadDevice is none t = faulty_head ram bytes rest BadDevice is none t
+told_head ram bytes rest BadDigest is none t = faulty_head ram bytes rest BadDigest is none t
+told_head ram bytes rest Missing is none t = faulty_head ram bytes rest Missing is none t
+told_head ram bytes rest Trailing is none t = faulty_head ram bytes rest Trailing is none t
+told_head ram bytes rest Truncated is none t = faulty_head ram bytes rest Truncated is none t
+told_head ram bytes rest DiskFailed is none t = faulty_head ram bytes rest DiskFailed is none t
+told_head ram bytes rest AlreadyFailed is none t = faulty_head ram bytes rest AlreadyFailed is none t
 
 -- A result has one error.
 pub one_error : {A E : Type 0} (r : Result A E) (x y : E) → r ≡ Err x → r ≡ Err y → x ≡ y

@@ -29,7 +29,7 @@ use Rattle.vmig_c.proofs.ByKept.{drop_number, few_by, no_number, size_number}
 abbrev pub zero_ram : ParkedSeen → Memory
 zero_ram p = record { bytes = replicate (4096 * length p.versions) 0; versions = p.versions; place = None }
 
-pub applied_at : (p next : ParkedSeen) (e : Event) (reply : Reply) → 1 ≤ length p.versions → length p.versions ≤ 16384 → IsAppliedParked p e reply next → IsApplied (back_with p (zero_ram p)) e reply (back_with next (zero_ram p))
+pub applied_at : (p next : ParkedSeen) (e : Event) (reply : Reply) → 1 ≤ length p.versions → length p.versions ≤ 4294967295 → IsAppliedParked p e reply next → IsApplied (back_with p (zero_ram p)) e reply (back_with next (zero_ram p))
 applied_at p next e reply some few a = (a.applied (zero_ram p) (record { pages = length-replicate (4096 * length p.versions) 0; some = some; few = few }) (zero_bytes (4096 * length p.versions)) refl).applied
 
 pub told : (p next : ParkedSeen) (e : Event) (reply : Reply) (status number n : ℕ) → IsAppliedParked p e reply next → status ≡ status_of reply → number ≡ number_of reply n → IsToldLent p e status number n next
@@ -42,17 +42,17 @@ told_so p next e answer status applied is = told p next e (done_reply answer) st
 pub served : (l next : LiveParkedSeen) (e : Event) (reply : LiveReply) (status number n : ℕ) → ServesParked l e reply next → status ≡ live_status reply → number ≡ live_number reply n → IsServedLent l e status number n next
 served l next e reply status number n serves told counted = record { reply = reply; serves = serves; status_is = told; number_is = counted }
 
-few_for : (o : Option MigError) (l next : LiveParkedSeen) (e : Event) (answer : Result Reply MigError) → 1 ≤ length l.parked.versions → length l.parked.versions ≤ 16384
+few_for : (o : Option MigError) (l next : LiveParkedSeen) (e : Event) (answer : Result Reply MigError) → 1 ≤ length l.parked.versions → length l.parked.versions ≤ 4294967295
     → MatchOption o (GuestsParked l e (guest_reply answer) next) (λ x. (guest_reply answer ≡ live.Mig x) × (next ≡ l)) → IfOk answer (λ reply. length (sent_in reply) ≤ 65536)
 few_for None l next e (Ok reply) some few after = few_by (back_with l.parked (zero_ram l.parked)) (back_with next.parked (zero_ram l.parked)) e reply (applied_at l.parked next.parked e reply some few after.applied)
 few_for (Some x) l next e (Ok reply) some few after = let other : live.Guest reply ≡ live.Mig x = after.0 in absurd cc
 few_for o l next e (Err x) some few after = tt
 
-pub few_told : (l next : LiveParkedSeen) (e : Event) (answer : Result Reply MigError) → 1 ≤ length l.parked.versions → length l.parked.versions ≤ 16384 → ServesParked l e (guest_reply answer) next → IfOk answer (λ reply. length (sent_in reply) ≤ 65536)
+pub few_told : (l next : LiveParkedSeen) (e : Event) (answer : Result Reply MigError) → 1 ≤ length l.parked.versions → length l.parked.versions ≤ 4294967295 → ServesParked l e (guest_reply answer) next → IfOk answer (λ reply. length (sent_in reply) ≤ 65536)
 few_told l next e answer some few serves = few_for (refusal_for l.phase (Guest e)) l next e answer some few serves
 
 -- A size and a drop have no number.
-without : (o : Option MigError) (l next : LiveParkedSeen) (e : Event) (reply : LiveReply) → 1 ≤ length l.parked.versions → length l.parked.versions ≤ 16384
+without : (o : Option MigError) (l next : LiveParkedSeen) (e : Event) (reply : LiveReply) → 1 ≤ length l.parked.versions → length l.parked.versions ≤ 4294967295
     → ((r : Reply) → IsApplied (back_with l.parked (zero_ram l.parked)) e r (back_with next.parked (zero_ram l.parked)) → 0 ≡ number_of r 0) → MatchOption o (GuestsParked l e reply next) (λ x. (reply ≡ live.Mig x) × (next ≡ l)) → 0 ≡ live_number reply 0
 without None l next e (live.Guest r) some few quiet after = quiet r (applied_at l.parked next.parked e r some few after.applied)
 without None l next e (live.Begun k) some few quiet after = absurd after
@@ -63,7 +63,7 @@ without None l next e (live.Stopped pages sectors) some few quiet after = absurd
 without None l next e (live.Mig x) some few quiet after = absurd after
 without (Some x) l next e reply some few quiet after = rw (after.0) refl
 
-pub resized : (l next : LiveParkedSeen) (dev cols rows : ℕ) (answer : Result Reply MigError) (status : ℕ) → 1 ≤ length l.parked.versions → length l.parked.versions ≤ 16384 → ServesParked l (Resize dev cols rows) (guest_reply answer) next → status ≡ live_status (guest_reply answer)
+pub resized : (l next : LiveParkedSeen) (dev cols rows : ℕ) (answer : Result Reply MigError) (status : ℕ) → 1 ≤ length l.parked.versions → length l.parked.versions ≤ 4294967295 → ServesParked l (Resize dev cols rows) (guest_reply answer) next → status ≡ live_status (guest_reply answer)
     → IsServedLent l (Resize dev cols rows) status 0 0 next
 resized l next dev cols rows answer status some few serves told = record {
   reply = guest_reply answer;
@@ -74,7 +74,7 @@ resized l next dev cols rows answer status some few serves told = record {
       (λ r applied. rw (applied.has.reply_is) (size_number dev (slice_get (parked_states l.parked) dev) (record { columns = cols; rows = rows }))) serves;
 }
 
-pub dropped : (l next : LiveParkedSeen) (dev : ℕ) (answer : Result Reply MigError) (status : ℕ) → 1 ≤ length l.parked.versions → length l.parked.versions ≤ 16384 → ServesParked l (Drop dev) (guest_reply answer) next → status ≡ live_status (guest_reply answer)
+pub dropped : (l next : LiveParkedSeen) (dev : ℕ) (answer : Result Reply MigError) (status : ℕ) → 1 ≤ length l.parked.versions → length l.parked.versions ≤ 4294967295 → ServesParked l (Drop dev) (guest_reply answer) next → status ≡ live_status (guest_reply answer)
     → IsServedLent l (Drop dev) status 0 0 next
 dropped l next dev answer status some few serves told = record {
   reply = guest_reply answer;

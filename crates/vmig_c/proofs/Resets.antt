@@ -114,11 +114,11 @@ live_done None l next e (live.Stopped pages sectors) status none going fine told
 live_done None l next e (live.Mig x) status none going fine told does = absurd does
 
 -- While RAM is lent.
-parked_shapes : (p next : ParkedSeen) (e : Event) (reply : Reply) → 1 ≤ length p.versions → length p.versions ≤ 16384 → IsAppliedParked p e reply next → made_in (parked_states next) ≡ made_in (parked_states p)
+parked_shapes : (p next : ParkedSeen) (e : Event) (reply : Reply) → 1 ≤ length p.versions → length p.versions ≤ 4294967295 → IsAppliedParked p e reply next → made_in (parked_states next) ≡ made_in (parked_states p)
 parked_shapes p next e reply some few applied = (applied_at p next e reply some few applied).shape.devices
 
-same_pages : (p next : ParkedSeen) → next.versions ≡ p.versions → (1 ≤ length p.versions) × (length p.versions ≤ 16384) → (1 ≤ length next.versions) × (length next.versions ≤ 16384)
-same_pages p next same pages = subst (λ (v : List ℕ). (1 ≤ length v) × (length v ≤ 16384)) (sym same) pages
+same_pages : (p next : ParkedSeen) → next.versions ≡ p.versions → (1 ≤ length p.versions) × (length p.versions ≤ 4294967295) → (1 ≤ length next.versions) × (length next.versions ≤ 4294967295)
+same_pages p next same pages = subst (λ (v : List ℕ). (1 ≤ length v) × (length v ≤ 4294967295)) (sym same) pages
 
 parked_done : (o : Option MigError) (l next : LiveParkedSeen) (e : Event) (reply : LiveReply) (status : ℕ) → o ≡ None → stop_refusal l.phase ≡ None → HasPages (Lent (MovingLent l)) → IsFine (Lent (MovingLent l)) e → status ≡ live_status reply
     → MatchOption o (GuestsParked l e reply next) (λ x. (reply ≡ live.Mig x) × (next ≡ l)) → IsDoneBy (Lent (MovingLent l)) status (Lent (MovingLent next))

@@ -5,6 +5,7 @@ use Rattle.guestmem.specs.declared.limits.TheConstants.{PAGE_SIZE}
 use Rattle.machine.specs.First.{is_base}
 use Rattle.machine.specs.declared.shape.Shape.{Shape}
 use Rattle.machine.specs.declared.shape.Shape.TheVariants.{Net, Block, Console, Entropy}
+use Rattle.machine.specs.Limits.{usual}
 use Rattle.wire.specs.Header.{Begins, Opening}
 use Rattle.receiver.specs.Faults.{WaitsHead}
 use Rattle.receiver.specs.declared.recv_error.RecvError.TheVariants.{AlreadyFailed}
@@ -74,7 +75,7 @@ pub record IsFaultyHead (bytes : List ℕ) (status : ℕ) : Type 0 where
 
 -- The header is not whole, and has no fault so far: these bytes are kept.
 pub record IsPendingWith (limits : Limits) (expected : List Shape) (bytes : List ℕ) (kept : Limits) (shapes : List Shape) (held : List ℕ) : Type 0 where
-  pub waits : WaitsHead bytes
+  pub waits : WaitsHead usual bytes
   pub same : kept ≡ limits
   pub shapes_same : shapes ≡ expected
   pub held_are : held ≡ bytes

@@ -1,8 +1,8 @@
 -- What the first bytes of a stream announce, before a machine arrives by them.
 use Rattle.std.specs.Prelude.{◌≡◌, ◌⊎◌, ℕ, List}
+use Rattle.machine.specs.Limits.{usual}
 use Rattle.wire.specs.Header.{Begins, Opening}
-use Rattle.receiver.specs.Faults.{IsHeaderFault, TellsHead, WaitsHead}
-use Rattle.receiver.specs.declared.ram_terms.RamTerms.{RamTerms}
+use Rattle.receiver.specs.Faults.{ShowsHeaderFault, TellsHead, WaitsHead}
 use Rattle.receiver.specs.declared.recv_error.RecvError.{RecvError}
 use Rattle.receiver.specs.declared.recv_error.RecvError.TheVariants.{NoMemory}
 use Rattle.vmig_c.specs.Awaited.{stream_status}
@@ -13,7 +13,7 @@ use Rattle.c_machine.specs.declared.description.Description.{Description}
 -- The bytes begin with no whole header, and with no fault of one.
 pub record IsAwaited (bytes : List ℕ) (status : ℕ) : Type 0 where
   pub status_is : status ≡ more
-  pub waits : WaitsHead bytes
+  pub waits : WaitsHead usual bytes
 
 -- The status of what refuses a header that nothing arrives by. Where memory was refused nothing is over by it: that has the status of
 -- all calls.
@@ -25,7 +25,7 @@ heading_status error = stream_status error
 pub record IsRefusedAt (status_for : RecvError → ℕ) (bytes : List ℕ) (status : ℕ) : Type 0 where
   pub error : RecvError
   pub status_is : status ≡ status_for error
-  pub why : TellsHead error ((ram : RamTerms) (sizes : List ℕ) → (at : ℕ) × IsHeaderFault ram sizes bytes error at)
+  pub why : TellsHead error (ShowsHeaderFault usual bytes error)
 
 -- The pages and the devices of the machine that arrives are returned, and the size of a buffer that is enough for its steps.
 pub record IsAnnounced (bytes : List ℕ) (status : ℕ) (told : Description) : Type 0 where

@@ -1,6 +1,6 @@
 -- The guest's reboot, as a list of events: 0 is written into the Status of each device in order, and what the host put into it is dropped.
 use Rattle.std.specs.Prelude.{◌≡◌, ℕ, ◌+◌, ◌≤◌, Bool, true, false, List, [], ◌∷◌, ◌++◌, if◌then◌else◌, length, map, Option, Some, None}
-use Rattle.guestmem.specs.declared.limits.TheConstants.{PAGES_MAX}
+use Rattle.guestmem.specs.declared.limits.TheConstants.{PAGES_GREATEST}
 use Rattle.machine.specs.Parked.{parked_states}
 use Rattle.machine.specs.Seen.{state_of}
 use Rattle.machine.specs.Shapes.{made_as}
@@ -56,7 +56,7 @@ shapes_in (Lent x) = made_in (parked_states (parked_in x))
 
 -- RAM that is lent has pages, as many as RAM may have.
 abbrev pub HasPages : State → Type 0
-HasPages (Lent x) = (1 ≤ length (parked_in x).versions) × (length (parked_in x).versions ≤ PAGES_MAX)
+HasPages (Lent x) = (1 ≤ length (parked_in x).versions) × (length (parked_in x).versions ≤ PAGES_GREATEST)
 HasPages _ = Unit {0}
 
 -- Why no device is reset: there is no machine, or it was stopped, and takes no event.

@@ -13,7 +13,7 @@ ghost use Rattle.machine.specs.Shapes.{disk_sizes};
 ghost use Rattle.receiver.specs.Calls.{IsNew};
 ghost use Rattle.vmig_c.specs.ArrivalSeen.{AtBody};
 ghost use Rattle.vmig_c.specs.Awaited.{AreSteady, GoesOnWith, IsComing, IsFed, IsFedTo, TellsOf, TellsWhy, awaited_by, awaited_place, awaited_ram, is_over, place_for, terms_for};
-ghost use Rattle.vmig_c.specs.Headed.{AreFitting, HasNoHeader};
+ghost use Rattle.vmig_c.specs.Headed.{AreFitting, HasNoneWithin};
 
 use c_machine::zero_disks;
 use guestmem::Ram;
@@ -299,7 +299,7 @@ fn go_on_headless(
     held: Vec<u8>,
     rest: &[u8],
 ) -> Result<Progress, RecvError>
-    requires none { HasNoHeader held.items }
+    requires none { HasNoneWithin held.items }
     requires all { length held.items ≤ 495 → rest.now ≡ [] }
     ensures coming { IfOk result (λ next. IsComing next) }
     ensures own { IfOk result (λ next. is_over (awaited_by next) ≡ false) }

@@ -8,7 +8,7 @@
 //! holds then, since no contract sees a machine that was freed; `examples/c/lent.c` tests it.
 
 ghost use Rattle.std.specs.Prelude.{◌≡◌, ◌≤◌, ◌*◌, [], None, IfErr, IfOk, length, true};
-ghost use Rattle.guestmem.specs.declared.limits.TheConstants.{PAGE_SIZE, PAGES_MAX};
+ghost use Rattle.guestmem.specs.declared.limits.TheConstants.{PAGE_SIZE, PAGES_GREATEST};
 ghost use Rattle.region.specs.Empty.{empty_slot};
 ghost use Rattle.region.specs.Slot.{region_of};
 ghost use Rattle.vmig_c.specs.Kept.{are_mapped, held_state, loan_of, parked_in, state_in};
@@ -158,7 +158,7 @@ fn back_refusal(kept: &Kept, ram: &mut Slot, pages: &Pages) -> Option<u32>
 
 /// Why what lies in the slot is not taken back as a RAM of `count` pages.
 fn return_refusal(count: usize, ram: &mut Slot, pages: &Pages) -> Option<u32>
-    requires { count ≤ PAGES_MAX }
+    requires { count ≤ PAGES_GREATEST }
     ensures same { ram.new ≡ ram.old }
     ensures refusal { result ≡ return_refusal_of count (length ram.old.content) pages.now }
 {
@@ -174,7 +174,7 @@ fn return_refusal(count: usize, ram: &mut Slot, pages: &Pages) -> Option<u32>
 /// How many pages the RAM has that is lent.
 fn pages_out(kept: &Kept) -> usize
     ensures count { result ≡ lent_pages kept.now.state }
-    ensures few { result ≤ PAGES_MAX }
+    ensures few { result ≤ PAGES_GREATEST }
 {
     by_state!(&kept.held;
         still(_) => 0,

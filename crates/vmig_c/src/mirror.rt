@@ -10,7 +10,7 @@ ghost use Rattle.std.specs.Prelude.{◌≡◌, ◌*◌, ◌<◌, ◌≤◌, leng
 ghost use Rattle.guestmem.specs.Memory.{IsMemory};
 ghost use Rattle.guestmem.specs.Page.{page_of};
 ghost use Rattle.guestmem.specs.Write.{put_at};
-ghost use Rattle.guestmem.specs.declared.limits.TheConstants.{PAGES_MAX};
+ghost use Rattle.guestmem.specs.declared.limits.TheConstants.{PAGES_GREATEST};
 ghost use Rattle.vmig_c.specs.Mirror.{ArePushed, HasPulled, IsPushable, IsPushed, PullsKept, PushesKept, away_status, is_closed, is_away, is_noted, is_short, is_stopped, memory_in, push_refusal};
 ghost use Rattle.c_machine.specs.Status.{done};
 ghost use Rattle.vmig_c.specs.Kept as states;
@@ -91,7 +91,7 @@ fn push_refusal(kept: &Kept, pages: &Pages, bytes: usize, entries: usize) -> Opt
 /// How many pages the RAM of the machine has; 0 where it is away.
 pub(crate) fn pages_in(kept: &Kept) -> usize
     ensures count { result ≡ length (memory_in kept.now.state).versions }
-    ensures few { result ≤ PAGES_MAX }
+    ensures few { result ≤ PAGES_GREATEST }
 {
     match ram_of(kept) {
         Ok(memory) => page_count(memory) as usize,

@@ -1,6 +1,6 @@
 //! Events, applied to the contents of a handle. Bytes are taken from the caller's slice, without a copy before.
 //!
-//! Those that touch no byte of RAM are applied while it is lent too: a host serves the registers of a guest that goes on running.
+//! Events that do not access RAM are applied while it is lent too: a host serves register accesses while the guest's processors run.
 
 ghost use Rattle.std.specs.Prelude.{◌≡◌};
 ghost use Rattle.machine.specs.declared.event.Event.TheVariants as events;

@@ -43,7 +43,7 @@ pub struct Turn {
 
 /// One step of a turn, or why there was none or the turn ends with it.
 pub(crate) enum Outcome {
-    /// It was made, and the turn goes on.
+    /// It was made, and the turn continues.
     Made,
 
     /// None was named: why.
@@ -145,7 +145,7 @@ fn make_next(kept: &mut Kept, turn: &mut Turn, buf: &mut [u8]) -> Outcome
     Outcome::Answered(status)
 }
 
-/// Whether a turn goes on after a step of a device that was answered so.
+/// Whether a turn continues after a step with this status.
 fn goes_on(is_entropy: bool, status: u32) -> bool
     ensures { result ≡ goes_on is_entropy status }
 {

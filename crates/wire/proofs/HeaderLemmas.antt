@@ -57,7 +57,7 @@ block_reads bytes sectors read_only id rest good says =
     let long : nat_lt (length bytes) 29 ≡ false = le-ltb _ _ says.long in
     let one : nat_lt 1 (flag read_only) ≡ false = le-ltb _ _ (flag_few read_only) in
     let some : eqb sectors 0 ≡ false = ne_eqb _ _ (λ (z : sectors ≡ 0). omega (arith, good.some)) in
-    let few : nat_lt 2097152 sectors ≡ false = le-ltb _ _ good.few in
+    let few : nat_lt 4294967295 sectors ≡ false = le-ltb _ _ good.few in
     rw (long, says.only, one, says.sectors_are, some, few, number-flag read_only, says.id_is, says.rest_is) refl
 
 net_reads : (mac rest : List ℕ) → IsMac mac → net_shape_of (mac ++ rest) ≡ Some (Net mac, rest)
@@ -88,12 +88,12 @@ block_written bytes sectors are long sectors_are few =
     ∙ ap (λ (x : ℕ). (digits 8 x ++ (number_at bytes 8 1 ∷ take 20 (drop 9 bytes))) ++ drop 20 (drop 9 bytes)) sectors_are
     ∙ ap (λ (x : ℕ). (digits 8 sectors ++ (x ∷ take 20 (drop 9 bytes))) ++ drop 20 (drop 9 bytes)) (sym (flag-number (number_at bytes 8 1) few))
 
-block_sound : (bytes : List ℕ) → IsBytes bytes → 29 ≤ length bytes → eqb (number_at bytes 0 8) 0 ≡ false → nat_lt 2097152 (number_at bytes 0 8) ≡ false → IsBlockShape (number_at bytes 0 8) (take 20 (drop 9 bytes))
+block_sound : (bytes : List ℕ) → IsBytes bytes → 29 ≤ length bytes → eqb (number_at bytes 0 8) 0 ≡ false → nat_lt 4294967295 (number_at bytes 0 8) ≡ false → IsBlockShape (number_at bytes 0 8) (take 20 (drop 9 bytes))
 block_sound bytes are long some few =
     let is : number_at bytes 0 8 ≢ 0 = eqb-false (number_at bytes 0 8) 0 some in
     record {
       some = omega (arith, is);
-      few = ltb-false 2097152 (number_at bytes 0 8) few;
+      few = ltb-false 4294967295 (number_at bytes 0 8) few;
       id_size = omega (arith, long, length-take 20 (drop 9 bytes), length-drop 9 bytes);
       id_bytes = IsBytes-take 20 (drop 9 bytes) (IsBytes-drop 9 bytes are);
     }
@@ -115,9 +115,9 @@ block_read : (n : ℕ) (bytes : List ℕ) (found : Shape × List ℕ) → IsByte
 unfolding block_shape_of spelled_shape
 block_read n bytes found are two e =
     let long = not_chosen (nat_lt (length bytes) 29 || nat_lt 1 (number_at bytes 8 1)) _ found e in
-    let some = not_chosen (eqb (number_at bytes 0 8) 0 || nat_lt 2097152 (number_at bytes 0 8)) _ found long.1 in
+    let some = not_chosen (eqb (number_at bytes 0 8) 0 || nat_lt 4294967295 (number_at bytes 0 8)) _ found long.1 in
     let size = neither (nat_lt (length bytes) 29) (nat_lt 1 (number_at bytes 8 1)) long.0 in
-    let limits = neither (eqb (number_at bytes 0 8) 0) (nat_lt 2097152 (number_at bytes 0 8)) some.0 in
+    let limits = neither (eqb (number_at bytes 0 8) 0) (nat_lt 4294967295 (number_at bytes 0 8)) some.0 in
     let within = ltb-false (length bytes) 29 size.0 in
     subst (λ (y : Shape × List ℕ). ShapeRead (n ∷ bytes) y) (same_found _ found some.1) (record {
       good = block_sound bytes are within limits.0 limits.1;
@@ -190,7 +190,7 @@ pub record HeadSays (bytes : List ℕ) (version pages count : ℕ) : Type 0 wher
   pub pages_are : number_at bytes 8 4 ≡ pages
   pub count_is : number_at bytes 12 4 ≡ count
 
-pub head_says : (version pages count : ℕ) (rest : List ℕ) → version ≤ 2 → pages ≤ 16384 → count ≤ 16 → HeadSays (spelled head_widths (head_numbers version pages count) ++ rest) version pages count
+pub head_says : (version pages count : ℕ) (rest : List ℕ) → version ≤ 2 → pages ≤ 4294967295 → count ≤ 16 → HeadSays (spelled head_widths (head_numbers version pages count) ++ rest) version pages count
 head_says version pages count rest old few_pages few_devices =
     let fits : Fit head_widths (head_numbers version pages count) = (omega arith, (omega (arith, old), (omega (arith, few_pages), (omega (arith, few_devices), tt)))) in
     let read = numbers-spelled head_widths (head_numbers version pages count) [] rest fits in

@@ -5,10 +5,12 @@ use Rattle.std.specs.List.{AllByRecursion}
 use Rattle.std.proofs.lemmas.List.{take-append-drop, length-append, length-take, drop_at}
 use Rattle.std.proofs.lemmas.List.Elements.{All-push, recursion_from_All}
 use Rattle.guestmem.specs.Number.{IsBytes, number_at}
+use Rattle.machine.specs.Limits.{AreWithin, IsShapeWithin, usual}
 use Rattle.machine.specs.Sound.{IsSoundShape}
+use Rattle.machine.specs.declared.limits.Limits.{Limits}
 use Rattle.machine.specs.declared.shape.Shape.{Shape}
 use Rattle.wire.specs.Header.{front, spelled_shape, spelled_shapes, Begins, Opening, IsVersion, shape_length}
-use Rattle.wire.specs.HeaderFaults.{IsBeyond, IsUnknown, MayCount, IsBadMagic, IsBadVersion, Says, IsBadCount, IsNoShape, IsBadShape, IsHeaderPart, OnFault, ShowsFault}
+use Rattle.wire.specs.HeaderFaults.{IsBeyond, IsShapeFor, IsUnknown, MayCount, IsBadMagic, IsBadVersion, Says, IsBadCount, IsNoShape, IsBadShape, IsHeaderPart, OnFault, ShowsFault}
 use Rattle.wire.specs.HeaderParts.{ShapeWaits, BadFirst, FewShapes, ShapesWait, ShapesBad, ShapesRead, OnBad}
 use Rattle.wire.specs.ShapeReading.{shape_of}
 use Rattle.wire.specs.declared.header_error.HeaderError.{HeaderError}
@@ -54,12 +56,19 @@ pub shapes_led : (ss ts : List Shape) (x y : List ℕ) → All IsSoundShape ss �
 shapes_led ss ts x y h k e = shapes_led_by ss ts x y (recursion_from_All IsSoundShape ss h) (recursion_from_All IsSoundShape ts k) e
 
 -- What is behind some sound shapes is sound too.
-sound_after : (ss more : List Shape) → AllByRecursion IsSoundShape (ss ++ more) → AllByRecursion IsSoundShape more
-sound_after [] more h = h
-sound_after (s ∷ ss) more h = sound_after ss more h.1
+sound_after : (P : Shape → Type 0) (ss more : List Shape) → AllByRecursion P (ss ++ more) → AllByRecursion P more
+sound_after P [] more h = h
+sound_after P (s ∷ ss) more h = sound_after P ss more h.1
 
-pub sound_behind : (ss more ts : List Shape) → ts ≡ ss ++ more → All IsSoundShape ts → AllByRecursion IsSoundShape more
-sound_behind ss more ts e h = sound_after ss more (recursion_from_All IsSoundShape (ss ++ more) (rw e at h))
+pub sound_behind : (P : Shape → Type 0) (ss more ts : List Shape) → ts ≡ ss ++ more → All P ts → AllByRecursion P more
+sound_behind P ss more ts e h = sound_after P ss more (recursion_from_All P (ss ++ more) (rw e at h))
+
+-- Shapes within limits are sound, and those of a header within limits are within them.
+pub are_sound : (l : Limits) (ss : List Shape) → All (IsShapeFor l) ss → All IsSoundShape ss
+are_sound l ss h k d below = (h k d below).sound
+
+pub are_for : (l : Limits) (bytes : List ℕ) (opening : Opening) (rest : List ℕ) → AreWithin l opening.pages opening.shapes → Begins bytes opening rest → All (IsShapeFor l) opening.shapes
+are_for l bytes opening rest w b k d below = record { sound = b.good.sound k d below; within = w.few_sectors k d below }
 
 -- No wrong shape is spelled.
 
@@ -69,17 +78,17 @@ unknown_spelled s bad x y good n e =
     let first : n.number ≡ l.number = head_same (ap (λ (z : List ℕ). z ++ x) (sym n.is) ∙ e ∙ ap (λ (z : List ℕ). z ++ y) l.is) in
     let no : (◌≡◌ {A = Option ℕ} None (Some (suc (length l.others)))) = sym n.never ∙ ap shape_length first ∙ l.long in cc
 
-beyond_spelled : (s : Shape) (bad x y : List ℕ) → IsSoundShape s → IsBeyond bad → bad ++ x ≡ spelled_shape s ++ y → ⊥
-beyond_spelled s bad x y good n e =
-    let l = length_shape s good in
+beyond_spelled : (limits : Limits) (s : Shape) (bad x y : List ℕ) → IsShapeFor limits s → IsBeyond limits bad → bad ++ x ≡ spelled_shape s ++ y → ⊥
+beyond_spelled limits s bad x y good n e =
+    let l = length_shape s good.sound in
     let first : n.number ≡ l.number = head_same (ap (λ (z : List ℕ). z ++ x) (sym n.is) ∙ e ∙ ap (λ (z : List ℕ). z ++ y) l.is) in
     let long : (◌≡◌ {A = Option ℕ} (Some (length bad)) (Some (suc (length l.others)))) = sym n.long ∙ ap shape_length first ∙ l.long in
     let size : length bad ≡ length (spelled_shape s) = same_found (length bad) (suc (length l.others)) long ∙ sym (ap length l.is) in
     n.never s good (split_same bad (spelled_shape s) x y size e).0
 
-pub no_bad_spelled : (s : Shape) (bad x y : List ℕ) → IsSoundShape s → IsNoShape bad → ¬ (bad ++ x ≡ spelled_shape s ++ y)
-no_bad_spelled s bad x y good (inl n) e = unknown_spelled s bad x y good n e
-no_bad_spelled s bad x y good (inr n) e = beyond_spelled s bad x y good n e
+pub no_bad_spelled : (l : Limits) (s : Shape) (bad x y : List ℕ) → IsShapeFor l s → IsNoShape l bad → ¬ (bad ++ x ≡ spelled_shape s ++ y)
+no_bad_spelled l s bad x y good (inl n) e = unknown_spelled s bad x y good.sound n e
+no_bad_spelled l s bad x y good (inr n) e = beyond_spelled l s bad x y good n e
 
 -- Two wrong shapes at the front are of one length.
 lengths_known : (m n a b : ℕ) → m ≡ n → shape_length m ≡ Some a → shape_length n ≡ Some b → a ≡ b
@@ -88,41 +97,41 @@ lengths_known m n a b same e f = same_found a b (sym e ∙ ap shape_length same 
 none_known : (m n a : ℕ) → m ≡ n → shape_length m ≡ None → shape_length n ≡ Some a → ⊥
 none_known m n a same e f = let no : (◌≡◌ {A = Option ℕ} None (Some a)) = sym e ∙ ap shape_length same ∙ f in cc
 
-unknown_beyond : (bad other x y : List ℕ) → IsUnknown bad → IsBeyond other → bad ++ x ≡ other ++ y → ⊥
-unknown_beyond bad other x y n m e = none_known n.number m.number (length other) (head_same (ap (λ (z : List ℕ). z ++ x) (sym n.is) ∙ e ∙ ap (λ (z : List ℕ). z ++ y) m.is)) n.never m.long
+unknown_beyond : (l : Limits) (bad other x y : List ℕ) → IsUnknown bad → IsBeyond l other → bad ++ x ≡ other ++ y → ⊥
+unknown_beyond l bad other x y n m e = none_known n.number m.number (length other) (head_same (ap (λ (z : List ℕ). z ++ x) (sym n.is) ∙ e ∙ ap (λ (z : List ℕ). z ++ y) m.is)) n.never m.long
 
-pub bad_lengths : (bad other x y : List ℕ) → IsNoShape bad → IsNoShape other → bad ++ x ≡ other ++ y → length bad ≡ length other
-bad_lengths bad other x y (inl n) (inl m) e = ap length n.is ∙ sym (ap length m.is)
-bad_lengths bad other x y (inl n) (inr m) e = absurd (unknown_beyond bad other x y n m e)
-bad_lengths bad other x y (inr n) (inl m) e = absurd (unknown_beyond other bad y x m n (sym e))
-bad_lengths bad other x y (inr n) (inr m) e = lengths_known n.number m.number (length bad) (length other) (head_same (ap (λ (z : List ℕ). z ++ x) (sym n.is) ∙ e ∙ ap (λ (z : List ℕ). z ++ y) m.is)) n.long m.long
+pub bad_lengths : (l : Limits) (bad other x y : List ℕ) → IsNoShape l bad → IsNoShape l other → bad ++ x ≡ other ++ y → length bad ≡ length other
+bad_lengths l bad other x y (inl n) (inl m) e = ap length n.is ∙ sym (ap length m.is)
+bad_lengths l bad other x y (inl n) (inr m) e = absurd (unknown_beyond l bad other x y n m e)
+bad_lengths l bad other x y (inr n) (inl m) e = absurd (unknown_beyond l other bad y x m n (sym e))
+bad_lengths l bad other x y (inr n) (inr m) e = lengths_known n.number m.number (length bad) (length other) (head_same (ap (λ (z : List ℕ). z ++ x) (sym n.is) ∙ e ∙ ap (λ (z : List ℕ). z ++ y) m.is)) n.long m.long
 
 -- One shape.
 
 bad_first_byte : (bad rest bytes others : List ℕ) (number : ℕ) → bytes ≡ number ∷ others → bytes ≡ bad ++ rest → (n : IsUnknown bad) → n.number ≡ number
 bad_first_byte bad rest bytes others number is e n = sym (head_same (sym is ∙ e ∙ ap (λ (z : List ℕ). z ++ rest) n.is))
 
-no_bad_yet : (bad rest bytes others : List ℕ) (number len : ℕ) → bytes ≡ number ∷ others → shape_length number ≡ Some len → length bytes < len → IsNoShape bad → ¬ (bytes ≡ bad ++ rest)
-no_bad_yet bad rest bytes others number len is long short (inl n) e = none_known n.number number len (bad_first_byte bad rest bytes others number is e n) n.never long
-no_bad_yet bad rest bytes others number len is long short (inr n) e =
+no_bad_yet : (l : Limits) (bad rest bytes others : List ℕ) (number len : ℕ) → bytes ≡ number ∷ others → shape_length number ≡ Some len → length bytes < len → IsNoShape l bad → ¬ (bytes ≡ bad ++ rest)
+no_bad_yet l bad rest bytes others number len is long short (inl n) e = none_known n.number number len (bad_first_byte bad rest bytes others number is e n) n.never long
+no_bad_yet l bad rest bytes others number len is long short (inr n) e =
     let first : n.number ≡ number = sym (head_same (sym is ∙ e ∙ ap (λ (z : List ℕ). z ++ rest) n.is)) in
     omega (arith, short, ap length e, length-append bad rest, lengths_known n.number number (length bad) len first n.long long)
 
-pub shape_cut : (bytes others : List ℕ) (number len : ℕ) → shape_of bytes ≡ None → bytes ≡ number ∷ others → shape_length number ≡ Some len → length bytes < len → ShapeWaits bytes
-shape_cut bytes others number len none is long short = record {
+pub shape_cut : (l : Limits) (bytes others : List ℕ) (number len : ℕ) → shape_of bytes ≡ None → bytes ≡ number ∷ others → shape_length number ≡ Some len → length bytes < len → ShapeWaits l bytes
+shape_cut l bytes others number len none is long short = record {
   no_shape = no_shape bytes none;
-  no_bad = λ bad rest n. no_bad_yet bad rest bytes others number len is long short n;
+  no_bad = λ bad rest n. no_bad_yet l bad rest bytes others number len is long short n;
 }
 
-bad_none : (bad rest bytes : List ℕ) → IsNoShape bad → length bytes ≡ 0 → ¬ (bytes ≡ bad ++ rest)
-bad_none bad rest bytes (inl n) none e = omega (arith, none, ap length e, length-append bad rest, ap length n.is)
-bad_none bad rest bytes (inr n) none e = omega (arith, none, ap length e, length-append bad rest, ap length n.is)
+bad_none : (l : Limits) (bad rest bytes : List ℕ) → IsNoShape l bad → length bytes ≡ 0 → ¬ (bytes ≡ bad ++ rest)
+bad_none l bad rest bytes (inl n) none e = omega (arith, none, ap length e, length-append bad rest, ap length n.is)
+bad_none l bad rest bytes (inr n) none e = omega (arith, none, ap length e, length-append bad rest, ap length n.is)
 
-pub no_shape_yet : (bytes : List ℕ) → shape_of bytes ≡ None → length bytes ≡ 0 → ShapeWaits bytes
-no_shape_yet bytes is none = record { no_shape = no_shape bytes is; no_bad = λ bad rest n e. bad_none bad rest bytes n none e }
+pub no_shape_yet : (l : Limits) (bytes : List ℕ) → shape_of bytes ≡ None → length bytes ≡ 0 → ShapeWaits l bytes
+no_shape_yet l bytes is none = record { no_shape = no_shape bytes is; no_bad = λ bad rest n e. bad_none l bad rest bytes n none e }
 
-pub unknown_shape : (number : ℕ) (bytes rest : List ℕ) → bytes ≡ number ∷ rest → shape_length number ≡ None → BadFirst bytes
-unknown_shape number bytes rest e never = record { bad = number ∷ []; more = rest; whole = e; never = inl (record { number = number; is = refl; never = never }) }
+pub unknown_shape : (l : Limits) (number : ℕ) (bytes rest : List ℕ) → bytes ≡ number ∷ rest → shape_length number ≡ None → BadFirst l bytes
+unknown_shape l number bytes rest e never = record { bad = number ∷ []; more = rest; whole = e; never = inl (record { number = number; is = refl; never = never }) }
 
 first_kept : (bytes others : List ℕ) (number len : ℕ) → bytes ≡ number ∷ others → 0 < len → (tail : List ℕ) × (take len bytes ≡ number ∷ tail)
 first_kept bytes others number zero is some = absurd (omega (arith, some))
@@ -153,8 +162,8 @@ few_spelled bytes rest s good e =
     let l = length_shape s good in
     omega (arith, few_length l.number (suc (length l.others)) l.long, ap length e, length-append (spelled_shape s) rest, ap length l.is)
 
-pub beyond_shape : (number len : ℕ) (bytes others : List ℕ) → shape_of bytes ≡ None → bytes ≡ number ∷ others → shape_length number ≡ Some len → 0 < len → len ≤ length bytes → BadFirst bytes
-beyond_shape number len bytes others none is long some le =
+pub beyond_shape : (l : Limits) (number len : ℕ) (bytes others : List ℕ) → shape_of bytes ≡ None → bytes ≡ number ∷ others → shape_length number ≡ Some len → 0 < len → len ≤ length bytes → BadFirst l bytes
+beyond_shape l number len bytes others none is long some le =
     let kept = first_kept bytes others number len is some in
     let size : length (take len bytes) ≡ len = omega (arith, le, length-take len bytes) in
     let whole : bytes ≡ take len bytes ++ drop len bytes = sym (take-append-drop len bytes) in
@@ -167,39 +176,56 @@ beyond_shape number len bytes others none is long some le =
         others = kept.0;
         is = kept.1;
         long = rw size long;
-        never = λ s good e. no_shape bytes none s (drop len bytes) good (whole ∙ ap (λ (z : List ℕ). z ++ drop len bytes) e);
+        never = λ s good e. no_shape bytes none s (drop len bytes) good.sound (whole ∙ ap (λ (z : List ℕ). z ++ drop len bytes) e);
+      });
+    }
+
+-- A sound shape that the limits do not allow.
+pub over_shape : (l : Limits) (bytes rest : List ℕ) (s : Shape) → IsSoundShape s → bytes ≡ spelled_shape s ++ rest → ¬ (IsShapeWithin l s) → BadFirst l bytes
+over_shape l bytes rest s good whole out =
+    let h = length_shape s good in
+    record {
+      bad = spelled_shape s;
+      more = rest;
+      whole = whole;
+      never = inr (record {
+        number = h.number;
+        others = h.others;
+        is = h.is;
+        long = subst (λ (z : List ℕ). shape_length h.number ≡ Some (length z)) (sym h.is) h.long;
+        never = λ t allowed same. out (subst (IsShapeWithin l) (sym (one_shape s t [] [] good allowed.sound (ap (λ (z : List ℕ). z ++ []) same)).0) allowed.within);
       });
     }
 
 -- So many shapes.
 
-none_sound : All IsSoundShape []
-none_sound k d below = absurd (omega (arith, below))
+none_sound : (l : Limits) → All (IsShapeFor l) []
+none_sound l k d below = absurd (omega (arith, below))
 
-pub no_shapes : (bytes : List ℕ) (ss : List Shape) → ss ≡ [] → ShapesRead 0 bytes ss bytes
-no_shapes bytes ss e = rw e (record { count_is = refl; sound = none_sound; whole = refl })
+pub no_shapes : (l : Limits) (bytes : List ℕ) (ss : List Shape) → ss ≡ [] → ShapesRead l 0 bytes ss bytes
+no_shapes l bytes ss e = rw e (record { count_is = refl; sound = none_sound l; whole = refl })
 
 pub spelled-snoc : (ss : List Shape) (s : Shape) → spelled_shapes (ss ++ s ∷ []) ≡ spelled_shapes ss ++ spelled_shape s
 spelled-snoc [] s = append-nil (spelled_shape s)
 spelled-snoc (t ∷ ss) s = ap (λ (x : List ℕ). spelled_shape t ++ x) (spelled-snoc ss s) ∙ sym (append_assoc (spelled_shape t) (spelled_shapes ss) (spelled_shape s))
 
-pub more_shapes : (n : ℕ) (bytes rest after : List ℕ) (ss : List Shape) (s : Shape) → ShapesRead n bytes ss rest → IsSoundShape s × (rest ≡ spelled_shape s ++ after) → ShapesRead (n + 1) bytes (ss ++ s ∷ []) after
-more_shapes n bytes rest after ss s h e = record {
+pub more_shapes : (l : Limits) (n : ℕ) (bytes rest after : List ℕ) (ss : List Shape) (s : Shape) → ShapesRead l n bytes ss rest → IsShapeFor l s × (rest ≡ spelled_shape s ++ after) → ShapesRead l (n + 1) bytes (ss ++ s ∷ []) after
+more_shapes l n bytes rest after ss s h e = record {
   count_is = omega (arith, h.count_is, length-append ss (s ∷ []));
-  sound = All-push IsSoundShape ss s h.sound e.0;
+  sound = All-push (IsShapeFor l) ss s h.sound e.0;
   whole = h.whole ∙ ap (λ (x : List ℕ). spelled_shapes ss ++ x) e.1 ∙ sym (append_assoc (spelled_shapes ss) (spelled_shape s) after) ∙ ap (λ (x : List ℕ). x ++ after) (sym (spelled-snoc ss s));
 }
 
-pub few_shapes : (n count : ℕ) (bytes rest : List ℕ) (ss : List Shape) → ShapesRead n bytes ss rest → n < count → FewShapes count bytes
-few_shapes n count bytes rest ss h lt = record { shapes = ss; rest = rest; fewer = omega (arith, h.count_is, lt); sound = h.sound; whole = h.whole }
+pub few_shapes : (l : Limits) (n count : ℕ) (bytes rest : List ℕ) (ss : List Shape) → ShapesRead l n bytes ss rest → n < count → FewShapes l count bytes
+few_shapes l n count bytes rest ss h lt = record { shapes = ss; rest = rest; fewer = omega (arith, h.count_is, lt); sound = h.sound; whole = h.whole }
 
-pub shapes_wait : (n count : ℕ) (bytes rest : List ℕ) (ss : List Shape) → ShapesRead n bytes ss rest → n < count → ShapeWaits rest → ShapesWait count bytes
+pub shapes_wait : (l : Limits) (n count : ℕ) (bytes rest : List ℕ) (ss : List Shape) → ShapesRead l n bytes ss rest → n < count → ShapeWaits l rest → ShapesWait l count bytes
 unfolding few_shapes
-shapes_wait n count bytes rest ss h lt w = record { few = few_shapes n count bytes rest ss h lt; waits = w }
+shapes_wait l n count bytes rest ss h lt w = record { few = few_shapes l n count bytes rest ss h lt; waits = w }
 
-pub shapes_bad : (n count : ℕ) (bytes rest : List ℕ) (ss : List Shape) → ShapesRead n bytes ss rest → n < count → BadFirst rest → ShapesBad count bytes
+pub shapes_bad : (l : Limits) (n count : ℕ) (bytes rest : List ℕ) (ss : List Shape) → ShapesRead l n bytes ss rest → n < count → BadFirst l rest → ShapesBad l count bytes
 unfolding few_shapes
-shapes_bad n count bytes rest ss h lt b = record { few = few_shapes n count bytes rest ss h lt; bad = b }
+shapes_bad l n count bytes rest ss h lt b = record { few = few_shapes l n count bytes rest ss h lt; bad = b }
 
 -- The first 16 bytes.
 
@@ -220,12 +246,12 @@ says_of b =
 pub shapes_behind : {bytes : List ℕ} {opening : Opening} {rest : List ℕ} → Begins bytes opening rest → drop 16 bytes ≡ spelled_shapes opening.shapes ++ rest
 shapes_behind {opening = opening} {rest = rest} b = ap (drop 16) (grouped b) ∙ drop_at (front opening.version opening.pages (length opening.shapes)) (spelled_shapes opening.shapes ++ rest) 16 (length-front opening.version opening.pages (length opening.shapes))
 
-pub begins_so : (bytes : List ℕ) (version pages count : ℕ) (ss : List Shape) (rest : List ℕ) → IsBytes bytes → version ≡ number_at bytes 4 4 → Says bytes pages count → MayCount pages count → ShapesRead count (drop 16 bytes) ss rest
+pub begins_so : (l : Limits) (bytes : List ℕ) (version pages count : ℕ) (ss : List Shape) (rest : List ℕ) → l.pages ≤ 4294967295 → IsBytes bytes → version ≡ number_at bytes 4 4 → Says bytes pages count → MayCount l pages count → ShapesRead l count (drop 16 bytes) ss rest
     → Begins bytes (record { version = version; pages = pages; shapes = ss }) rest
-begins_so bytes version pages count ss rest are is says may read =
+begins_so l bytes version pages count ss rest most are is says may read =
     let written = head_written bytes version pages count are (record { long = says.long; magic = says.magic; version_is = sym is; pages_are = says.pages_are; count_is = says.count_is }) in
     record {
-      good = record { known = subst IsVersion (sym is) says.known; some_page = may.some_page; few_pages = may.few_pages; some_device = omega (arith, may.some_device, read.count_is); few_devices = omega (arith, may.few_devices, read.count_is); sound = read.sound };
+      good = record { known = subst IsVersion (sym is) says.known; some_page = may.some_page; few_pages = omega (arith, may.few_pages, most); some_device = omega (arith, may.some_device, read.count_is); few_devices = omega (arith, may.few_devices, read.count_is); sound = are_sound l ss read.sound };
       whole =
           written
           ∙ ap (λ (n : ℕ). front version pages n ++ drop 16 bytes) (sym read.count_is)
@@ -233,61 +259,65 @@ begins_so bytes version pages count ss rest are is says may read =
           ∙ sym (append_assoc (front version pages (length ss)) (spelled_shapes ss) rest);
     }
 
+pub within_so : (l : Limits) (pages count : ℕ) (bytes rest : List ℕ) (ss : List Shape) → MayCount l pages count → ShapesRead l count bytes ss rest → AreWithin l pages ss
+within_so l pages count bytes rest ss may read = record { few_pages = may.few_pages; few_sectors = λ k d below. (read.sound k d below).within }
+
 pub not_both_ways : (b : Bool) → b ≡ true → b ≡ false → ⊥
 not_both_ways b e f = let no : true ≡ false = sym e ∙ f in cc
 
 -- A header that is not whole, with no fault.
-no_fault_yet : (bytes : List ℕ) → ((at : ℕ) → ¬ (IsBadMagic bytes at)) → ((at : ℕ) → ¬ (IsBadVersion bytes at)) → ((at : ℕ) → ¬ (IsBadCount bytes at)) → ((at : ℕ) → ¬ (IsBadShape bytes at))
-    → (k : HeaderError) (at : ℕ) → ¬ (ShowsFault k bytes at)
-no_fault_yet bytes m v c s errors.BadMagic at h = m at h
-no_fault_yet bytes m v c s errors.BadVersion at h = v at h
-no_fault_yet bytes m v c s errors.BadShape at (inl h) = c at h
-no_fault_yet bytes m v c s errors.BadShape at (inr h) = s at h
-no_fault_yet bytes m v c s errors.NoMemory at h = h
+no_fault_yet : (l : Limits) (bytes : List ℕ) → ((at : ℕ) → ¬ (IsBadMagic bytes at)) → ((at : ℕ) → ¬ (IsBadVersion bytes at)) → ((at : ℕ) → ¬ (IsBadCount l bytes at)) → ((at : ℕ) → ¬ (IsBadShape l bytes at))
+    → (k : HeaderError) (at : ℕ) → ¬ (ShowsFault l k bytes at)
+no_fault_yet l bytes m v c s errors.BadMagic at h = m at h
+no_fault_yet l bytes m v c s errors.BadVersion at h = v at h
+no_fault_yet l bytes m v c s errors.BadShape at (inl h) = c at h
+no_fault_yet l bytes m v c s errors.BadShape at (inr h) = s at h
+no_fault_yet l bytes m v c s errors.NoMemory at h = h
 
-pub head_short : (bytes : List ℕ) → length bytes < 16 → ((at : ℕ) → ¬ (IsBadMagic bytes at)) → ((at : ℕ) → ¬ (IsBadVersion bytes at)) → IsHeaderPart bytes
-head_short bytes short m v =
+pub head_short : (l : Limits) (bytes : List ℕ) → length bytes < 16 → ((at : ℕ) → ¬ (IsBadMagic bytes at)) → ((at : ℕ) → ¬ (IsBadVersion bytes at)) → IsHeaderPart l bytes
+head_short l bytes short m v =
     let none : (opening : Opening) (rest : List ℕ) → ¬ (Begins bytes opening rest) = λ opening rest b. omega (arith, short, (says_of b).long) in
-    record { no_header = none; no_fault = no_fault_yet bytes m v (λ at h. omega (arith, short, h.says.long)) (λ at h. omega (arith, short, h.says.long)) }
+    record { no_header = none; no_fault = no_fault_yet l bytes m v (λ at h. omega (arith, short, h.says.long)) (λ at h. omega (arith, short, h.says.long)) }
 
 -- What is behind fewer shapes than there are to be.
 
-no_more : (more : List Shape) (x y : List ℕ) → AllByRecursion IsSoundShape more → ShapeWaits x → x ≡ spelled_shapes more ++ y → more ≡ []
-no_more [] x y good w e = refl
-no_more (s ∷ more) x y good w e = absurd (w.no_shape s (spelled_shapes more ++ y) good.0 (e ∙ append_assoc (spelled_shape s) (spelled_shapes more) y))
+no_more : (l : Limits) (more : List Shape) (x y : List ℕ) → AllByRecursion IsSoundShape more → ShapeWaits l x → x ≡ spelled_shapes more ++ y → more ≡ []
+no_more l [] x y good w e = refl
+no_more l (s ∷ more) x y good w e = absurd (w.no_shape s (spelled_shapes more ++ y) good.0 (e ∙ append_assoc (spelled_shape s) (spelled_shapes more) y))
 
-not_whole : (count : ℕ) (ss ts : List Shape) (x y : List ℕ) → All IsSoundShape ts → length ss < count → length ts ≡ count → ShapeWaits x → LongerShapes ss ts x y ⊎ LongerShapes ts ss y x → ⊥
-not_whole count ss ts x y good lt e w (inl l) = omega (arith, lt, e, ap length l.all, length-append ss l.more, ap length (no_more l.more x y (sound_behind ss l.more ts l.all good) w l.left))
-not_whole count ss ts x y good lt e w (inr l) = omega (arith, lt, e, ap length l.all, length-append ts l.more)
+not_whole : (limits : Limits) (count : ℕ) (ss ts : List Shape) (x y : List ℕ) → All IsSoundShape ts → length ss < count → length ts ≡ count → ShapeWaits limits x → LongerShapes ss ts x y ⊎ LongerShapes ts ss y x → ⊥
+not_whole limits count ss ts x y good lt e w (inl l) = omega (arith, lt, e, ap length l.all, length-append ss l.more, ap length (no_more limits l.more x y (sound_behind IsSoundShape ss l.more ts l.all good) w l.left))
+not_whole limits count ss ts x y good lt e w (inr l) = omega (arith, lt, e, ap length l.all, length-append ts l.more)
 
-bad_left : (more : List Shape) (bad x y : List ℕ) → AllByRecursion IsSoundShape more → IsNoShape bad → ShapeWaits x → bad ++ y ≡ spelled_shapes more ++ x → ⊥
-bad_left [] bad x y good n w e = w.no_bad bad y n (sym e)
-bad_left (s ∷ more) bad x y good n w e = no_bad_spelled s bad y (spelled_shapes more ++ x) good.0 n (e ∙ append_assoc (spelled_shape s) (spelled_shapes more) x)
+bad_left : (l : Limits) (more : List Shape) (bad x y : List ℕ) → AllByRecursion (IsShapeFor l) more → IsNoShape l bad → ShapeWaits l x → bad ++ y ≡ spelled_shapes more ++ x → ⊥
+bad_left l [] bad x y good n w e = w.no_bad bad y n (sym e)
+bad_left l (s ∷ more) bad x y good n w e = no_bad_spelled l s bad y (spelled_shapes more ++ x) good.0 n (e ∙ append_assoc (spelled_shape s) (spelled_shapes more) x)
 
-bad_right : (more : List Shape) (bad x y : List ℕ) → AllByRecursion IsSoundShape more → IsNoShape bad → ShapeWaits x → x ≡ spelled_shapes more ++ (bad ++ y) → ⊥
-bad_right [] bad x y good n w e = w.no_bad bad y n e
-bad_right (s ∷ more) bad x y good n w e = w.no_shape s (spelled_shapes more ++ (bad ++ y)) good.0 (e ∙ append_assoc (spelled_shape s) (spelled_shapes more) (bad ++ y))
+bad_right : (l : Limits) (more : List Shape) (bad x y : List ℕ) → AllByRecursion (IsShapeFor l) more → IsNoShape l bad → ShapeWaits l x → x ≡ spelled_shapes more ++ (bad ++ y) → ⊥
+bad_right l [] bad x y good n w e = w.no_bad bad y n e
+bad_right l (s ∷ more) bad x y good n w e = w.no_shape s (spelled_shapes more ++ (bad ++ y)) good.0.sound (e ∙ append_assoc (spelled_shape s) (spelled_shapes more) (bad ++ y))
 
-not_bad : (ss ts : List Shape) (bad x y : List ℕ) → All IsSoundShape ss → All IsSoundShape ts → IsNoShape bad → ShapeWaits x → LongerShapes ss ts x (bad ++ y) ⊎ LongerShapes ts ss (bad ++ y) x → ⊥
-not_bad ss ts bad x y h k n w (inl l) = bad_right l.more bad x y (sound_behind ss l.more ts l.all k) n w l.left
-not_bad ss ts bad x y h k n w (inr l) = bad_left l.more bad x y (sound_behind ts l.more ss l.all h) n w l.left
+not_bad : (limits : Limits) (ss ts : List Shape) (bad x y : List ℕ) → All (IsShapeFor limits) ss → All (IsShapeFor limits) ts → IsNoShape limits bad → ShapeWaits limits x → LongerShapes ss ts x (bad ++ y) ⊎ LongerShapes ts ss (bad ++ y) x → ⊥
+not_bad limits ss ts bad x y h k n w (inl l) = bad_right limits l.more bad x y (sound_behind (IsShapeFor limits) ss l.more ts l.all k) n w l.left
+not_bad limits ss ts bad x y h k n w (inr l) = bad_left limits l.more bad x y (sound_behind (IsShapeFor limits) ts l.more ss l.all h) n w l.left
 
-pub head_part : (bytes : List ℕ) (pages count : ℕ) → Says bytes pages count → MayCount pages count → ShapesWait count (drop 16 bytes) → IsHeaderPart bytes
-head_part bytes pages count says may s =
+pub head_part : (l : Limits) (bytes : List ℕ) (pages count : ℕ) → Says bytes pages count → MayCount l pages count → ShapesWait l count (drop 16 bytes) → IsHeaderPart l bytes
+head_part l bytes pages count says may s =
+    let few = are_sound l s.few.shapes s.few.sound in
     let none : (opening : Opening) (rest : List ℕ) → ¬ (Begins bytes opening rest) = λ opening rest b.
-    not_whole count s.few.shapes opening.shapes s.few.rest rest b.good.sound s.few.fewer (sym (says_of b).count_is ∙ says.count_is) s.waits (shapes_led s.few.shapes opening.shapes s.few.rest rest s.few.sound b.good.sound (sym s.few.whole ∙ shapes_behind b)) in
+    not_whole l count s.few.shapes opening.shapes s.few.rest rest b.good.sound s.few.fewer (sym (says_of b).count_is ∙ says.count_is) s.waits (shapes_led s.few.shapes opening.shapes s.few.rest rest few b.good.sound (sym s.few.whole ∙ shapes_behind b)) in
     record {
       no_header = none;
-      no_fault = no_fault_yet bytes (λ at h. h.never says.magic) (λ at h. h.never says.known)
+      no_fault = no_fault_yet l bytes (λ at h. h.never says.magic) (λ at h. h.never says.known)
           (λ at h. h.never (rw (sym h.says.pages_are ∙ says.pages_are, sym h.says.count_is ∙ says.count_is) may))
-          (λ at h. not_bad s.few.shapes h.shapes h.bad s.few.rest h.more s.few.sound h.sound h.never s.waits (shapes_led s.few.shapes h.shapes s.few.rest (h.bad ++ h.more) s.few.sound h.sound (sym s.few.whole ∙ h.whole)));
+          (λ at h. not_bad l s.few.shapes h.shapes h.bad s.few.rest h.more s.few.sound h.sound h.never s.waits (shapes_led s.few.shapes h.shapes s.few.rest (h.bad ++ h.more) few (are_sound l h.shapes h.sound) (sym s.few.whole ∙ h.whole)));
     }
 
-pub bad_count : (bytes : List ℕ) (pages count : ℕ) → Says bytes pages count → ¬ (MayCount pages count) → (at : ℕ) × ShowsFault errors.BadShape bytes at
-bad_count bytes pages count says never = (16, inl (record { pages = pages; count = count; says = says; never = never; there = refl }))
+pub bad_count : (l : Limits) (bytes : List ℕ) (pages count : ℕ) → Says bytes pages count → ¬ (MayCount l pages count) → (at : ℕ) × ShowsFault l errors.BadShape bytes at
+bad_count l bytes pages count says never = (16, inl (record { pages = pages; count = count; says = says; never = never; there = refl }))
 
-bad_shapes : (bytes : List ℕ) (pages count : ℕ) → Says bytes pages count → MayCount pages count → ShapesBad count (drop 16 bytes) → (at : ℕ) × ShowsFault errors.BadShape bytes at
-bad_shapes bytes pages count says may s = (
+bad_shapes : (l : Limits) (bytes : List ℕ) (pages count : ℕ) → Says bytes pages count → MayCount l pages count → ShapesBad l count (drop 16 bytes) → (at : ℕ) × ShowsFault l errors.BadShape bytes at
+bad_shapes l bytes pages count says may s = (
   16 + (length (spelled_shapes s.few.shapes) + length s.bad.bad),
   inr (record {
     pages = pages;
@@ -305,11 +335,11 @@ bad_shapes bytes pages count says may s = (
   }),
 )
 
-pub told_shapes : (bytes : List ℕ) (pages count : ℕ) (e : HeaderError) → Says bytes pages count → MayCount pages count → OnBad e (ShapesBad count (drop 16 bytes)) → OnFault e ((at : ℕ) × ShowsFault e bytes at)
-told_shapes bytes pages count errors.BadShape says may h = bad_shapes bytes pages count says may h
-told_shapes bytes pages count errors.NoMemory says may h = tt
-told_shapes bytes pages count errors.BadMagic says may h = absurd h
-told_shapes bytes pages count errors.BadVersion says may h = absurd h
+pub told_shapes : (l : Limits) (bytes : List ℕ) (pages count : ℕ) (e : HeaderError) → Says bytes pages count → MayCount l pages count → OnBad e (ShapesBad l count (drop 16 bytes)) → OnFault e ((at : ℕ) × ShowsFault l e bytes at)
+told_shapes l bytes pages count errors.BadShape says may h = bad_shapes l bytes pages count says may h
+told_shapes l bytes pages count errors.NoMemory says may h = tt
+told_shapes l bytes pages count errors.BadMagic says may h = absurd h
+told_shapes l bytes pages count errors.BadVersion says may h = absurd h
 
 -- Behind a whole header no fault of one stands.
 
@@ -326,31 +356,41 @@ header_same {bytes} {rest} {other} {o} {p} a b =
     let count : length p.shapes ≡ length o.shapes = sym (says_of b).count_is ∙ (says_of a).count_is in
     shapes_same o.shapes p.shapes rest other (sym count) (shapes_led o.shapes p.shapes rest other a.good.sound b.good.sound (sym (shapes_behind a) ∙ shapes_behind b))
 
-bad_within : (more : List Shape) (bad x y : List ℕ) → AllByRecursion IsSoundShape more → IsNoShape bad → 0 < length more → bad ++ y ≡ spelled_shapes more ++ x → ⊥
-bad_within [] bad x y good n some e = omega (arith, some)
-bad_within (s ∷ more) bad x y good n some e = no_bad_spelled s bad y (spelled_shapes more ++ x) good.0 n (e ∙ append_assoc (spelled_shape s) (spelled_shapes more) x)
+bad_within : (l : Limits) (more : List Shape) (bad x y : List ℕ) → AllByRecursion (IsShapeFor l) more → IsNoShape l bad → 0 < length more → bad ++ y ≡ spelled_shapes more ++ x → ⊥
+bad_within l [] bad x y good n some e = omega (arith, some)
+bad_within l (s ∷ more) bad x y good n some e = no_bad_spelled l s bad y (spelled_shapes more ++ x) good.0 n (e ∙ append_assoc (spelled_shape s) (spelled_shapes more) x)
 
-not_bad_whole : (ss ts : List Shape) (bad x y : List ℕ) → All IsSoundShape ss → IsNoShape bad → length ts < length ss → LongerShapes ss ts x (bad ++ y) ⊎ LongerShapes ts ss (bad ++ y) x → ⊥
-not_bad_whole ss ts bad x y good n lt (inl l) = omega (arith, lt, ap length l.all, length-append ss l.more)
-not_bad_whole ss ts bad x y good n lt (inr l) = bad_within l.more bad x y (sound_behind ts l.more ss l.all good) n (omega (arith, lt, ap length l.all, length-append ts l.more)) l.left
+not_bad_whole : (limits : Limits) (ss ts : List Shape) (bad x y : List ℕ) → All (IsShapeFor limits) ss → IsNoShape limits bad → length ts < length ss → LongerShapes ss ts x (bad ++ y) ⊎ LongerShapes ts ss (bad ++ y) x → ⊥
+not_bad_whole limits ss ts bad x y good n lt (inl l) = omega (arith, lt, ap length l.all, length-append ss l.more)
+not_bad_whole limits ss ts bad x y good n lt (inr l) = bad_within limits l.more bad x y (sound_behind (IsShapeFor limits) ts l.more ss l.all good) n (omega (arith, lt, ap length l.all, length-append ts l.more)) l.left
 
-pub begun_without_fault : (bytes : List ℕ) (opening : Opening) (rest : List ℕ) → Begins bytes opening rest → (k : HeaderError) (at : ℕ) → ¬ (ShowsFault k bytes at)
-begun_without_fault bytes opening rest b errors.BadMagic at h = h.never (says_of b).magic
-begun_without_fault bytes opening rest b errors.BadVersion at h = h.never (says_of b).known
-begun_without_fault bytes opening rest b errors.BadShape at (inl h) =
+pub begun_without_fault : (l : Limits) (bytes : List ℕ) (opening : Opening) (rest : List ℕ) → AreWithin l opening.pages opening.shapes → Begins bytes opening rest → (k : HeaderError) (at : ℕ) → ¬ (ShowsFault l k bytes at)
+begun_without_fault l bytes opening rest w b errors.BadMagic at h = h.never (says_of b).magic
+begun_without_fault l bytes opening rest w b errors.BadVersion at h = h.never (says_of b).known
+begun_without_fault l bytes opening rest w b errors.BadShape at (inl h) =
     let says = says_of b in
-    h.never (rw (sym h.says.pages_are ∙ says.pages_are, sym h.says.count_is ∙ says.count_is) (record { some_page = b.good.some_page; few_pages = b.good.few_pages; some_device = b.good.some_device; few_devices = b.good.few_devices }))
-begun_without_fault bytes opening rest b errors.BadShape at (inr h) =
+    h.never (rw (sym h.says.pages_are ∙ says.pages_are, sym h.says.count_is ∙ says.count_is) (record { some_page = b.good.some_page; few_pages = w.few_pages; some_device = b.good.some_device; few_devices = b.good.few_devices }))
+begun_without_fault l bytes opening rest w b errors.BadShape at (inr h) =
     let says = says_of b in
-    not_bad_whole opening.shapes h.shapes h.bad rest h.more b.good.sound h.never (omega (arith, h.fewer, sym h.says.count_is ∙ says.count_is)) (shapes_led opening.shapes h.shapes rest (h.bad ++ h.more) b.good.sound h.sound (sym (shapes_behind b) ∙ h.whole))
-begun_without_fault bytes opening rest b errors.NoMemory at h = h
+    not_bad_whole l opening.shapes h.shapes h.bad rest h.more (are_for l bytes opening rest w b) h.never (omega (arith, h.fewer, sym h.says.count_is ∙ says.count_is)) (shapes_led opening.shapes h.shapes rest (h.bad ++ h.more) b.good.sound (are_sound l h.shapes h.sound) (sym (shapes_behind b) ∙ h.whole))
+begun_without_fault l bytes opening rest w b errors.NoMemory at h = h
 
--- Where there is a fault no header stands.
-pub none_at_fault : (bytes : List ℕ) (k : HeaderError) → k ≢ errors.NoMemory → OnFault k ((at : ℕ) × ShowsFault k bytes at) → (opening : Opening) (rest : List ℕ) → ¬ (Begins bytes opening rest)
-none_at_fault bytes errors.BadMagic some h opening rest b = begun_without_fault bytes opening rest b errors.BadMagic h.0 h.1
-none_at_fault bytes errors.BadVersion some h opening rest b = begun_without_fault bytes opening rest b errors.BadVersion h.0 h.1
-none_at_fault bytes errors.BadShape some h opening rest b = begun_without_fault bytes opening rest b errors.BadShape h.0 h.1
-none_at_fault bytes errors.NoMemory some h opening rest b = some refl
+-- Where there is a fault no header within the limits stands.
+none_by : (l : Limits) (bytes : List ℕ) (k : HeaderError) → k ≢ errors.NoMemory → OnFault k ((at : ℕ) × ShowsFault l k bytes at) → (opening : Opening) (rest : List ℕ) → AreWithin l opening.pages opening.shapes → ¬ (Begins bytes opening rest)
+none_by l bytes errors.BadMagic some h opening rest w b = begun_without_fault l bytes opening rest w b errors.BadMagic h.0 h.1
+none_by l bytes errors.BadVersion some h opening rest w b = begun_without_fault l bytes opening rest w b errors.BadVersion h.0 h.1
+none_by l bytes errors.BadShape some h opening rest w b = begun_without_fault l bytes opening rest w b errors.BadShape h.0 h.1
+none_by l bytes errors.NoMemory some h opening rest w b = some refl
+
+-- What is read within the usual limits.
+pub none_at_fault : (l : Limits) (bytes : List ℕ) (k : HeaderError) → l ≡ usual → k ≢ errors.NoMemory → OnFault k ((at : ℕ) × ShowsFault l k bytes at) → (opening : Opening) (rest : List ℕ) → AreWithin usual opening.pages opening.shapes → ¬ (Begins bytes opening rest)
+none_at_fault l bytes k is some h = none_by usual bytes k some (subst (λ (x : Limits). OnFault k ((at : ℕ) × ShowsFault x k bytes at)) is h)
+
+pub none_in_part : (l : Limits) (bytes : List ℕ) → IsHeaderPart l bytes → (opening : Opening) (rest : List ℕ) → AreWithin usual opening.pages opening.shapes → ¬ (Begins bytes opening rest)
+none_in_part l bytes part opening rest within = part.no_header opening rest
+
+pub same_limits : (l : Limits) (pages : ℕ) (shapes : List Shape) → l ≡ usual → AreWithin l pages shapes → AreWithin usual pages shapes
+same_limits l pages shapes is within = subst (λ (x : Limits). AreWithin x pages shapes) is within
 
 -- Bytes begin with one header.
 

@@ -219,7 +219,7 @@ kind_written Console bytes o are e = console_written bytes o are e
 kind_written Entropy bytes o are e = pool_written bytes o are e
 
 -- The requests of a device's first queue.
-queue_requests : (base len : ℕ) (block : blocks.Block) (r : Registers) (found : Option Queue) → queue_at r 0 ≡ found → block.sectors ≤ 2097152 → IsSoundRegisters r
+queue_requests : (base len : ℕ) (block : blocks.Block) (r : Registers) (found : Option Queue) → queue_at r 0 ≡ found → block.sectors ≤ 4294967295 → IsSoundRegisters r
     → IsSomeAnd found (λ q. AreRequestsOf base len (is_packed_by r.common) q (limits_of block r.common.features) block.requests) → RequestsFit block.requests
 queue_requests base len block r None at few sound are = absurd are
 queue_requests base len block r (Some q) at few sound are =

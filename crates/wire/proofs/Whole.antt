@@ -90,7 +90,7 @@ page_stands l version n b lt = elim (either_way (is_zero_page version b)) as (λ
   | inr f ↦ rw (as_page version n b f) lt
 ]
 
-pub is_page_entry : (v : ℕ) (l : Layout) (ram : List ℕ) (n : ℕ) → length ram ≡ 4096 * l.pages → l.pages ≤ 16384 → IsBytes ram → n < l.pages → IsEntry v l (page_record v n (page_of ram n))
+pub is_page_entry : (v : ℕ) (l : Layout) (ram : List ℕ) (n : ℕ) → length ram ≡ 4096 * l.pages → l.pages ≤ 4294967295 → IsBytes ram → n < l.pages → IsEntry v l (page_record v n (page_of ram n))
 is_page_entry v l ram n e few are lt = record {
   spells = page_spells v n (page_of ram n) (omega (arith, lt, few)) (length_page ram n l.pages e lt) (IsBytes-take 4096 (drop (4096 * n) ram) (IsBytes-drop (4096 * n) ram are));
   has = has_page_record v n (page_of ram n);

@@ -45,12 +45,12 @@ pub record IsVersion (version : ℕ) : Type 0 where
   pub least : 1 ≤ version
   pub most : version ≤ 2
 
--- A header within the limits: of a version that there is, 1 to 16,384 pages, and 1 to 16 devices, each of a shape that a device
+-- A header that there can be: of a version that there is, 1 to 4,294,967,295 pages, and 1 to 16 devices, each of a shape that a device
 -- may have.
 pub record IsHeader (opening : Opening) : Type 0 where
   pub known : IsVersion opening.version
   pub some_page : 1 ≤ opening.pages
-  pub few_pages : opening.pages ≤ 16384
+  pub few_pages : opening.pages ≤ 4294967295
   pub some_device : 1 ≤ length opening.shapes
   pub few_devices : length opening.shapes ≤ 16
   pub sound : All IsSoundShape opening.shapes

@@ -1,16 +1,19 @@
--- The faults of a header, each with its place: the number of bytes up to and including the one at which it is found.
+-- The faults of a header, each with its place: the number of bytes up to and including the one at which it is found. What a machine
+-- may have is what the limits of the host that reads it allow.
 use Rattle.std.specs.Prelude.{◌≡◌, ◌≢◌, ◌<◌, ◌≤◌, ◌⊎◌, ℕ, ◌+◌, List, [], ◌∷◌, ◌++◌, length, drop, All, Some, None}
 use Rattle.guestmem.specs.Number.{number_at}
+use Rattle.machine.specs.Limits.{IsShapeWithin}
 use Rattle.machine.specs.Sound.{IsSoundShape}
+use Rattle.machine.specs.declared.limits.Limits.{Limits}
 use Rattle.machine.specs.declared.shape.Shape.{Shape}
 use Rattle.wire.specs.Header.{Begins, IsVersion, Opening, shape_length, spelled_shape, spelled_shapes}
 use Rattle.wire.specs.declared.header_error.HeaderError.{HeaderError}
 use Rattle.wire.specs.declared.header_error.HeaderError.TheVariants.{BadMagic, BadVersion, BadShape, NoMemory}
 
 -- How many pages and devices a machine may have.
-pub record MayCount (pages count : ℕ) : Type 0 where
+pub record MayCount (limits : Limits) (pages count : ℕ) : Type 0 where
   pub some_page : 1 ≤ pages
-  pub few_pages : pages ≤ 16384
+  pub few_pages : pages ≤ limits.pages
   pub some_device : 1 ≤ count
   pub few_devices : count ≤ 16
 
@@ -36,12 +39,17 @@ pub record Says (bytes : List ℕ) (pages count : ℕ) : Type 0 where
   pub count_is : number_at bytes 12 4 ≡ count
 
 -- BadShape, found at the sixteenth byte.
-pub record IsBadCount (bytes : List ℕ) (at : ℕ) : Type 0 where
+pub record IsBadCount (limits : Limits) (bytes : List ℕ) (at : ℕ) : Type 0 where
   pub pages : ℕ
   pub count : ℕ
   pub says : Says bytes pages count
-  pub never : ¬ (MayCount pages count)
+  pub never : ¬ (MayCount limits pages count)
   pub there : at ≡ 16
+
+-- A shape that a device may have.
+pub record IsShapeFor (limits : Limits) (s : Shape) : Type 0 where
+  pub sound : IsSoundShape s
+  pub within : IsShapeWithin limits s
 
 -- Bytes that are no shape: a device ID that no device has, found at this byte; or (`IsBeyond`) as many bytes as a shape with
 -- their first byte as device ID has, which are the encoding of no shape that a device may have.
@@ -50,37 +58,37 @@ pub record IsUnknown (bad : List ℕ) : Type 0 where
   pub is : bad ≡ number ∷ []
   pub never : shape_length number ≡ None
 
-pub record IsBeyond (bad : List ℕ) : Type 0 where
+pub record IsBeyond (limits : Limits) (bad : List ℕ) : Type 0 where
   pub number : ℕ
   pub others : List ℕ
   pub is : bad ≡ number ∷ others
   pub long : shape_length number ≡ Some (length bad)
-  pub never : (s : Shape) → IsSoundShape s → bad ≢ spelled_shape s
+  pub never : (s : Shape) → IsShapeFor limits s → bad ≢ spelled_shape s
 
-abbrev pub IsNoShape : List ℕ → Type 0
-IsNoShape bad = IsUnknown bad ⊎ IsBeyond bad
+abbrev pub IsNoShape : Limits → List ℕ → Type 0
+IsNoShape limits bad = IsUnknown bad ⊎ IsBeyond limits bad
 
 -- BadShape, found at a device ID that is unknown, or at the end of the shape.
-pub record IsBadShape (bytes : List ℕ) (at : ℕ) : Type 0 where
+pub record IsBadShape (limits : Limits) (bytes : List ℕ) (at : ℕ) : Type 0 where
   pub pages : ℕ
   pub count : ℕ
   pub shapes : List Shape
   pub bad : List ℕ
   pub more : List ℕ
   pub says : Says bytes pages count
-  pub may : MayCount pages count
+  pub may : MayCount limits pages count
   pub fewer : length shapes < count
-  pub sound : All IsSoundShape shapes
+  pub sound : All (IsShapeFor limits) shapes
   pub whole : drop 16 bytes ≡ spelled_shapes shapes ++ (bad ++ more)
-  pub never : IsNoShape bad
+  pub never : IsNoShape limits bad
   pub there : at ≡ 16 + (length (spelled_shapes shapes) + length bad)
 
 -- The bytes show this fault of a header, at this byte.
-abbrev pub ShowsFault : HeaderError → List ℕ → ℕ → Type 0
-ShowsFault BadMagic bytes at = IsBadMagic bytes at
-ShowsFault BadVersion bytes at = IsBadVersion bytes at
-ShowsFault BadShape bytes at = IsBadCount bytes at ⊎ IsBadShape bytes at
-ShowsFault NoMemory bytes at = ⊥
+abbrev pub ShowsFault : Limits → HeaderError → List ℕ → ℕ → Type 0
+ShowsFault limits BadMagic bytes at = IsBadMagic bytes at
+ShowsFault limits BadVersion bytes at = IsBadVersion bytes at
+ShowsFault limits BadShape bytes at = IsBadCount limits bytes at ⊎ IsBadShape limits bytes at
+ShowsFault limits NoMemory bytes at = ⊥
 
 -- What a refusal means: there is this fault, unless memory was refused.
 abbrev pub OnFault : HeaderError → Type 0 → Type 0
@@ -88,6 +96,6 @@ OnFault NoMemory F = Unit {0}
 OnFault _ F = F
 
 -- The bytes begin with no whole header, and show no fault of one.
-pub record IsHeaderPart (bytes : List ℕ) : Type 0 where
+pub record IsHeaderPart (limits : Limits) (bytes : List ℕ) : Type 0 where
   pub no_header : (opening : Opening) (rest : List ℕ) → ¬ (Begins bytes opening rest)
-  pub no_fault : (k : HeaderError) (at : ℕ) → ¬ (ShowsFault k bytes at)
+  pub no_fault : (k : HeaderError) (at : ℕ) → ¬ (ShowsFault limits k bytes at)

@@ -3,7 +3,7 @@ use Rattle.std.specs.Prelude.{ℕ, List, [], ◌∷◌, length, take, drop, nat_
 use Rattle.guestmem.specs.Number.{number_at}
 use Rattle.machine.specs.declared.shape.Shape.{Shape}
 use Rattle.machine.specs.declared.shape.Shape.TheVariants.{Net, Block, Console, Entropy}
-use Rattle.blk.specs.declared.shape.TheConstants.{SECTORS_MAX}
+use Rattle.blk.specs.declared.shape.TheConstants.{SECTORS_GREATEST}
 
 -- The shape of a network device, whose device ID comes before the bytes, and the bytes after the shape.
 unfoldable pub net_shape_of : List ℕ → Option (Shape × List ℕ)
@@ -13,7 +13,7 @@ net_shape_of bytes = if nat_lt (length bytes) 6 then None else Some (Net (take 6
 unfoldable pub block_shape_of : List ℕ → Option (Shape × List ℕ)
 block_shape_of bytes =
     if nat_lt (length bytes) 29 || nat_lt 1 (number_at bytes 8 1) then None
-    else if (number_at bytes 0 8 == 0) || nat_lt SECTORS_MAX (number_at bytes 0 8) then None
+    else if (number_at bytes 0 8 == 0) || nat_lt SECTORS_GREATEST (number_at bytes 0 8) then None
     else Some (Block (number_at bytes 0 8) (nat_eq (number_at bytes 8 1) 1) (take 20 (drop 9 bytes)), drop 20 (drop 9 bytes))
 
 -- The shape at the front of the bytes, and the bytes after it.

@@ -3,7 +3,8 @@
 //! A header shows its version at the eighth byte and its counts at the sixteenth. An invalid shape is reported at the shape's
 //! end, since only there all of it is known.
 
-ghost use Rattle.std.specs.Prelude.{◌≡◌, ◌≤◌, ◌<◌, ◌+◌, ◌*◌, ◌==◌, ◌||◌, ◌↔◌, IsTrue, IfErr, IfOk, MatchOption, drop, false, is_some, length, ℕ, List};
+ghost use Rattle.std.specs.Prelude.{◌≡◌, ◌≤◌, ◌<◌, ◌+◌, ◌*◌, ◌==◌, ◌||◌, ◌↔◌, IsTrue, IfErr, IfOk, IfSome, MatchOption, drop, false, is_some, length, ℕ, List};
+ghost use Rattle.machine.specs.Limits.{AreWithin, usual};
 ghost use Rattle.wire.specs.Header.{Begins, IsVersion, Opening, said};
 ghost use Rattle.wire.specs.HeaderFaults.{IsHeaderPart, MayCount, OnFault, ShowsFault};
 ghost use Rattle.wire.specs.HeaderParts.{FirstShape, ReadShapes};
@@ -11,8 +12,7 @@ ghost use Rattle.wire.specs.HeaderParts.{FirstShape, ReadShapes};
 use crate::header_error::HeaderError;
 use crate::numbers::u32_at;
 use crate::shape_spelling::{shape_at, shape_len};
-use guestmem::PAGES_MAX;
-use machine::{DEVICES_MAX, Shape};
+use machine::{DEVICES_MAX, Limits, Shape};
 use std::alloc::{AllocError, Global};
 
 /// "VMIG" as a little-endian number.
@@ -43,14 +43,15 @@ pub struct Header {
     pub len: usize,
 }
 
-/// Decodes the header at the beginning of the bytes. `None` if they begin with no header.
-#[tactic(auto, using(crate::proofs::HeaderParts::none_at_fault))]
+/// Decodes the header at the beginning of the bytes. `None` if they begin with no header of a machine within the usual limits.
+#[tactic(auto, using(crate::proofs::HeaderParts::none_at_fault, crate::proofs::HeaderParts::none_in_part, crate::proofs::HeaderParts::same_limits))]
 pub fn decode_header(alloc: Global, bytes: &[u8]) -> Result<Option<Header>, AllocError>
-    ensures { IfOk result (λ found. MatchOption found
-        ((opening : Opening) (rest : List ℕ) → ¬ (Begins bytes.now opening rest))
+    ensures found { IfOk result (λ found. MatchOption found
+        ((opening : Opening) (rest : List ℕ) → AreWithin usual opening.pages opening.shapes → ¬ (Begins bytes.now opening rest))
         (λ h. (h.len ≤ length bytes.now) × Begins bytes.now (said h) (drop h.len bytes.now))) }
+    ensures within { IfOk result (λ found. IfSome found (λ h. AreWithin usual h.pages h.shapes.items)) }
 {
-    match read_header(alloc, bytes) {
+    match read_header(alloc, Limits::usual(), bytes) {
         Ok(Some(header)) => Ok(Some(header)),
         Ok(None) => Ok(None),
         Err(HeaderError::NoMemory) => Err(AllocError),
@@ -58,14 +59,19 @@ pub fn decode_header(alloc: Global, bytes: &[u8]) -> Result<Option<Header>, Allo
     }
 }
 
-/// The header at the front of the bytes, or its fault as soon as a byte shows it. `None` if it is incomplete, with no fault so far:
-/// no more than 495 bytes are, so the first 496 of a stream tell what arrives, or its fault. What takes memory is the list of at most
-/// sixteen shapes.
-pub fn read_header(alloc: Global, bytes: &[u8]) -> Result<Option<Header>, HeaderError>
-    ensures read { IfOk result (λ found. MatchOption found (IsHeaderPart bytes.now)
+/// The header at the front of the bytes, or its fault as soon as a byte shows it. A machine beyond the limits is a fault. `None` if it
+/// is incomplete, with no fault so far: no more than 495 bytes are, so the first 496 of a stream tell what arrives, or its fault. What
+/// takes memory is the list of at most sixteen shapes.
+pub fn read_header(
+    alloc: Global,
+    limits: Limits,
+    bytes: &[u8],
+) -> Result<Option<Header>, HeaderError>
+    ensures read { IfOk result (λ found. MatchOption found (IsHeaderPart limits bytes.now)
         (λ h. (h.len ≤ length bytes.now) × Begins bytes.now (said h) (drop h.len bytes.now))) }
+    ensures within { IfOk result (λ found. IfSome found (λ h. AreWithin limits h.pages h.shapes.items)) }
     ensures few { IfOk result (λ found. is_some found ≡ false → length bytes.now ≤ 495) }
-    ensures refused { IfErr result (λ e. OnFault e ((at : ℕ) × ShowsFault e bytes.now at)) }
+    ensures refused { IfErr result (λ e. OnFault e ((at : ℕ) × ShowsFault limits e bytes.now at)) }
 {
     if bytes.len() < 4 {
         return Ok(None);
@@ -85,11 +91,11 @@ pub fn read_header(alloc: Global, bytes: &[u8]) -> Result<Option<Header>, Header
     }
     let pages = u32_at(bytes, 8);
     let count = u32_at(bytes, 12);
-    if !may_count(pages, count) {
+    if !may_count(limits, pages, count) {
         return Err(HeaderError::BadShape);
     }
     let (_, rest) = bytes.split_at(FRONT_LEN);
-    let Some((shapes, rest)) = read_shapes(alloc, count, rest)? else {
+    let Some((shapes, rest)) = read_shapes(alloc, limits, count, rest)? else {
         return Ok(None);
     };
     let len = bytes.len() - rest.len();
@@ -101,12 +107,15 @@ pub fn read_header(alloc: Global, bytes: &[u8]) -> Result<Option<Header>, Header
     }))
 }
 
-/// The shape at the front of the bytes, if it is complete, and the bytes after it.
-fn first_shape(bytes: &[u8]) -> Result<Option<(Shape, &[u8])>, HeaderError>
-    ensures first { FirstShape (λ x. x.now) bytes.now result }
+/// The shape at the front of the bytes, if it is complete, and the bytes after it. One beyond the limits is a fault.
+fn first_shape(limits: Limits, bytes: &[u8]) -> Result<Option<(Shape, &[u8])>, HeaderError>
+    ensures first { FirstShape limits (λ x. x.now) bytes.now result }
     ensures few { IfOk result (λ found. MatchOption found (length bytes.now < 30) (λ x. length bytes.now ≤ length x.1.now + 30)) }
 {
     if let Some((shape, rest)) = shape_at(bytes) {
+        if !limits.allow(shape) {
+            return Err(HeaderError::BadShape);
+        }
         return Ok(Some((shape, rest)));
     }
     let Some((number, _)) = bytes.split_first() else {
@@ -124,16 +133,17 @@ fn first_shape(bytes: &[u8]) -> Result<Option<(Shape, &[u8])>, HeaderError>
 /// The first `count` shapes of the bytes, if they are complete, and the bytes after them.
 fn read_shapes(
     alloc: Global,
+    limits: Limits,
     count: u32,
     bytes: &[u8],
 ) -> Result<Option<(Vec<Shape>, &[u8])>, HeaderError>
-    ensures read { ReadShapes (λ x. x.items) (λ x. x.now) count bytes.now result }
+    ensures read { ReadShapes limits (λ x. x.items) (λ x. x.now) count bytes.now result }
     ensures few { IfOk result (λ found. is_some found ≡ false → length bytes.now < 30 * count) }
 {
     let mut shapes = Vec::new(alloc);
     let mut rest = bytes;
     for _ in 0..count {
-        let Some((shape, after)) = first_shape(rest)? else {
+        let Some((shape, after)) = first_shape(limits, rest)? else {
             return Ok(None);
         };
         let Ok(()) = shapes.push(shape) else {
@@ -145,10 +155,10 @@ fn read_shapes(
 }
 
 /// Whether a machine may have `pages` pages and `count` devices.
-fn may_count(pages: u32, count: u32) -> bool
-    ensures { IsTrue result ↔ MayCount pages count }
+fn may_count(limits: Limits, pages: u32, count: u32) -> bool
+    ensures { IsTrue result ↔ MayCount limits pages count }
 {
-    1 <= pages && pages <= PAGES_MAX && 1 <= count && count <= DEVICES_MAX as u32
+    1 <= pages && pages <= limits.pages && 1 <= count && count <= DEVICES_MAX as u32
 }
 
 /// Whether there is this version of the stream.

@@ -17,8 +17,9 @@ pub enum HeaderError {
     #[error("unsupported stream version")]
     BadVersion,
 
-    /// The pages are not 1 to 16,384 or the devices not 1 to 16, reported at the sixteenth byte; or the number of a
-    /// kind of device is unknown, reported at that number; or a shape is invalid, reported at the shape's end.
+    /// There is no page, or there are more than the limits allow, or the devices are not 1 to 16, reported at the sixteenth byte; or the
+    /// number of a kind of device is unknown, reported at that number; or a shape is invalid or beyond the limits, reported at the
+    /// shape's end.
     #[error("invalid machine configuration")]
     BadShape,
 

@@ -5,7 +5,8 @@ ghost use Rattle.wire.specs.Header.{shape_length};
 ghost use Rattle.wire.specs.ShapeReading.{block_shape_of, net_shape_of, shape_of};
 
 use crate::numbers::{u8_at, u64_at};
-use machine::{SECTORS_MAX, Shape};
+use blk::SECTORS_GREATEST;
+use machine::Shape;
 
 /// The device ID with which the shape of a network device begins.
 pub const NET_ID: u8 = 1;
@@ -83,7 +84,7 @@ fn block_shape_at(bytes: &[u8]) -> Option<(Shape, &[u8])>
         return None;
     }
     let sectors = u64_at(bytes, 0);
-    if sectors == 0 || sectors > SECTORS_MAX {
+    if sectors == 0 || sectors > SECTORS_GREATEST {
         return None;
     }
     let read_only = u8_at(bytes, 8) == 1;

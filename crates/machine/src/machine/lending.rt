@@ -9,7 +9,7 @@ ghost use Rattle.std.specs.Prelude.{◌≡◌, ◌*◌, ◌<◌, ◌≤◌, leng
 ghost use Rattle.region.specs.Address.{address};
 ghost use Rattle.guestmem.specs.Item.{MayPages, after_all};
 ghost use Rattle.guestmem.specs.Lent.{AreBelow, given_back, page_items};
-ghost use Rattle.guestmem.specs.declared.limits.TheConstants.{PAGE_SIZE, PAGES_MAX};
+ghost use Rattle.guestmem.specs.declared.limits.TheConstants.{PAGE_SIZE, PAGES_GREATEST};
 ghost use Rattle.machine.specs.Lines.{lines_of};
 ghost use Rattle.machine.specs.Parked.{IsParked, WhateverRam, back_with, machine_marked, parked_states};
 ghost use Rattle.machine.specs.Seen.{state_of};
@@ -94,10 +94,10 @@ impl<D: Disk> Machine<D> {
 }
 
 impl<D: Disk> Parked<D> {
-    /// How many pages its RAM has, from 1 to 16,384.
+    /// How many pages its RAM has, at least one.
     pub fn pages(&self) -> usize
         ensures count { result ≡ length self.now.versions }
-        ensures few { result ≤ PAGES_MAX }
+        ensures few { result ≤ PAGES_GREATEST }
     {
         self.ram.pages()
     }
@@ -147,7 +147,7 @@ impl<D: Disk> Parked<D> {
     /// For proofs: whatever the RAM holds meanwhile, the machine is sound.
     pub fn recall(&self)
         ensures some { 1 ≤ length self.now.versions }
-        ensures few { length self.now.versions ≤ PAGES_MAX }
+        ensures few { length self.now.versions ≤ PAGES_GREATEST }
         ensures sound { WhateverRam self.now (λ m. IsSound (state_of (back_with self.now m))) }
     {
         let _pages = self.ram.pages();

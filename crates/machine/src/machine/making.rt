@@ -9,19 +9,21 @@ ghost use Rattle.machine.specs.Board.{ram_bytes, ram_place, ram_size};
 ghost use Rattle.machine.specs.Seen.{state_of, all_calls, all_marks};
 ghost use Rattle.machine.specs.Shapes.{first_device, is_beyond, made_as};
 ghost use Rattle.machine.specs.First.{AreMarksOf, HasBytes, are_beyond, dealt_calls, dealt_marks, first_machine, good_marks, is_base, is_beyond_limits, is_ram_size, made_machine, make_refusal, marked_sectors, marks_in, new_refusal, saved_machine};
+ghost use Rattle.machine.specs.Limits.{IsWithinLimits, usual};
 ghost use Rattle.machine.specs.Sound.{IsBase, IsSound};
 ghost use Rattle.machine.specs.declared.new_error.NewError.TheVariants as new_error;
 
 use crate::board::{Board, RamOf, Unmade};
 use crate::fitting::are_disks_of;
+use crate::limits::Limits;
 use crate::machine::room::Room;
 use crate::machine::{DEVICES_MAX, Machine};
 use crate::new_error::NewError;
 use crate::shape::Shape;
 use crate::state::DeviceState;
-use blk::{Disk, SECTORS_MAX};
+use blk::Disk;
 use dirtylog::BitSet;
-use guestmem::{NoMemory, PAGE_SIZE, PAGES_MAX, Ram, recall_bytes};
+use guestmem::{NoMemory, PAGE_SIZE, Ram, recall_bytes};
 use std::alloc::Global;
 
 impl<D: Disk + Drop> Machine<D> {
@@ -39,6 +41,7 @@ impl<D: Disk + Drop> Machine<D> {
         ensures marks { IfOk result (λ m. all_marks m ≡ dealt_marks shapes.now (map (λ d. marks_in (D.state d)) disks.items)) }
         ensures calls { IfOk result (λ m. all_calls m ≡ dealt_calls shapes.now (map (λ d. Some (D.calls d)) disks.items)) }
         ensures sound { IfOk result (λ m. IsSound (state_of m)) }
+        ensures within { IfOk result (λ m. IsWithinLimits usual (state_of m)) }
         ensures refused { IfSome (new_refusal ram_pages shapes.now (map (λ d. length (D.state d).sectors) disks.items)) (λ error. result ≡ Err error) }
         ensures memory { new_refusal ram_pages shapes.now (map (λ d. length (D.state d).sectors) disks.items) ≡ None → IfErr result (λ error. error ≡ new_error.NoMemory) }
     {
@@ -46,6 +49,7 @@ impl<D: Disk + Drop> Machine<D> {
         match Machine::make(
             alloc,
             Board {
+                limits: Limits::usual(),
                 base: 0,
                 ram,
                 shapes,
@@ -67,18 +71,20 @@ impl<D: Disk + Drop> Machine<D> {
         ensures marks { IfOk result (λ m. all_marks m ≡ dealt_marks board.entry.shapes.now (map (λ d. marks_in (D.state d)) board.entry.disks.items)) }
         ensures calls { IfOk result (λ m. all_calls m ≡ dealt_calls board.entry.shapes.now (map (λ d. Some (D.calls d)) board.entry.disks.items)) }
         ensures sound { IfOk result (λ m. IsSound (state_of m)) }
+        ensures within { IfOk result (λ m. IsWithinLimits board.entry.limits (state_of m)) }
         ensures disks { IfErr result (λ unmade. unmade.disks.items ≡ board.entry.disks.items) }
         ensures ram { IfErr result (λ unmade. unmade.ram ≡ board.entry.ram) }
-        ensures refused { IfSome (make_refusal board.entry.base (ram_size board.entry.ram) board.entry.shapes.now (map (λ d. length (D.state d).sectors) board.entry.disks.items)) (λ error. result ≡ Err (record { error = error; ram = board.entry.ram; disks = board.entry.disks })) }
-        ensures memory { make_refusal board.entry.base (ram_size board.entry.ram) board.entry.shapes.now (map (λ d. length (D.state d).sectors) board.entry.disks.items) ≡ None → IfErr result (λ unmade. unmade.error ≡ new_error.NoMemory) }
+        ensures refused { IfSome (make_refusal board.entry.limits board.entry.base (ram_size board.entry.ram) board.entry.shapes.now (map (λ d. length (D.state d).sectors) board.entry.disks.items)) (λ error. result ≡ Err (record { error = error; ram = board.entry.ram; disks = board.entry.disks })) }
+        ensures memory { make_refusal board.entry.limits board.entry.base (ram_size board.entry.ram) board.entry.shapes.now (map (λ d. length (D.state d).sectors) board.entry.disks.items) ≡ None → IfErr result (λ unmade. unmade.error ≡ new_error.NoMemory) }
     {
         let Board {
+            limits,
             base,
             ram,
             shapes,
             disks,
         } = board;
-        if let Some(error) = refusal(base, ram.len(), shapes, disks.as_slice()) {
+        if let Some(error) = refusal(limits, base, ram.len(), shapes, disks.as_slice()) {
             return Err(Unmade { error, ram, disks });
         }
         // All memory is got before the first disk is moved out of its list.
@@ -158,11 +164,18 @@ impl<D: Disk + Drop> Machine<D> {
     }
 }
 
-/// Why no machine is made whose RAM has this many bytes from `base` on, of these devices and these disks, if there is a reason.
-fn refusal<D: Disk>(base: u64, bytes: u64, shapes: &[Shape], disks: &[D]) -> Option<NewError>
-    ensures { result ≡ make_refusal base bytes shapes.now (map (λ d. length (D.state d).sectors) disks.now) }
+/// Why no machine is made within these limits whose RAM has this many bytes from `base` on, of these devices and these disks, if
+/// there is a reason.
+fn refusal<D: Disk>(
+    limits: Limits,
+    base: u64,
+    bytes: u64,
+    shapes: &[Shape],
+    disks: &[D],
+) -> Option<NewError>
+    ensures { result ≡ make_refusal limits base bytes shapes.now (map (λ d. length (D.state d).sectors) disks.now) }
 {
-    if is_beyond_limits(base, bytes, shapes) {
+    if is_beyond_limits(limits, base, bytes, shapes) {
         return Some(NewError::BadShape);
     }
     if !are_disks_of(shapes, disks) {
@@ -171,14 +184,14 @@ fn refusal<D: Disk>(base: u64, bytes: u64, shapes: &[Shape], disks: &[D]) -> Opt
     None
 }
 
-fn is_beyond_limits(base: u64, bytes: u64, shapes: &[Shape]) -> bool
-    ensures { result ≡ is_beyond_limits base bytes shapes.now }
+fn is_beyond_limits(limits: Limits, base: u64, bytes: u64, shapes: &[Shape]) -> bool
+    ensures { result ≡ is_beyond_limits limits base bytes shapes.now }
 {
     !is_base(base, bytes)
-        || !is_ram_size(bytes)
+        || !is_ram_size(limits, bytes)
         || shapes.is_empty()
         || shapes.len() > DEVICES_MAX
-        || are_beyond(shapes)
+        || are_beyond(limits, shapes)
 }
 
 /// Whether RAM of this many bytes may begin at a guest-physical address: a multiple of a page, with no byte past the last address.
@@ -190,10 +203,10 @@ pub fn is_base(base: u64, bytes: u64) -> bool
     base % PAGE_SIZE as u64 == 0 && (bytes == 0 || bytes - 1 <= u64::MAX - base)
 }
 
-fn is_ram_size(bytes: u64) -> bool
-    ensures { result ≡ is_ram_size bytes }
+fn is_ram_size(limits: Limits, bytes: u64) -> bool
+    ensures { result ≡ is_ram_size limits bytes }
 {
-    bytes % PAGE_SIZE as u64 == 0 && bytes != 0 && bytes <= PAGE_SIZE as u64 * PAGES_MAX as u64
+    bytes % PAGE_SIZE as u64 == 0 && bytes != 0 && bytes <= PAGE_SIZE as u64 * limits.pages as u64
 }
 
 /// What a new machine needs beside its RAM and its disks.
@@ -262,17 +275,17 @@ fn new_states(
 }
 
 /// Whether a device is beyond its limits.
-fn are_beyond(shapes: &[Shape]) -> bool
-    ensures { result ≡ are_beyond shapes.now }
+fn are_beyond(limits: Limits, shapes: &[Shape]) -> bool
+    ensures { result ≡ are_beyond limits shapes.now }
 {
-    shapes.iter().any(|shape| is_beyond(*shape))
+    shapes.iter().any(|shape| is_beyond(limits, *shape))
 }
 
-fn is_beyond(shape: Shape) -> bool
-    ensures { result ≡ is_beyond shape }
+fn is_beyond(limits: Limits, shape: Shape) -> bool
+    ensures { result ≡ is_beyond limits shape }
 {
     match shape {
-        Shape::Block { sectors, .. } => sectors == 0 || sectors > SECTORS_MAX,
+        Shape::Block { sectors, .. } => sectors == 0 || sectors > limits.sectors as u64,
         Shape::Net { .. } | Shape::Console | Shape::Entropy => false,
     }
 }

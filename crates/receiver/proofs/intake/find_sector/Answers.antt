@@ -1,4 +1,4 @@
-use Rattle.std.proofs.Common.{rules, arith, ap, ◌≡◌}
+use Rattle.std.proofs.Common.{rules, arith, ap, length, ◌≡◌}
 use Rattle.machine.specs.Shapes.{sector_count}
 use Rattle.receiver.specs.Spots.{disks_before}
 use Rattle.receiver.proofs.Spots.{count_at, dev_below, has_sector, there}
@@ -9,6 +9,15 @@ pub index-requires-2 : goal.index-requires-2
 index-requires-2 c =
     let has = has_sector c.args.intake.now.shapes.items c.args.dev c.args.number c.index.result.now (omega arith) c.index.ensures (omega arith) in
     omega (arith, (there c.args.intake.now c.args.dev c.args.number c.requires has).firsts, c.args.intake.now.firsts.ok.0)
+
+pub overflow_add-first : goal.overflow_add-first
+overflow_add-first c =
+    let i = c.args.intake.now in
+    let has = has_sector i.shapes.items c.args.dev c.args.number c.index.result.now (omega arith) c.index.ensures (omega arith) in
+    let t = there i c.args.dev c.args.number c.requires has in
+    let first = in_range i.firsts.items c.args.dev c.index-2.result.now 0 t.firsts c.index-2.ensures in
+    let many : c.len-_count.result ≡ length i.named = search rules in
+    omega (arith, t.item, first, many)
 
 pub returns-then-place-len-clause-found : goal.returns-then-place-len-clause-found
 returns-then-place-len-clause-found c = λ has. omega (arith, dev_below c.args.intake.now.shapes.items c.args.dev c.args.number has)

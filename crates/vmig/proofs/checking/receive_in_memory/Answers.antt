@@ -14,8 +14,9 @@ returns-in_ok-disks-in-Some-clause-received g c =
 pub returns-in_ok-disks-in-Some-clause-failed : goal.returns-in_ok-disks-in-Some-clause-failed
 returns-in_ok-disks-in-Some-clause-failed g c =
     let front = take c.args.count c.args.piece.now in
-    let found = rw c.in-Some.is at c.in_ok-header.ensures in
+    let found = rw c.in-Some.is at c.in_ok-header.ensures.found in
+    let within = rw c.in-Some.is at c.in_ok-header.ensures.within in
     let opening = said c.in-Some.header in
     let shapes : c.as_slice.result.now ≡ opening.shapes = search rules in
     let disks = rw shapes at c.in_ok-disks-in-Some.ensures in
-    IfErr-weaker c.receive_rest.result _ (TellsOfChecked c.args.name.now) (λ fault told. rest_told c.args.name.now front opening _ c.in_ok-disks-in-Some.disks.items fault found.1 disks told) c.receive_rest.ensures.failed
+    IfErr-weaker c.receive_rest.result _ (TellsOfChecked c.args.name.now) (λ fault told. rest_told c.args.name.now front opening _ c.in_ok-disks-in-Some.disks.items fault found.1 within disks told) c.receive_rest.ensures.failed

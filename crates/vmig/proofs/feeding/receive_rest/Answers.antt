@@ -41,7 +41,7 @@ returns-in-Ok-clause-received g c = λ honest.
       more = fed.more;
       received = record {
         stream = stream;
-        rounds_are = stream_rounds c.feed_rest.new.receiver.ram c.feed_rest.new.receiver.sizes (front ++ fed.more) (state_of c.in-Ok.machine) c.rounds-rounds.result stream c.in-Ok.ensures.based (subst (λ (r : RamTerms). HasPages r (pages_of (state_of c.in-Ok.machine))) (sym at) tt) c.in-Ok.ensures.fits (c.rounds-rounds.ensures.rounds (front ++ fed.more) fed.fed);
+        rounds_are = stream_rounds c.feed_rest.new.receiver.ram c.feed_rest.new.receiver.sizes (front ++ fed.more) (state_of c.in-Ok.machine) c.rounds-rounds.result stream c.in-Ok.ensures.based (subst (λ (r : RamTerms). HasPages r (pages_of (state_of c.in-Ok.machine))) (sym at) tt) c.in-Ok.ensures.within c.in-Ok.ensures.fits (c.rounds-rounds.ensures.rounds (front ++ fed.more) fed.fed);
       };
       based = c.in-Ok.ensures.based ∙ ap (λ (r : RamTerms). r.base) at;
     }

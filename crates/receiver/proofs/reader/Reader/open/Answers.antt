@@ -37,9 +37,10 @@ returns-in-Err g c =
     let head = head_is i.stage (sym c.is_head.ensures ∙ c.if-not-is_head.false) in
     let ds = map g.D.Disk.state i.disks.items in
     let b = rw c.in-Some.is at c.in_ok-heading.ensures.read in
+    let within = rw c.in-Some.is at c.in_ok-heading.ensures.within in
     let never = rw c.deref.ensures.value at c.in-Err.ensures.refused in
     rw (← c.self.view_is, c.in-Err.ensures.mismatch)
-    (open_refused _ _ c.args.bytes.now errors.ShapeMismatch head refl refl refl refl (refused_kept ds errors.ShapeMismatch (λ e. cc), mismatch i.ram (sizes_of g.D.Disk.state i.disks.items) c.args.bytes.now _ (opened i.ram (said c.in-Some.heading)) b.1 never))
+    (open_refused _ _ c.args.bytes.now errors.ShapeMismatch head refl refl refl refl (refused_kept ds errors.ShapeMismatch (λ e. cc), mismatch i.ram (sizes_of g.D.Disk.state i.disks.items) c.args.bytes.now _ (opened i.ram (said c.in-Some.heading)) b.1 within never))
 
 pub returns-in_default-new : goal.returns-in_default-new
 returns-in_default-new g c =

@@ -9,6 +9,7 @@ returns-in-Ok g c =
       received = f.received;
       marks = f.marks;
       based = f.based;
+      within = f.within;
       fits = f.fits;
       refused = tt;
       whole = f.whole;

@@ -1,7 +1,8 @@
 use Rattle.std.proofs.Common.{arith, false, length, refl, ℕ, List, Bool, ◌≡◌, ◌++◌, ap, map, sym, subst, ◌∙◌}
 use Rattle.std.proofs.lemmas.Bool.{not-false, not-true}
 use Rattle.guestmem.specs.Memory.{Memory}
-use Rattle.machine.specs.First.{dealt_marks}
+use Rattle.machine.specs.First.{dealt_marks, marked_sectors, saved_machine}
+use Rattle.machine.specs.Limits.{IsWithinLimits}
 use Rattle.machine.specs.Room.{RoomSeen}
 use Rattle.machine.specs.Seen.{state_of}
 use Rattle.machine.specs.Shapes.{disk_sizes}
@@ -16,7 +17,7 @@ use Rattle.receiver.specs.declared.stage.Stage.{Stage}
 use Rattle.receiver.specs.declared.stage.Stage.TheVariants as stages
 use Rattle.receiver.proofs.Ending.{ends_again, ends_cut, given_back_as, has_come, seen_of}
 use Rattle.receiver.proofs.Feeding.{marks_mapped, same_room, true_false}
-use Rattle.receiver.proofs.Knowing.{any_arrived, come_of, here_sound, read_based, whole_come, whole_shapes, whole_stream}
+use Rattle.receiver.proofs.Knowing.{any_arrived, come_of, here_sound, read_based, read_machine, read_within, whole_come, whole_shapes, whole_stream}
 use Rattle.receiver.proofs.Sectors.{marks_count}
 use Rattle.receiver.proofs.Steps.{devices_are}
 use Rattle.receiver.proofs.Streams.{no_stream_head, no_stream_reading}
@@ -56,6 +57,12 @@ returns-in-Records g c =
           rw (c.restore_in.ensures.restored, c.into_ram-ram.ensures) (whole_stream _ b w.opening c.in-Records.intake w.ended c.recall.ensures.bytes honest);
       marks = c.restore_in.ensures.marks ∙ ap (λ ms. dealt_marks c.in-Records.intake.shapes.items ms) (marks_mapped g.D.Disk.state r.disks.items) ∙ ap (λ ss. dealt_marks ss (disk_marks_of g.D.Disk.state r.disks.items)) shapes;
       based = ap (λ (m : MachineState). base_of m.devices) c.restore_in.ensures.restored ∙ read_based h.ended.read (h.ended.complete.devices refl) ∙ ap (λ (t : RamTerms). t.base) h.based;
+      within =
+          let i = c.in-Records.intake in
+          let sectors = marked_sectors s.disks i.bad.items in
+          let same : state_of c.restore_in.result ≡ read_machine i sectors = c.restore_in.ensures.restored ∙ ap (λ (m : Memory). saved_machine m.bytes i.devices.items sectors) c.into_ram-ram.ensures in
+          let inside = read_within sectors h.ended.read (h.ended.complete.devices refl) in
+          subst (λ (m : MachineState). IsWithinLimits r.ram.limits m) (sym same) (subst (λ (t : RamTerms). IsWithinLimits t.limits (read_machine i sectors)) h.based inside);
       fits = h.ended.read.fits ∙ ap disk_sizes (sym h.ended.read.shapes_are) ∙ ap disk_sizes shapes;
       refused = tt;
       whole = λ b f. whole_come s.ram s.disks b c.in-Records.intake (come b f.taken);
