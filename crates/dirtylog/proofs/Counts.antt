@@ -1,5 +1,5 @@
 -- A set has no members where their number is zero, and the other way round.
-use Rattle.std.proofs.Common.{◌≡◌, ℕ, zero, suc, ◌+◌, ◌<◌, List, [], ◌∷◌, length, take, drop, Bool, true, false, refl, arith}
+use Rattle.std.proofs.Common.{◌≡◌, ℕ, zero, suc, ◌+◌, ◌<◌, List, [], ◌∷◌, length, take, drop, replicate, Bool, true, false, refl, ap, arith}
 use Rattle.std.specs.Prelude.{cond}
 use Rattle.std.proofs.lemmas.List.Sums.{sum_by-cons}
 use Rattle.std.proofs.lemmas.Bool.{true≢false}
@@ -38,3 +38,8 @@ count_split [] (suc n) = refl
 count_split (b ∷ bs) (suc n) =
     let rest = count_split bs n in
     omega (arith, sum_by-cons (λ (x : Bool). cond x 1 0) b bs, sum_by-cons (λ (x : Bool). cond x 1 0) b (take n bs), rest)
+
+pub none_are : (set : List Bool) → HasNone set → set ≡ replicate (length set) false
+none_are [] none = refl
+none_are (true ∷ bs) none = absurd (true≢false (none 0))
+none_are (false ∷ bs) none = ap (λ (rest : List Bool). false ∷ rest) (none_are bs (λ k. none (suc k)))

@@ -175,10 +175,13 @@ impl BitSet {
         self.members = self.len;
     }
 
-    /// Removes every member.
+    /// Removes every member. A set that has none is left as it is, however long it is.
     pub fn clear(&mut self)
         ensures { self.new ≡ replicate (length self.old) false }
     {
+        if self.count() == 0 {
+            return;
+        }
         clear_all(&mut self.words);
         clear_all(&mut self.marks);
         self.members = 0;

@@ -8,7 +8,7 @@
 //! - `insert`, `remove`, `contains`, `first_from` (the least member from a number on), `count`, `count_below`, `is_empty`, `swap_out`,
 //!   `fill` and `clear` are what their names say of this list. `count` and `is_empty` read one number. `first_counted` is `first_from` with the
 //!   number of words that were looked at: at most 16 and one for each 4,096 numbers, and none where the set has no members.
-//! - `bit_from` is the lowest bit of a word that is set, from a place on.
+//! - `bit_from` is the lowest bit of a word that is set, from a place on; `first_nonzero` the first word that is not zero.
 //! - All its room is made with it: only `BitSet::new` takes memory.
 //! - The caller's part: numbers below the length (for `first_from` and `count_below` at most the length); for `swap_out` a set of the same length
 //!   without members.
@@ -25,7 +25,7 @@ mod bits;
 mod scan;
 
 pub use bit_set::BitSet;
-pub use scan::bit_from;
+pub use scan::{bit_from, first_nonzero};
 pub use std::alloc::AllocError as NoMemory;
 
 #[cfg(test)]

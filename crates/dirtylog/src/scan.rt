@@ -116,6 +116,17 @@ impl Reader {
     }
 }
 
+/// The index of the first word from `from` on that is not zero, or the length. It looks at eight words at a time.
+pub fn first_nonzero(words: &[u64], from: usize) -> usize
+    requires { from ≤ length words.now }
+    ensures from { from ≤ result }
+    ensures within { result ≤ length words.now }
+    ensures zeros { AreZeroBetween words.now from result }
+    ensures found { result < length words.now → get_or words.now result 0 ≢ 0 }
+{
+    Reader::new().first_nonzero(words, from)
+}
+
 /// The index of the lowest bit that is set.
 pub(crate) fn lowest_bit(word: u64) -> u64
     requires { word ≢ 0 }

@@ -4,6 +4,7 @@ pub mod Later
 mod Raising
 mod ZeroLemmas
 pub mod Rising
+mod Clearing
 mod Filling
 pub mod ByteLaws
 pub mod LaterLaws

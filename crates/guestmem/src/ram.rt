@@ -25,6 +25,7 @@ use crate::log::TouchLog;
 use crate::parked::{ParkedRam, raise_each};
 use crate::storage::Storage;
 use crate::touched::Touched;
+use crate::zero_page::is_zero;
 use byteorder::{ByteOrder, LittleEndian};
 use region::Region;
 use std::alloc::{AllocError, Global};
@@ -283,11 +284,16 @@ impl Ram {
         self.bytes.put(PAGE_SIZE * page as usize, bytes);
     }
 
-    /// Sets the bytes of a page to zeros, as `set_page` does.
+    /// Sets the bytes of a page to zeros, as `set_page` does. A page that has zeros alone is read, and not written: so memory that nobody
+    /// has written yet takes none of the host's.
     pub(crate) fn clear_page(&mut self, page: u64)
         requires { page < length self.old.versions }
         ensures { self.new ≡ record self.old { bytes = put_at self.old.bytes (PAGE_SIZE * page) (replicate PAGE_SIZE 0) } }
     {
+        self.recall();
+        if is_zero(self.page(page)) {
+            return;
+        }
         self.set_page(page, &[0; PAGE_SIZE]);
     }
 
