@@ -1,12 +1,13 @@
 -- The pages that are marked in a bitmap.
-use Rattle.std.proofs.Common.{◌≡◌, ◌≤◌, ◌<◌, ◌*◌, ◌+◌, ◌-◌, ◌/◌, ◌%◌, ◌^◌, ◌++◌, ℕ, Bool, true, false, nat_lt, length, List, [], ◌∷◌, refl, sym, ap, ◌∙◌, subst, arith}
+use Rattle.std.proofs.Common.{◌≡◌, ◌≤◌, ◌<◌, ◌*◌, ◌+◌, ◌-◌, ◌/◌, ◌%◌, ◌^◌, ◌++◌, ℕ, Bool, true, false, get_or, nat_lt, length, take, List, [], ◌∷◌, refl, sym, ap, ◌∙◌, subst, arith}
 use Prim.Native.Nat.{zero, suc}
 use Rattle.std.specs.Prelude.{cond, min, slice_index}
 use Rattle.std.specs.List.{filter, range_with_len}
 use Rattle.std.proofs.lemmas.Bool.Decides.{nat_tests}
-use Rattle.std.proofs.lemmas.List.{append-nil, length-append, map-id}
+use Rattle.std.proofs.lemmas.List.{append-nil, get_or-take, length-append, map-id}
 use Rattle.std.proofs.lemmas.List.FromFn.{filter_of_map_range_with_len_more, map-range_with_len_more}
 use Rattle.std.proofs.Math.Nat.{zero-div}
+use Rattle.dirtylog.specs.Words.{AreZeroBetween}
 use Rattle.c_machine.specs.Named.{are_pages, is_marked, marked, numbers_below}
 
 -- One number more.
@@ -50,11 +51,13 @@ none_between words from until order none =
 no_bit : (words : List ℕ) (at j : ℕ) → slice_index words at ≡ 0 → j / 64 ≡ at → is_marked words j ≡ false
 no_bit words at j zero_word there = rw (there, zero_word, zero-div (2 ^ (j % 64))) refl
 
--- A whole word of zeros is passed.
-pub word_passed : (words : List ℕ) (at from until : ℕ) → slice_index words at ≡ 0 → from ≡ 64 * at → from ≤ until → until ≤ from + 64 → marked words until ≡ marked words from
-word_passed words at from until zero_word start order few =
-    subst (λ (n : ℕ). marked words n ≡ marked words from) (omega (arith, order))
-    (none_more words from (until - from) (λ j low high. no_bit words at j zero_word (omega (arith, start, low, high, few, order))))
+-- Words of zeros are passed, of those that cover all numbers.
+pub words_passed : (words : List ℕ) (count cut from to : ℕ) → count ≤ 64 * cut → from ≤ to → AreZeroBetween (take cut words) from to → marked words (min (64 * to) count) ≡ marked words (min (64 * from) count)
+words_passed words count cut from to room order zeros =
+    none_between words (min (64 * from) count) (min (64 * to) count) (omega (arith, order)) (λ j low high.
+      let inside : j / 64 < cut = omega (arith, high, room) in
+      let zero_word : get_or words (j / 64) 0 ≡ 0 = sym (get_or-take cut words (j / 64) 0 inside) ∙ zeros (j / 64) (omega (arith, low, high)) (omega (arith, high)) in
+      no_bit words (j / 64) j zero_word refl)
 
 -- All that is marked, or any number below the count, is a page.
 below_by : (b : Bool) (p : ℕ → Bool) (count a n : ℕ) → p a ≡ b → a < count → are_pages count (filter p (range_with_len (a + 1) n)) ≡ true → are_pages count (cond b (a ∷ filter p (range_with_len (a + 1) n)) (filter p (range_with_len (a + 1) n))) ≡ true
@@ -80,13 +83,3 @@ marked_yes words n is = marked_more words n ∙ rw is refl
 
 pub marked_no : (words : List ℕ) (n : ℕ) → is_marked words n ≡ false → marked words (n + 1) ≡ marked words n
 marked_no words n is = marked_more words n ∙ rw is (append-nil (marked words n))
-
--- Where a word begins and ends.
-pub first_word : (i from count : ℕ) → from ≡ min (64 * i) count → from < count → from ≡ 64 * i
-first_word i from count is below = omega (arith, is, below)
-
-pub word_end : (from count until : ℕ) → until ≡ min count (from + 64) → from < count → (from ≤ until) × (until ≤ from + 64)
-word_end from count until is below = (omega (arith, is, below), omega (arith, is))
-
-pub next_word : (i from count until : ℕ) → from ≡ 64 * i → until ≡ min count (from + 64) → until ≡ min (64 * (i + 1)) count
-next_word i from count until start is = omega (arith, start, is)
