@@ -97,6 +97,7 @@ ends_refused old x refused told lacking already back = record {
   marks = tt;
   based = tt;
   within = tt;
+  ram_len = tt;
   fits = tt;
   refused = refused;
   whole = tt;

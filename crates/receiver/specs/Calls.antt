@@ -1,5 +1,5 @@
 -- What the calls of a receiver promise, each in one record. What is said of bytes is said of each list that may have been fed.
-use Rattle.std.specs.Prelude.{◌≡◌, ℕ, ◌+◌, List, [], ◌++◌, length, map, true, false, Result, Ok, Err, IfOk, IfErr, OnOk, OnErr, Option}
+use Rattle.std.specs.Prelude.{◌≡◌, ℕ, ◌+◌, List, [], ◌++◌, length, map, true, false, Result, Ok, Err, IfOk, IfErr, OnOk, OnErr, Option, Some}
 use denote.RawPtr.{Ptr}
 use Rattle.blk.specs.Disk.{DiskState}
 use Rattle.machine.specs.First.{dealt_marks}
@@ -11,7 +11,7 @@ use Rattle.wire.specs.Header as told
 use Rattle.wire.specs.Stream.{IsStream, shapes_in}
 use Rattle.receiver.specs.Disks.{AreHonestDisks, MarksAfter, disk_marks_of, sizes_of}
 use Rattle.receiver.specs.Opened.{terms_at}
-use Rattle.receiver.specs.Receiving.{HasBeenFed, HasDevice, IsArrived, IsFinish, IsGivenUp, IsReceived, IsWholeFor, NoFault, Received, RefusesSlice, TellsNow, end_error}
+use Rattle.receiver.specs.Receiving.{HasBeenFed, HasDevice, IsArrived, IsFinish, IsGivenUp, IsReceived, IsWholeFor, NoFault, Received, RefusesSlice, TellsNow, end_error, ram_len_in}
 use Rattle.receiver.specs.declared.ram_terms.RamTerms.{RamTerms}
 use Rattle.receiver.specs.declared.recv_error.RecvError.{RecvError}
 use Rattle.receiver.specs.declared.terms.Terms.{Terms}
@@ -56,6 +56,7 @@ pub record EndsWith {E : Type 0} (why : E → RecvError) (Gives : E → Type 0) 
   pub marks : IfOk result (λ m. all_marks m ≡ dealt_marks (shapes_in (state_of m).devices) old.marks)
   pub based : IfOk result (λ m. base_of (state_of m).devices ≡ old.ram.base)
   pub within : IfOk result (λ m. IsWithinLimits old.ram.limits (state_of m))
+  pub ram_len : IfOk result (λ m. ram_len_in old.stage ≡ Some (length m.memory.bytes))
   pub fits : IfOk result (λ m. old.sizes ≡ disk_sizes (shapes_in (state_of m).devices))
   pub refused : IfErr result (λ x. (b : List ℕ) → HasBeenFed old b → IsFinish b (why x))
   pub whole : OnOk result ((b : List ℕ) → HasBeenFed old b → IsWholeFor old.ram old.sizes b)

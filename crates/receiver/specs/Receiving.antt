@@ -78,6 +78,12 @@ rounds_in stages.Head = 0
 rounds_in (stages.Records i) = i.rounds
 rounds_in stages.Failed = 0
 
+-- How many bytes the RAM has of the machine that arrives, once its header was read.
+abbrev pub ram_len_in : Stage → Option ℕ
+ram_len_in stages.Head = None
+ram_len_in (stages.Records i) = Some (length i.ram.bytes)
+ram_len_in stages.Failed = None
+
 abbrev pub is_head : Stage → Bool
 is_head stages.Head = true
 is_head (stages.Records i) = false

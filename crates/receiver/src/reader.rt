@@ -61,7 +61,7 @@ impl<D: Disk + Drop> Reader<D> {
     ghost use Rattle.std.specs.Prelude.{◌≡◌, ◌≤◌, ◌<◌, ◌+◌, IfOk, length, map};
     ghost use Rattle.std.specs.Vec.{vec_capacity};
     ghost use Rattle.receiver.specs.Reading.{StandsAside, IsFirst, Looks, ReadsHeader, TakesBytes, TakesPiece};
-    ghost use Rattle.receiver.specs.Receiving.{has_ended, has_failed, length_aside, rounds_in};
+    ghost use Rattle.receiver.specs.Receiving.{has_ended, has_failed, length_aside, ram_len_in, rounds_in};
     ghost use Rattle.receiver.specs.Waiting.{LacksBytes};
 
     /// A reader that has read nothing. It takes no memory.
@@ -99,6 +99,13 @@ impl<D: Disk + Drop> Reader<D> {
         ensures { result ≡ rounds_in self.now.stage }
     {
         self.stage.rounds()
+    }
+
+    /// How many bytes the RAM of the machine has, once its header was read.
+    pub fn ram_len(&self) -> Option<u64>
+        ensures { result ≡ ram_len_in self.now.stage }
+    {
+        self.stage.ram_len()
     }
 
     /// The guest-physical address at which the machine's RAM is to begin.

@@ -51,7 +51,7 @@ impl<D: Disk + Drop> Receiver<D> {
     ghost use Rattle.receiver.specs.Calls.{Feeds, Finishes, FinishesOrBack, IsNew};
     ghost use Rattle.receiver.specs.Disks.{sizes_of};
     ghost use Rattle.receiver.specs.Opened.{given_at, ram_at, told_by};
-    ghost use Rattle.receiver.specs.Receiving.{HasBeenFed, HasRounds, IsWholeFor, length_aside, place_aside};
+    ghost use Rattle.receiver.specs.Receiving.{HasBeenFed, HasRounds, IsWholeFor, length_aside, place_aside, ram_len_in};
 
     /// A receiver that was fed nothing, with these disks, of a machine whose RAM begins at the address 0, within the usual limits. It
     /// takes no memory.
@@ -256,6 +256,14 @@ impl<D: Disk + Drop> Receiver<D> {
             )),
             Stage::Head => Err((RecvError::Truncated, given_up(alloc, terms, disks, aside))),
         }
+    }
+
+    /// How many bytes the RAM has of the machine that arrives, and that `finish` returns. None until the header was read, and after a
+    /// refusal.
+    pub fn ram_len(&self) -> Option<u64>
+        ensures { result ≡ ram_len_in self.now.stage }
+    {
+        self.reader.ram_len()
     }
 
     /// How many disks it has.

@@ -10,6 +10,7 @@ returns-in-Ok g c =
       marks = f.marks;
       based = f.based;
       within = f.within;
+      ram_len = f.ram_len;
       fits = f.fits;
       refused = tt;
       whole = f.whole;

@@ -1,5 +1,6 @@
 use Rattle.std.proofs.Common.{arith, false, length, refl, ℕ, List, Bool, ◌≡◌, ◌++◌, ap, map, sym, subst, ◌∙◌}
 use Rattle.std.proofs.lemmas.Bool.{not-false, not-true}
+use Rattle.std.specs.Prelude.{Some}
 use Rattle.guestmem.specs.Memory.{Memory}
 use Rattle.machine.specs.First.{dealt_marks, marked_sectors, saved_machine}
 use Rattle.machine.specs.Limits.{IsWithinLimits}
@@ -11,7 +12,7 @@ use Rattle.wire.specs.Stream.{shapes_in}
 use Rattle.receiver.specs.Disks.{disk_marks_of}
 use Rattle.receiver.specs.Fed.{IsKnownIn}
 use Rattle.receiver.specs.Reading.{IsReader}
-use Rattle.receiver.specs.Receiving.{IsTaken, has_ended, has_failed, place_in}
+use Rattle.receiver.specs.Receiving.{IsTaken, has_ended, has_failed, place_in, ram_len_in}
 use Rattle.receiver.specs.declared.ram_terms.RamTerms.{RamTerms}
 use Rattle.receiver.specs.declared.stage.Stage.{Stage}
 use Rattle.receiver.specs.declared.stage.Stage.TheVariants as stages
@@ -63,6 +64,7 @@ returns-in-Records g c =
           let same : state_of c.restore_in.result ≡ read_machine i sectors = c.restore_in.ensures.restored ∙ ap (λ (m : Memory). saved_machine m.bytes i.devices.items sectors) c.into_ram-ram.ensures in
           let inside = read_within sectors h.ended.read (h.ended.complete.devices refl) in
           subst (λ (m : MachineState). IsWithinLimits r.ram.limits m) (sym same) (subst (λ (t : RamTerms). IsWithinLimits t.limits (read_machine i sectors)) h.based inside);
+      ram_len = ap ram_len_in c.in-Records.is ∙ ap (λ (m : Memory). Some (length m.bytes)) (sym c.into_ram-ram.ensures) ∙ ap (λ (bytes : List ℕ). Some (length bytes)) (sym (ap (λ (m : MachineState). m.ram) c.restore_in.ensures.restored));
       fits = h.ended.read.fits ∙ ap disk_sizes (sym h.ended.read.shapes_are) ∙ ap disk_sizes shapes;
       refused = tt;
       whole = λ b f. whole_come s.ram s.disks b c.in-Records.intake (come b f.taken);
