@@ -20,7 +20,7 @@ finished_none None after is same = (refl, same)
 finished_none (Some m) after is same = absurd (true≢false is)
 
 pub finished_some : (k after : Option KeptSeen) (m next : KeptSeen) (status : ℕ) → Some m ≡ k → after ≡ Some next → next ≡ record m { state = next.state; admission = next.admission; written = next.written }
-    → next.written ≡ log_of_arrived m next.state → FinishesKept m.admission m.state status next.admission next.state → Finished k status after
+    → next.written ≡ log_of_arrived m status next.state → FinishesKept m.admission m.state status next.admission next.state → Finished k status after
 finished_some k after m next status is becomes kind log does =
-    let all : next ≡ record m { state = next.state; admission = next.admission; written = log_of_arrived m next.state } = kind ∙ ap (λ (l : Option (List Bool)). record m { state = next.state; admission = next.admission; written = l }) log in
+    let all : next ≡ record m { state = next.state; admission = next.admission; written = log_of_arrived m status next.state } = kind ∙ ap (λ (l : Option (List Bool)). record m { state = next.state; admission = next.admission; written = l }) log in
     subst (λ (o : Option KeptSeen). Finished o status after) is (record { next = next.state; admission = next.admission; is_next = becomes ∙ ap Some all; does = does })

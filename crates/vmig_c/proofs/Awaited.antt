@@ -1,9 +1,9 @@
 -- Machines whose streams arrive in pieces.
-use Rattle.std.proofs.Common.{◌≡◌, ◌⊎◌, ℕ, Bool, true, false, List, [], ◌∷◌, ◌++◌, refl, sym, ap, ◌∙◌, subst, map, length, take, drop, inl, inr, append_assoc, arith, true≢false}
+use Rattle.std.proofs.Common.{◌≡◌, ◌⊎◌, ◌≤◌, ◌+◌, ◌-◌, min, ℕ, Bool, true, false, List, [], ◌∷◌, ◌++◌, refl, sym, ap, ◌∙◌, subst, map, length, take, drop, inl, inr, append_assoc, arith, true≢false}
 use denote.RawPtr.{Ptr}
 use Rattle.std.specs.Prelude.{IsTrue, IfErr, IfOk, Result, Ok, Err, Option, Some, None, slice_get}
 use Rattle.guestmem.specs.Memory.{Memory}
-use Rattle.std.proofs.lemmas.List.{length-append, take-append-drop}
+use Rattle.std.proofs.lemmas.List.{length-append, length-take-le, take-append-drop, take_all}
 use Rattle.std.proofs.lemmas.List.Elements.{All-map}
 use Rattle.std.proofs.lemmas.Option.{slice_get-map}
 use Rattle.machine.specs.First.{dealt_marks}
@@ -241,7 +241,7 @@ none_cut : (held all piece : List ℕ) (few : ℕ) → all ≡ held ++ take few 
 none_cut held all piece few is size short =
     let long : length all ≡ length held + length (take few piece) = ap (λ (l : List ℕ). length l) is ∙ length-append held (take few piece) in
     let front : length (take few piece) ≡ few = length-take-le few piece (omega (arith, size)) in
-    is ∙ ap (λ (l : List ℕ). held ++ l) (take-all few piece (omega (arith, long, front, size, short)))
+    is ∙ ap (λ (l : List ℕ). held ++ l) (take_all few piece (omega (arith, long, front, size, short)))
 
 pub head_waits : (terms : Terms) (ram : Option Memory) (held all piece : List ℕ) (few : ℕ) → all ≡ held ++ take few piece → few ≡ min (length piece) (496 - length held) → length all ≤ 495 → WaitsHead terms.limits all
     → GoesOnWith (held ++ piece) (AtHead (told_by terms ram) (place_aside ram) all)

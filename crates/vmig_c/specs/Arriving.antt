@@ -124,13 +124,13 @@ ram_arrived _ = 0
 abbrev pub fitting : ℕ → ℕ → Option (List Bool) → Option (List Bool)
 fitting places bytes log = if nat_lt (PAGE_SIZE * places) bytes then None else log
 
-abbrev pub log_of_arrived : KeptSeen → State → Option (List Bool)
-log_of_arrived k next = fitting k.places (ram_arrived next) k.written
+abbrev pub log_of_arrived : KeptSeen → ℕ → State → Option (List Bool)
+log_of_arrived k status next = if status == done then fitting k.places (ram_arrived next) k.written else k.written
 
 pub record DoesFinish (k : KeptSeen) (status : ℕ) (after : Option KeptSeen) : Type 0 where
   pub next : State
   pub admission : AdmissionSeen
-  pub is_next : after ≡ Some (record k { state = next; admission = admission; written = log_of_arrived k next })
+  pub is_next : after ≡ Some (record k { state = next; admission = admission; written = log_of_arrived k status next })
   pub does : FinishesKept k.admission k.state status admission next
 
 -- A call to finish the arrival of the machine of a handle.

@@ -48,7 +48,7 @@ pub(crate) fn arrive(alloc: Global, arrival: &mut Expected, machine: &mut Handle
 }
 
 /// An arrival in a box. What it names was checked before, so its only error is out of memory: then nothing is taken.
-#[tactic(auto, using(crate::proofs::PageLogs::first_fits))]
+#[tactic(auto, using(crate::proofs::PageLogs::first_fits, crate::proofs::Allowing::is_ram_of))]
 pub(crate) fn awaited(alloc: Global, expected: &mut Expected) -> Result<Box<Kept>, NoMemory>
     requires { arrival_refusal_of expected.old ≡ None }
     ensures expected { IfOk result (λ k. IsArrivalOf expected.old k.value) }
