@@ -119,6 +119,7 @@ fn allowed(expected: &mut Expected) -> Allowed
     ensures same { expected.new ≡ expected.old }
     ensures allowed { result ≡ allowed_of expected.old }
 {
+    let limits = limits_for(expected.flags);
     let pages = if expected.ram.is_none() {
         expected.most_pages
     } else {
@@ -130,7 +131,7 @@ fn allowed(expected: &mut Expected) -> Allowed
         u64::MAX
     };
     Allowed {
-        limits: limits_for(expected.flags),
+        limits,
         pages,
         sectors,
         base: expected.base,
