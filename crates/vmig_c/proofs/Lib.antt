@@ -1,4 +1,5 @@
 mod Admissions
+mod Allowing
 mod Announcements
 mod ArrivalCalls
 mod Arrivals
@@ -7,6 +8,7 @@ mod Awaited
 mod ByHandle
 mod ByKept
 mod ByParked
+mod CallTurns
 mod Descriptions
 mod Failing
 mod Filling
@@ -29,9 +31,9 @@ mod PushedPages
 mod Quiet
 mod Reading
 mod Resets
+mod SamePages
 mod Sending
 mod Sent
 mod Streams
 mod ToldStates
-mod CallTurns
 mod TurnSteps
