@@ -18,7 +18,7 @@ use Rattle.wire.proofs.PartLengths.{length_header}
 use Rattle.wire.specs.Stream.{IsStream, device_texts, opening_in, shapes_in, texts}
 use Rattle.wire.proofs.Unique.{pages_limits}
 use Rattle.receiver.specs.Disks.{AreHonestDisks, HasFailed, MarksRefused, disk_marks_of, sizes_of}
-use Rattle.receiver.specs.Receiving.{HasBeenFed, HasRounds, IsFinish, end_error, IsWholeFor, NoFault, Received, TellsNow, place_aside}
+use Rattle.receiver.specs.Receiving.{HasBeenFed, HasRounds, IsFinish, end_error, IsWholeFor, NoFault, Received, TellsNow, place_aside, ram_len_in}
 use Rattle.receiver.specs.declared.recv_error.RecvError.{RecvError}
 use Rattle.receiver.specs.declared.recv_error.RecvError.TheVariants.{BadMagic, BadVersion, BadShape, ShapeMismatch, BadTag, BadPage, BadSector, BadRound, BadDevice, BadDigest, Missing, Trailing, Truncated, DiskFailed, NoMemory, AlreadyFailed}
 use Rattle.receiver.proofs.Heads.{no_header_fault}
@@ -160,8 +160,8 @@ head_ends ram place held none = λ b is m. headless b (subst HasNoHeader (sym is
 pub honest_marks : (sizes : List ℕ) → AreHonestDisks (map (λ (n : ℕ). no_marks) sizes)
 honest_marks sizes = All-map (λ (k : Marks). IsTrue k.honest) (λ (n : ℕ). no_marks) sizes (λ k n below. refl)
 
-pub arrived : (r : Received) (m : Seen) → AreSteady r → (AreHonestDisks r.marks → (b : List ℕ) → HasBeenFed r b → IsStream b (state_of m)) → all_marks m ≡ dealt_marks (shapes_in (state_of m).devices) r.marks → base_of (state_of m).devices ≡ r.ram.base → m.memory.place ≡ r.place → HasArrived (AtBody r) m
-arrived r m steady received marks based place =
+pub arrived : (r : Received) (m : Seen) → AreSteady r → (AreHonestDisks r.marks → (b : List ℕ) → HasBeenFed r b → IsStream b (state_of m)) → all_marks m ≡ dealt_marks (shapes_in (state_of m).devices) r.marks → base_of (state_of m).devices ≡ r.ram.base → m.memory.place ≡ r.place → ram_len_in r.stage ≡ Some (length m.memory.bytes) → HasArrived (AtBody r) m
+arrived r m steady received marks based place long =
     let shapes = shapes_in (state_of m).devices in
     let over : all_marks m ≡ dealt_marks shapes (map (λ (n : ℕ). no_marks) r.sizes) = marks ∙ ap (λ (l : List Marks). dealt_marks shapes l) steady in
     record {
@@ -169,13 +169,14 @@ arrived r m steady received marks based place =
       stream = λ b h. received (rw steady (honest_marks r.sizes)) b h.0;
       base = based;
       place = place;
+      ram_len = long;
       plain = as_many no_marks (λ (d : DeviceSeen). d.marks) m.devices shapes (over ∙ alike shapes r.sizes);
     }
 
 pub arrived_if : (r : Received) (result : Result Seen RecvError) → AreSteady r → IfOk result (λ m. AreHonestDisks r.marks → (b : List ℕ) → HasBeenFed r b → IsStream b (state_of m))
-    → IfOk result (λ m. all_marks m ≡ dealt_marks (shapes_in (state_of m).devices) r.marks) → IfOk result (λ m. base_of (state_of m).devices ≡ r.ram.base) → IfOk result (λ m. m.memory.place ≡ r.place) → IfOk result (λ m. HasArrived (AtBody r) m)
-arrived_if r (Ok m) steady received marks based place = arrived r m steady received marks based place
-arrived_if r (Err e) steady received marks based place = tt
+    → IfOk result (λ m. all_marks m ≡ dealt_marks (shapes_in (state_of m).devices) r.marks) → IfOk result (λ m. base_of (state_of m).devices ≡ r.ram.base) → IfOk result (λ m. m.memory.place ≡ r.place) → IfOk result (λ m. ram_len_in r.stage ≡ Some (length m.memory.bytes)) → IfOk result (λ m. HasArrived (AtBody r) m)
+arrived_if r (Ok m) steady received marks based place long = arrived r m steady received marks based place long
+arrived_if r (Err e) steady received marks based place long = tt
 
 pub not_arrived_if : (r : Received) (result : Result Seen RecvError) → IfErr result (λ e. e ≡ end_error r.failed) → IfErr result (λ e. (b : List ℕ) → HasBeenFed r b → IsFinish b e) → IfErr result (λ e. TellsEnd (AtBody r) e × IsClosed (AtBody r) Refused)
 not_arrived_if r (Ok m) told why = tt

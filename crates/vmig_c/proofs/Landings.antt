@@ -2,7 +2,7 @@
 use Rattle.std.proofs.Common.{◌≡◌, ◌≤◌, ℕ, Bool, true, false, List, [], ◌∷◌, ◌++◌, ◌-◌, refl, sym, ap, ◌∙◌, arith, map, length, drop, take}
 use Prim.Native.Nat.{suc}
 use denote.RawPtr.{Ptr}
-use Rattle.std.specs.Prelude.{Option, None, Result, Ok, Err, IfErr, IfOk, OnErr, OnOk}
+use Rattle.std.specs.Prelude.{Option, None, Some, Result, Ok, Err, IfErr, IfOk, OnErr, OnOk}
 use Rattle.std.proofs.lemmas.List.{length-append, length-drop, length-take-le, map-append}
 use Rattle.std.proofs.lemmas.List.Elements.{All-drop, All-map, All-take}
 use Rattle.blk.specs.Disk.{DiskState}
@@ -11,7 +11,7 @@ use Rattle.machine.specs.First.{dealt_marks}
 use Rattle.machine.specs.State.{base_of}
 use Rattle.wire.specs.Stream.{IsStream, shapes_in}
 use Rattle.receiver.specs.Disks.{AreHonestDisks, MarksAfter, MarksRefused, disk_marks_of, sizes_of}
-use Rattle.receiver.specs.Receiving.{HasBeenFed, IsGivenUp, NoFault, Received, TellsNow}
+use Rattle.receiver.specs.Receiving.{HasBeenFed, IsGivenUp, NoFault, Received, TellsNow, ram_len_in}
 use Rattle.receiver.specs.declared.ram_terms.RamTerms.{RamTerms}
 use Rattle.receiver.specs.declared.recv_error.RecvError.{RecvError}
 use Rattle.receiver.specs.declared.recv_error.RecvError.TheVariants.{BadMagic, BadVersion, BadShape, ShapeMismatch, BadTag, BadPage, BadSector, BadRound, BadDevice, BadDigest, Missing, Trailing, Truncated, DiskFailed, NoMemory, AlreadyFailed}
@@ -138,10 +138,10 @@ none_given_up a images own = rw own refl
 
 -- The end.
 pub arrived_over : (r : Received) (m : Seen) → AreSteady r → r.failed ≡ false → (AreHonestDisks r.marks → (b : List ℕ) → HasBeenFed r b → IsStream b (state_of m)) → all_marks m ≡ dealt_marks (shapes_in (state_of m).devices) r.marks
-    → base_of (state_of m).devices ≡ r.ram.base → m.memory.place ≡ r.place → HasArrived (Over r) m
-arrived_over r m steady fine received marks based place =
-    let a : HasArrived (AtBody r) m = arrived r m steady received marks based place in
-    record { went_on = fine; stream = λ b h. received (rw steady (honest_marks r.sizes)) b h; base = based; plain = a.plain; place = place }
+    → base_of (state_of m).devices ≡ r.ram.base → m.memory.place ≡ r.place → ram_len_in r.stage ≡ Some (length m.memory.bytes) → HasArrived (Over r) m
+arrived_over r m steady fine received marks based place long =
+    let a : HasArrived (AtBody r) m = arrived r m steady received marks based place long in
+    record { went_on = fine; stream = λ b h. received (rw steady (honest_marks r.sizes)) b h; base = based; plain = a.plain; place = place; ram_len = long }
 
 pub given_up_steady : (r next : Received) → AreSteady r → IsGivenUp r next → AreSteady next
 given_up_steady r next steady h = more_steady r next steady h.sizes h.marks

@@ -25,7 +25,8 @@ use Rattle.sender.specs.declared.event.LiveReply.{LiveReply}
 use Rattle.sender.specs.declared.event.LiveReply.TheVariants as live
 use Rattle.sender.specs.declared.mig_error.MigError.{MigError}
 use Rattle.vmig_c.specs.ArrivalSeen.{ArrivalSeen}
-use Rattle.vmig_c.specs.Arriving.{Ends, fitting, ram_arrived}
+use Rattle.vmig_c.specs.Arriving.{Ends, has_more}
+use Rattle.vmig_c.specs.Awaited.{HasArrived, ram_coming}
 use Rattle.vmig_c.specs.Durable.{FailsSync, FailsUnless}
 use Rattle.vmig_c.specs.Kept.{FitsLog, LoanSeen, StillLent, MovingLent, State, Still, Moving, Arriving, Lent, ram_in}
 use Rattle.vmig_c.specs.Lent.{HasComeBack, IsLiveLoan, IsReturnable}
@@ -224,21 +225,13 @@ fits_more (Some pages) bytes size fits few = omega (arith, fits, few)
 tested_few : (a b : ℕ) → nat_lt a b ≡ false → b ≤ a
 tested_few a b is = grind (arith, nat_tests)
 
-kept_if : (short : Bool) (log : Option (List Bool)) (places size : ℕ) → nat_lt (4096 * places) size ≡ short → FitsLog log (4096 * places) → FitsLog (if short then None else log) size
-kept_if true log places size is fits = tt
-kept_if false log places size is fits = fits_more log (4096 * places) size fits (tested_few (4096 * places) size is)
+has_arrived : (log : Option (List Bool)) (places : ℕ) (r : ArrivalSeen) (m : Seen) → FitsLog log (4096 * places) → has_more places (ram_coming r) ≡ false → HasArrived r m → FitsLog log (length m.memory.bytes)
+has_arrived log places r m fits fine more =
+    let few : nat_lt (4096 * places) (length m.memory.bytes) ≡ false = sym (ap (has_more places) more.ram_len) ∙ fine in
+    fits_more log (4096 * places) (length m.memory.bytes) fits (tested_few (4096 * places) (length m.memory.bytes) few)
 
-never_less : (a : ℕ) → nat_lt a 0 ≡ false
-never_less a = grind (arith, nat_tests)
-
-pub arrived_fits : (log : Option (List Bool)) (places : ℕ) (k next : State) (r : ArrivalSeen) (status : ℕ) → FitsLog log (ram_in places k) → k ≡ Arriving r → Ends r status next → (status == 0) ≡ true → FitsLog (fitting places (ram_arrived next) log) (ram_in places next)
-arrived_fits log places k (Still m) r status fits is ends fine = kept_if (nat_lt (4096 * places) (length m.memory.bytes)) log places (length m.memory.bytes) refl (coming log places k r fits is)
-arrived_fits log places k (Arriving next) r status fits is ends fine = rw (never_less (4096 * places)) (coming log places k r fits is)
-arrived_fits log places k (Moving l) r status fits is ends fine = absurd ends
-arrived_fits log places k (Lent x) r status fits is ends fine = absurd ends
-
-pub not_arrived_fits : (log : Option (List Bool)) (places : ℕ) (k next : State) (r : ArrivalSeen) (status : ℕ) → FitsLog log (ram_in places k) → k ≡ Arriving r → Ends r status next → (status == 0) ≡ false → FitsLog log (ram_in places next)
-not_arrived_fits log places k (Still m) r status fits is ends bad = let done : status ≡ 0 = ends.status_is in absurd (true≢false (subst (λ (n : ℕ). (n == 0) ≡ false) done bad))
-not_arrived_fits log places k (Arriving next) r status fits is ends bad = coming log places k r fits is
-not_arrived_fits log places k (Moving l) r status fits is ends bad = absurd ends
-not_arrived_fits log places k (Lent x) r status fits is ends bad = absurd ends
+pub arrived_fits : (log : Option (List Bool)) (places : ℕ) (k next : State) (r : ArrivalSeen) (status : ℕ) → FitsLog log (ram_in places k) → k ≡ Arriving r → has_more places (ram_coming r) ≡ false → Ends r status next → FitsLog log (ram_in places next)
+arrived_fits log places k (Still m) r status fits is fine ends = has_arrived log places r m (coming log places k r fits is) fine ends.arrived
+arrived_fits log places k (Arriving next) r status fits is fine ends = coming log places k r fits is
+arrived_fits log places k (Moving l) r status fits is fine ends = absurd ends
+arrived_fits log places k (Lent x) r status fits is fine ends = absurd ends

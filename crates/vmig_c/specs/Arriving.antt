@@ -7,9 +7,9 @@ use Rattle.receiver.specs.declared.recv_error.RecvError.TheVariants.{AlreadyFail
 use Rattle.vmig_c.specs.Admission.{Admits, first_refusal}
 use Rattle.vmig_c.specs.AdmissionSeen.{AdmissionSeen, Denied}
 use Rattle.vmig_c.specs.ArrivalSeen.{ArrivalSeen}
-use Rattle.vmig_c.specs.Awaited.{HasArrived, HasSameDisks, IsClosed, IsFed, TellsEnd, TellsOf, TellsWhole, stream_status}
+use Rattle.vmig_c.specs.Awaited.{HasArrived, HasSameDisks, IsClosed, IsFed, TellsEnd, TellsOf, TellsWhole, ram_coming, stream_status}
 use Rattle.vmig_c.specs.OnHandle.{Refuses, Unless}
-use Rattle.c_machine.specs.Status.{done, in_use, no_machine, whole}
+use Rattle.c_machine.specs.Status.{done, in_use, no_machine, stream_too_large, whole}
 use Rattle.vmig_c.specs.Kept.{KeptSeen, State, Still, Moving, Arriving, Lent}
 
 -- The status of a piece that was taken, by whether the stream has ended with it.
@@ -110,28 +110,35 @@ pub record HasEnded (admission : AdmissionSeen) (k : State) (status : ℕ) (afte
   pub ends : FinishesState k status next
   pub admission_is : after ≡ after_finish status admission
 
-abbrev pub FinishesKept : AdmissionSeen → State → ℕ → AdmissionSeen → State → Type 0
-FinishesKept admission k status after next =
-    Unless (finish_refusal admission k) (λ reason. Refuses status next k reason × (after ≡ admission)) (HasEnded admission k status after next)
+-- The machine that arrives has more pages than its log may have places. No such machine is let in, so that is never; it is asked before the
+-- end, so that a log has a place for each page of a machine whatever came before.
+abbrev pub has_more : ℕ → Option ℕ → Bool
+has_more places None = false
+has_more places (Some bytes) = nat_lt (PAGE_SIZE * places) bytes
 
--- The bytes of RAM of a machine that has arrived. Where none has there are none.
-abbrev pub ram_arrived : State → ℕ
-ram_arrived (Still m) = length m.memory.bytes
-ram_arrived _ = 0
+abbrev pub outgrows : ℕ → State → Bool
+outgrows places (Arriving r) = has_more places (ram_coming r)
+outgrows places _ = false
 
--- A log that has no place for each page of so many bytes is dropped. What is let in has no more pages than are allowed, and these have a
--- place.
-abbrev pub fitting : ℕ → ℕ → Option (List Bool) → Option (List Bool)
-fitting places bytes log = if nat_lt (PAGE_SIZE * places) bytes then None else log
+-- It is refused for good, as one that is larger than is allowed, and nothing else changed.
+pub record HasOutgrown (k : State) (status : ℕ) (after : AdmissionSeen) (next : State) : Type 0 where
+  pub status_is : status ≡ stream_too_large
+  pub admission_is : after ≡ Denied status
+  pub same : next ≡ k
 
-abbrev pub log_of_arrived : KeptSeen → ℕ → State → Option (List Bool)
-log_of_arrived k status next = if status == done then fitting k.places (ram_arrived next) k.written else k.written
+abbrev pub EndsIf : Bool → AdmissionSeen → State → ℕ → AdmissionSeen → State → Type 0
+EndsIf true admission k status after next = HasOutgrown k status after next
+EndsIf false admission k status after next = HasEnded admission k status after next
+
+abbrev pub FinishesKept : ℕ → AdmissionSeen → State → ℕ → AdmissionSeen → State → Type 0
+FinishesKept places admission k status after next =
+    Unless (finish_refusal admission k) (λ reason. Refuses status next k reason × (after ≡ admission)) (EndsIf (outgrows places k) admission k status after next)
 
 pub record DoesFinish (k : KeptSeen) (status : ℕ) (after : Option KeptSeen) : Type 0 where
   pub next : State
   pub admission : AdmissionSeen
-  pub is_next : after ≡ Some (record k { state = next; admission = admission; written = log_of_arrived k status next })
-  pub does : FinishesKept k.admission k.state status admission next
+  pub is_next : after ≡ Some (record k { state = next; admission = admission })
+  pub does : FinishesKept k.places k.admission k.state status admission next
 
 -- A call to finish the arrival of the machine of a handle.
 abbrev pub Finished : Option KeptSeen → ℕ → Option KeptSeen → Type 0

@@ -1,11 +1,11 @@
 -- A machine whose stream arrives in pieces.
 use denote.RawPtr.{Ptr}
-use Rattle.std.specs.Prelude.{◌≡◌, ◌≢◌, ℕ, ◌+◌, List, [], ◌++◌, map, Option, Some, None, Bool, true, false}
+use Rattle.std.specs.Prelude.{◌≡◌, ◌≢◌, ℕ, ◌+◌, List, [], ◌++◌, length, map, Option, Some, None, Bool, true, false}
 use Rattle.machine.specs.Seen.{Seen, no_marks, state_of}
 use Rattle.machine.specs.State.{base_of}
 use Rattle.receiver.specs.Codes.{recv_code_of}
 use Rattle.receiver.specs.Faults.{Fault}
-use Rattle.receiver.specs.Receiving.{HasBeenFed, HasRounds, IsFinish, end_error, IsWholeFor, NoFault, Received, TellsNow, place_aside}
+use Rattle.receiver.specs.Receiving.{HasBeenFed, HasRounds, IsFinish, end_error, IsWholeFor, NoFault, Received, TellsNow, place_aside, ram_len_in}
 use Rattle.receiver.specs.Opened.{ram_at, told_by}
 use Rattle.receiver.specs.declared.ram_terms.RamTerms.{RamTerms}
 use Rattle.receiver.specs.declared.recv_error.RecvError.{RecvError}
@@ -85,6 +85,13 @@ awaited_place (AtHead ram place held) = place
 awaited_place (AtBody r) = r.place
 awaited_place Refused = None
 awaited_place (Over r) = r.place
+
+-- How many bytes the RAM has of the machine that arrives, once its header was read.
+abbrev pub ram_coming : ArrivalSeen → Option ℕ
+ram_coming (AtHead ram place held) = None
+ram_coming (AtBody r) = ram_len_in r.stage
+ram_coming Refused = None
+ram_coming (Over r) = ram_len_in r.stage
 
 -- The disks lie in memory: none ever failed, or will.
 abbrev pub AreSteady : Received → Type 0
@@ -186,6 +193,7 @@ pub record HasArrived (a : ArrivalSeen) (m : Seen) : Type 0 where
   pub stream : (b : List ℕ) → HasCome a b → IsStream b (state_of m)
   pub base : base_of (state_of m).devices ≡ awaited_base a
   pub place : m.memory.place ≡ awaited_place a
+  pub ram_len : ram_coming a ≡ Some (length m.memory.bytes)
   pub plain : ArePlain m
 
 -- This number of rounds ended in the bytes so far; after a refusal it is 0.

@@ -77,7 +77,7 @@ impl Model for Arrival {
 
 impl Arrival {
     ghost use Rattle.std.specs.Prelude.{◌≡◌, IfErr, IfOk, MatchOption, false, length, true};
-    ghost use Rattle.vmig_c.specs.Awaited.{CountsRounds, HasArrived, HasSameDisks, IsAtHead, IsClosed, IsFed, TellsEnd, TellsOf, TellsWhole, arrived_by, are_images, awaited_base, awaited_sizes, is_over, nothing_fed, refused_for_good};
+    ghost use Rattle.vmig_c.specs.Awaited.{CountsRounds, HasArrived, HasSameDisks, IsAtHead, IsClosed, IsFed, TellsEnd, TellsOf, TellsWhole, arrived_by, are_images, awaited_base, awaited_sizes, is_over, nothing_fed, ram_coming, refused_for_good};
     ghost use Rattle.receiver.specs.Opened.{told_by};
     ghost use Rattle.receiver.specs.Receiving.{place_aside};
     ghost use Rattle.vmig_c.specs.Landing.{AreDisksOf, IsAwaitedAt};
@@ -180,6 +180,17 @@ impl Arrival {
             Progress::Body(receiver) => receiver.is_whole(),
             Progress::Over(receiver) => receiver.is_whole(),
             Progress::Head(..) | Progress::Failed => false,
+        }
+    }
+
+    /// How many bytes the RAM has of the machine that arrives, once its header was read.
+    pub(crate) fn ram_len(&self) -> Option<u64>
+        ensures { result ≡ ram_coming self.now }
+    {
+        match &self.progress {
+            Progress::Body(receiver) => receiver.ram_len(),
+            Progress::Over(receiver) => receiver.ram_len(),
+            Progress::Head(..) | Progress::Failed => None,
         }
     }
 

@@ -24,7 +24,7 @@ returns-in-Ok-clause-arrived c =
     let view : awaited_by c.self.inside.progress ≡ c.args.self = c.self.view_is in
     let seen : AtBody c.in-Body.receiver ≡ c.args.self = sym (ap awaited_by c.in-Body.is) ∙ view in
     let has = c.in-Ok.ensures in
-    subst (λ (a : ArrivalSeen). HasArrived a c.in-Ok.machine) seen (arrived c.in-Body.receiver c.in-Ok.machine steady has.received has.marks has.based has.place)
+    subst (λ (a : ArrivalSeen). HasArrived a c.in-Ok.machine) seen (arrived c.in-Body.receiver c.in-Ok.machine steady has.received has.marks has.based has.place has.ram_len)
 
 pub returns-in-Body-clause-refused : goal.returns-in-Body-clause-refused
 returns-in-Body-clause-refused c =
@@ -39,4 +39,4 @@ returns-in-Ok-finish_or_back-clause-arrived c =
     let view : awaited_by c.self.inside.progress ≡ c.args.self = c.self.view_is in
     let seen : Over c.in-Over.receiver ≡ c.args.self = sym (ap awaited_by c.in-Over.is) ∙ view in
     let has = c.in-Ok-finish_or_back.ensures in
-    subst (λ (a : ArrivalSeen). HasArrived a c.in-Ok-finish_or_back.machine) seen (arrived_over c.in-Over.receiver c.in-Ok-finish_or_back.machine steady has.goes_on has.received has.marks has.based has.place)
+    subst (λ (a : ArrivalSeen). HasArrived a c.in-Ok-finish_or_back.machine) seen (arrived_over c.in-Over.receiver c.in-Ok-finish_or_back.machine steady has.goes_on has.received has.marks has.based has.place has.ram_len)
