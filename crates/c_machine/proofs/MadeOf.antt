@@ -13,7 +13,7 @@ use Rattle.machine.specs.Sound.{IsSound}
 use Rattle.machine.specs.Shapes.{disk_sizes}
 use Rattle.machine.specs.declared.shape.Shape.{Shape}
 use Rattle.c_machine.specs.Images.{AreImages, image_size}
-use Rattle.c_machine.specs.Made.{AreFirst, AreOwnDisks, IsFirstOf, first_place, are_other_disks, first_ram, fit_contents, has_bytes, has_images, is_bad_ram, is_known_setup, is_ram, limits_for, ram_bytes, ram_left, setup_refusal_of}
+use Rattle.c_machine.specs.Made.{AreFirst, AreOwnDisks, IsFirstOf, first_place, are_other_disks, first_ram, fit_contents, has_bytes, has_images, is_bad_ram, is_known_setup, limits_for, ram_bytes, ram_left, setup_refusal_of}
 use Rattle.c_machine.specs.Making.{are_bad_shapes, shapes_of}
 use Rattle.c_machine.specs.Mapping.{contents}
 use Rattle.c_machine.specs.declared.setup.Setup.{Setup}

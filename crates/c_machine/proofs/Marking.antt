@@ -55,9 +55,9 @@ no_bit words at j zero_word there = rw (there, zero_word, zero-div (2 ^ (j % 64)
 pub words_passed : (words : List ℕ) (count cut from to : ℕ) → count ≤ 64 * cut → from ≤ to → AreZeroBetween (take cut words) from to → marked words (min (64 * to) count) ≡ marked words (min (64 * from) count)
 words_passed words count cut from to room order zeros =
     none_between words (min (64 * from) count) (min (64 * to) count) (omega (arith, order)) (λ j low high.
-      let inside : j / 64 < cut = omega (arith, high, room) in
-      let zero_word : get_or words (j / 64) 0 ≡ 0 = sym (get_or-take cut words (j / 64) 0 inside) ∙ zeros (j / 64) (omega (arith, low, high)) (omega (arith, high)) in
-      no_bit words (j / 64) j zero_word refl)
+    let inside : j / 64 < cut = omega (arith, high, room) in
+    let zero_word : get_or words (j / 64) 0 ≡ 0 = sym (get_or-take cut words (j / 64) 0 inside) ∙ zeros (j / 64) (omega (arith, low, high)) (omega (arith, high)) in
+    no_bit words (j / 64) j zero_word refl)
 
 -- All that is marked, or any number below the count, is a page.
 below_by : (b : Bool) (p : ℕ → Bool) (count a n : ℕ) → p a ≡ b → a < count → are_pages count (filter p (range_with_len (a + 1) n)) ≡ true → are_pages count (cond b (a ∷ filter p (range_with_len (a + 1) n)) (filter p (range_with_len (a + 1) n))) ≡ true

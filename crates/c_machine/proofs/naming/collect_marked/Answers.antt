@@ -1,6 +1,5 @@
-use Rattle.std.proofs.Common.{◌≡◌, ◌+◌, ◌*◌, ◌≤◌, ◌∙◌, ap, arith, sym, length, take}
+use Rattle.std.proofs.Common.{◌≡◌, ◌+◌, ◌*◌, ◌≤◌, ◌∙◌, ap, arith, sym}
 use Rattle.std.specs.Prelude.{min}
-use Rattle.std.specs.Int.{div_ceil}
 use Rattle.c_machine.specs.Named.{marked}
 use Rattle.c_machine.proofs.Marking.{words_passed}
 use Rattle.c_machine.proofs.naming.collect_marked.Goals as goal
