@@ -7,10 +7,8 @@ use Rattle.std.proofs.lemmas.List.{append-nil, append_assoc, drop_all, drop_more
 use Rattle.machine.specs.Shapes.{sector_count}
 use Rattle.machine.specs.declared.shape.Shape.{Shape}
 use Rattle.machine.specs.Limits.{AreWithin}
-use Rattle.machine.specs.declared.limits.Limits.{Limits}
 use Rattle.wire.specs.Header.{Begins, Opening}
 use Rattle.receiver.specs.Faults.{ShowsHeaderFault, TellsHead}
-use Rattle.receiver.specs.declared.ram_terms.RamTerms.{RamTerms}
 use Rattle.receiver.specs.declared.recv_error.RecvError.{RecvError}
 use Rattle.receiver.specs.declared.recv_error.RecvError.TheVariants.{NoMemory}
 use Rattle.vmig_c.specs.Admission.{IsAdmitted, IsFaultyHead, IsUnfit, are_expected, are_same_shapes, is_same_shape, stream_refusal}

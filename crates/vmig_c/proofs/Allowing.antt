@@ -1,5 +1,5 @@
 -- How large RAM may be that a setup or an arrival asks for.
-use Rattle.std.proofs.Common.{◌≡◌, ◌≤◌, ◌*◌, ◌/◌, ◌%◌, ◌==◌, ◌&&◌, ◌||◌, not, nat_lt, ℕ, Bool, true, false, List, refl, arith, length, replicate}
+use Rattle.std.proofs.Common.{◌≡◌, ◌≤◌, ◌*◌, ◌/◌, ◌%◌, ◌==◌, ◌&&◌, ◌||◌, not, nat_lt, ℕ, Bool, true, false, List, refl, arith, length}
 use Rattle.std.specs.Prelude.{Option, Some, None, if◌then◌else◌}
 use Rattle.std.proofs.lemmas.Bool.Decides.{nat_tests}
 use Rattle.std.proofs.lemmas.List.{length-replicate}
@@ -8,7 +8,7 @@ use Rattle.machine.specs.Limits.{greatest}
 use Rattle.machine.specs.declared.limits.Limits.{Limits}
 use Rattle.region.specs.declared.slot.Slot.{Slot}
 use Rattle.c_machine.specs.Expected as arrival
-use Rattle.c_machine.specs.Made.{are_other_disks, asks_large, first_ram, has_bytes, is_bad_ram, is_known_setup, is_ram, limits_for, ram_bytes, ram_if, setup_refusal_of}
+use Rattle.c_machine.specs.Made.{are_other_disks, asks_large, first_ram, is_bad_ram, is_known_setup, is_ram, limits_for, ram_bytes, ram_if, setup_refusal_of}
 use Rattle.c_machine.specs.Making.{are_bad_shapes}
 use Rattle.c_machine.specs.declared.setup.Expected.{Expected}
 use Rattle.c_machine.specs.declared.setup.Setup.{Setup}

@@ -1,5 +1,5 @@
 -- Machines whose streams arrive in pieces.
-use Rattle.std.proofs.Common.{◌≡◌, ◌⊎◌, ◌≤◌, ◌+◌, ◌-◌, min, ℕ, Bool, true, false, List, [], ◌∷◌, ◌++◌, refl, sym, ap, ◌∙◌, subst, map, length, take, drop, inl, inr, append_assoc, arith, true≢false}
+use Rattle.std.proofs.Common.{◌≡◌, ◌≤◌, ◌+◌, ◌-◌, min, ℕ, Bool, true, false, List, [], ◌∷◌, ◌++◌, refl, sym, ap, ◌∙◌, subst, map, length, take, drop, inl, inr, append_assoc, arith, true≢false}
 use denote.RawPtr.{Ptr}
 use Rattle.std.specs.Prelude.{IsTrue, IfErr, IfOk, Result, Ok, Err, Option, Some, None, slice_get}
 use Rattle.guestmem.specs.Memory.{Memory}

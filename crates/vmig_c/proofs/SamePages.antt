@@ -30,7 +30,7 @@ use Rattle.vmig_c.specs.Awaited.{HasArrived, ram_coming}
 use Rattle.vmig_c.specs.Durable.{FailsSync, FailsUnless}
 use Rattle.vmig_c.specs.Kept.{FitsLog, LoanSeen, StillLent, MovingLent, State, Still, Moving, Arriving, Lent, ram_in}
 use Rattle.vmig_c.specs.Lent.{HasComeBack, IsLiveLoan, IsReturnable}
-use Rattle.vmig_c.specs.Migrated.{AbortsKept, BeginsKept, GoesOn, HasEnded, HasStopped, HasTaken, IsAnswered, SendsIf, SendsOne, SendsSome, SendsUpTo, TakesLent, is_none_due, send_refusal}
+use Rattle.vmig_c.specs.Migrated.{AbortsKept, BeginsKept, GoesOn, HasEnded, HasStopped, HasTaken, SendsIf, SendsSome, SendsUpTo, TakesLent, is_none_due, send_refusal}
 use Rattle.vmig_c.specs.Mirror.{is_closed}
 use Rattle.vmig_c.specs.Moving.{Saves, SavesIf}
 use Rattle.vmig_c.specs.OnHandle.{Unless}

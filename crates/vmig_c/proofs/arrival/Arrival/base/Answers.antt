@@ -1,6 +1,4 @@
 use Rattle.std.proofs.Common.{◌≡◌, ap, sym, subst, ◌∙◌}
-use Rattle.receiver.specs.Opened.{told_by}
-use Rattle.receiver.specs.Receiving.{place_aside}
 use Rattle.vmig_c.specs.ArrivalSeen.{ArrivalSeen}
 use Rattle.vmig_c.specs.Awaited.{awaited_base, awaited_by}
 use Rattle.vmig_c.proofs.Awaited.{based_at}
