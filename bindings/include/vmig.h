@@ -187,7 +187,7 @@
  *
  * WHAT TAKES MEMORY from malloc: vmig_make, for devices, for RAM and disks where they are not yours, for a bit for each sector of
  * an image, and for 8 bytes for each page; vmig_arrive, for lists of the images and shapes, and for 8 bytes for each page of RAM
- * that is yours; both for 2 KiB where VMIG_LOG is asked for; vmig_feed, for the first bytes until the header is whole, fewer than
+ * that is yours; both for a log, where VMIG_LOG asks for it; vmig_feed, for the first bytes until the header is whole, fewer than
  * 1,024, for a buffer of 128 KiB, in which the front of a record waits for the rest, and, as soon as the header is whole and within
  * the limits, for what vmig_make takes; vmig_stream_describe, for a list of sixteen shapes, for the time of the call; vmig_save,
  * for the whole stream, for the time of the call; vmig_step and vmig_work, for a chain of more than four descriptors, or a message
@@ -252,7 +252,7 @@ enum {
     VMIG_IN_USE = 9,                    /* the handle has a machine already, or one arrives; feed, finish: it has arrived */
     VMIG_NO_MEMORY = 10,                /* out of memory: malloc or realloc failed */
     VMIG_TOO_SMALL = 11,                /* your buffer, your slots or your bitmap */
-    VMIG_BAD_SHAPE = 12,                /* not 1 to 16 devices, or one beyond the limits, or of an unknown kind */
+    VMIG_BAD_SHAPE = 12,                /* not 1 to 16 devices, or one beyond the limits (VMIG_LARGE), or of an unknown kind */
     VMIG_BAD_IMAGES = 15,               /* contents or images that do not fit the disks; a slot that is not VMIG_NO_IMAGE */
     VMIG_NOT_SENDING = 17,              /* the machine is not being sent */
     VMIG_SENDING = 18,                  /* the machine is being sent */
@@ -262,14 +262,16 @@ enum {
     VMIG_LENT = 23,                     /* RAM is out: give it back before */
     VMIG_NOT_LENT = 24,                 /* RAM is in */
     VMIG_NOT_YOURS = 25,                /* RAM is in memory of the library, and is never lent */
-    VMIG_BAD_RAM = 26,                  /* not 1 to 16,384 whole pages, or not as asked for or lent; lend: not VMIG_NO_RAM */
+    VMIG_BAD_RAM = 26,                  /* not whole pages, none, or more than 16,384 without VMIG_LARGE; not as asked for or lent;
+                                         * lend: not VMIG_NO_RAM */
     VMIG_NOT_KNOWN = 27,                /* a struct of another version, a flag, or a word that has to be 0; or no VMIG_LOG */
     VMIG_BAD_BASE = 30,                 /* not a multiple of 4,096, or RAM would reach past the last address */
 
     /* Refused: what arrives. The arrival is over, and the handle waits for vmig_free or vmig_release. */
     VMIG_STREAM_BAD_MAGIC = 33,         /* it does not begin with "VMIG" */
     VMIG_STREAM_BAD_VERSION = 34,       /* a stream whose version is neither 1 nor 2 */
-    VMIG_STREAM_BAD_SHAPE = 35,         /* the machine that it announces is beyond the limits of any machine */
+    VMIG_STREAM_BAD_SHAPE = 35,         /* the machine that it announces is beyond the limits of any machine, or, without VMIG_LARGE,
+                                         * of those that need no flag */
     VMIG_STREAM_MISMATCH = 36,          /* at the header: not the shapes, images or pages of RAM that the arrival names; or RAM
                                          * from its base on would pass the last address */
     VMIG_STREAM_BAD_TAG = 37,           /* a tag that may not come there */
@@ -334,7 +336,7 @@ typedef struct vmig_shape {
     uint8_t kind;
     uint8_t read_only;                  /* of a disk: whether the driver may only read it, 0 or 1 */
     uint8_t mac[6];                     /* of a network device */
-    uint64_t sectors;                   /* of a disk: 1 to 2,097,152 sectors of 512 bytes */
+    uint64_t sectors;                   /* of a disk: 1 to 2,097,152 sectors of 512 bytes, to 4,294,967,295 with VMIG_LARGE */
     uint8_t id[20];                     /* of a disk: the id that it returns to a driver */
     uint32_t frame;                     /* 0 */
     uint64_t reserved[2];               /* 0 */
@@ -380,7 +382,8 @@ typedef struct vmig_pages {
  * and images: ram is VMIG_NO_RAM and each image VMIG_NO_IMAGE then. The rest of the struct is as it was in any case. */
 typedef struct vmig_setup {
     uint32_t version;                   /* of this struct: 1 */
-    uint32_t pages;                     /* of RAM, 4,096 bytes each, 1 to 16,384; with ram of yours 0, or as many as it has */
+    uint32_t pages;                     /* of RAM, 4,096 bytes each, 1 to 16,384, or any number but 0 with VMIG_LARGE; with ram of
+                                         * yours 0, or as many as it has */
     const vmig_shape *shapes;           /* the devices, 1 to 16: they have the numbers 0, 1 and so on, in this order */
     size_t count;
     const uint8_t *contents;            /* len bytes, the disks' first contents: the sectors of the first block device, from
@@ -396,14 +399,22 @@ typedef struct vmig_setup {
                                          * is past the last address. All addresses of the guest count from there: those that a
                                          * driver writes into registers and descriptors, and those of vmig_ram_read and
                                          * vmig_ram_write */
-    uint32_t flags;                     /* VMIG_LOG, or 0 */
+    uint32_t flags;                     /* any of VMIG_LARGE and VMIG_LOG, or 0 */
     uint32_t block;                     /* 0 */
     uint64_t reserved[4];               /* 0 */
 } vmig_setup;
 
 #define VMIG_SETUP {1, 0, VMIG_NULL_, 0, VMIG_NULL_, 0, VMIG_NULL_, 0, VMIG_NO_RAM, 0, 0, 0, {0, 0, 0, 0}}
 
-/* A flag: the pages that calls write are logged, for vmig_written. It takes 2 KiB, and some instructions more a step. */
+/* Flags. VMIG_LARGE: the machine may be as large as its stream can tell, with 4,294,967,295 pages (16 TiB) and as many sectors
+ * (2 TiB) of each disk. Without it a machine of more than 16,384 pages (64 MiB), or of a disk of more than 2,097,152 sectors
+ * (1 GiB), is refused, made or arriving. Let large RAM be yours: the library fills its own with zeros when it makes a machine, and
+ * at vmig_finish the pages that did not come, while the guest stands. vmig_save, and a stop before which nothing was copied, hold
+ * the whole stream in memory. */
+#define VMIG_LARGE 1u
+
+/* VMIG_LOG: the pages that calls write are logged, for vmig_written. It takes some instructions more a step, and a bit for each
+ * page that RAM has, or may have where it arrives, and at least 2 KiB. */
 #define VMIG_LOG 2u
 
 /* A machine that arrives. Begin with VMIG_ARRIVAL: it allows nothing until you say what. VMIG_OK takes RAM and images, as above. */
@@ -425,7 +436,7 @@ typedef struct vmig_arrival {
                                          * the stream does not say. With another one the addresses in it can be out of RAM: then it
                                          * is refused, else the driver finds its rings at other bytes. A multiple of 4,096. RAM of
                                          * the library that would reach past the last address is VMIG_STREAM_MISMATCH */
-    uint32_t flags;                     /* VMIG_LOG, or 0 */
+    uint32_t flags;                     /* any of VMIG_LARGE and VMIG_LOG, or 0 */
     uint32_t frame;                     /* 0 */
     uint64_t most_outside;              /* 0 */
     uint32_t block, zero;               /* 0 */
@@ -441,7 +452,7 @@ typedef struct vmig_description {
     uint32_t pages;                     /* of RAM; of what arrives from its header on, and 0 once it has failed */
     uint32_t count;                     /* of devices; likewise */
     uint64_t base;                      /* of RAM; of a stream 0, which does not say it */
-    uint32_t flags;                     /* those that it was made, or let arrive, with: VMIG_LOG, or 0 */
+    uint32_t flags;                     /* those that it was made, or let arrive, with */
     uint32_t calls_out;                 /* 0 */
     uint32_t rounds;                    /* sending: the number of the round that is open; arriving: how many have ended */
     uint32_t fault;                     /* failed, send failed: the status that was answered first */
@@ -472,8 +483,8 @@ uint32_t vmig_version(void);
 
 /* Makes a machine as the setup says, in any mixture of RAM, of yours or of the library, and of disks: zeros, your contents, or
  * images.
- * NOT_KNOWN, BAD_RAM (not 1 to 16,384 whole pages; pages and ram differ), BAD_SHAPE, BAD_BASE, BAD_IMAGES (contents and images;
- * counts, lengths or sectors that are not those of the disks), NO_MEMORY. */
+ * NOT_KNOWN, BAD_RAM (not whole pages, none or too many; pages and ram differ), BAD_SHAPE, BAD_BASE, BAD_IMAGES (contents and
+ * images; counts, lengths or sectors that are not those of the disks), NO_MEMORY. */
 vmig_status vmig_make(vmig_setup *setup, vmig_machine *m) VMIG_CHECKED_(1, 2);
 
 /* Frees whatever the handle has, also while RAM is lent; it is VMIG_NONE then. RAM and images of yours are yours again, where they
@@ -687,8 +698,8 @@ vmig_status vmig_save(const vmig_machine *m, uint8_t *buf, size_t size, size_t *
 
 /* A machine will arrive within the limits and in the memory that the arrival names: the only way in. RAM and disks that are not
  * yours are taken as soon as the header of the stream has come and fits.
- * NOT_KNOWN, BAD_RAM (not whole pages; most_pages beside it), BAD_SHAPE (of shapes), BAD_BASE, BAD_IMAGES (not those of shapes),
- * NO_MEMORY. */
+ * NOT_KNOWN, BAD_RAM (not whole pages, or too many; most_pages beside it), BAD_SHAPE (of shapes), BAD_BASE, BAD_IMAGES (not those
+ * of shapes), NO_MEMORY. */
 vmig_status vmig_arrive(vmig_arrival *arrival, vmig_machine *m) VMIG_CHECKED_(1, 2);
 
 /* The next bytes of the stream, in pieces of any size. VMIG_OK: they have no fault so far. VMIG_WHOLE: the stream has ended, and is

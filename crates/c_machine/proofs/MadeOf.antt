@@ -13,7 +13,7 @@ use Rattle.machine.specs.Sound.{IsSound}
 use Rattle.machine.specs.Shapes.{disk_sizes}
 use Rattle.machine.specs.declared.shape.Shape.{Shape}
 use Rattle.c_machine.specs.Images.{AreImages, image_size}
-use Rattle.c_machine.specs.Made.{AreFirst, AreOwnDisks, IsFirstOf, first_place, are_other_disks, first_ram, fit_contents, has_bytes, has_images, is_bad_ram, is_known_setup, ram_bytes, ram_left, setup_refusal_of}
+use Rattle.c_machine.specs.Made.{AreFirst, AreOwnDisks, IsFirstOf, first_place, are_other_disks, first_ram, fit_contents, has_bytes, has_images, is_bad_ram, is_known_setup, is_ram, limits_for, ram_bytes, ram_left, setup_refusal_of}
 use Rattle.c_machine.specs.Making.{are_bad_shapes, shapes_of}
 use Rattle.c_machine.specs.Mapping.{contents}
 use Rattle.c_machine.specs.declared.setup.Setup.{Setup}
@@ -78,6 +78,6 @@ not_false false is = absurd cc
 
 pub fits : (s : Setup) (shapes : List Shape) → setup_refusal_of s ≡ None → (length s.images.now == 0) ≡ true → shapes ≡ shapes_of s.shapes.now → fit_contents s.contents.now shapes
 fits s shapes fine none are some =
-    let other : are_other_disks s ≡ false = six_tests _ _ _ _ _ (not (is_known_setup s)) (is_bad_ram s.pages (length s.ram.content)) (are_bad_shapes s.shapes.now) (not (is_base s.base (ram_bytes s.pages (length s.ram.content)))) (are_other_disks s) fine in
+    let other : are_other_disks s ≡ false = six_tests _ _ _ _ _ (not (is_known_setup s)) (is_bad_ram (limits_for s.flags) s.pages (length s.ram.content)) (are_bad_shapes (limits_for s.flags) s.shapes.now) (not (is_base s.base (ram_bytes s.pages (length s.ram.content)))) (are_other_disks s) fine in
     let asked : not (length s.contents.now == image_size (shapes_of s.shapes.now)) ≡ false = rw (none, some) at other in
     eq_of (length s.contents.now) (image_size (shapes_of s.shapes.now)) (not_false (length s.contents.now == image_size (shapes_of s.shapes.now)) asked) ∙ ap image_size (sym are)

@@ -2,8 +2,9 @@
 use Rattle.std.specs.Prelude.{◌≡◌, ℕ, ◌==◌, ◌&&◌, ◌||◌, not, nat_lt, if◌then◌else◌, Bool, false, List, length, Option, Some, None}
 use Rattle.machine.specs.First.{are_same, is_base}
 use Rattle.machine.specs.Shapes.{disk_sizes}
+use Rattle.machine.specs.declared.limits.Limits.{Limits}
 use Rattle.machine.specs.declared.machine.TheConstants.{DEVICES_MAX}
-use Rattle.c_machine.specs.Made.{are_known, has_bytes, is_ram}
+use Rattle.c_machine.specs.Made.{are_known, has_bytes, is_ram, limits_for}
 use Rattle.c_machine.specs.Making.{are_plain, shapes_of}
 use Rattle.c_machine.specs.Mapping.{counts}
 use Rattle.c_machine.specs.Named.{are_zeros}
@@ -23,12 +24,12 @@ abbrev pub is_known_arrival : Expected → Bool
 is_known_arrival e = e.version == 1 && (are_known e.flags && (e.frame == 0 && (e.most_outside == 0 && (e.block == 0 && (e.zero == 0 && are_zeros e.reserved)))))
 
 -- These bytes of the caller, where there are any, are no RAM, or pages are allowed beside them.
-abbrev pub is_unfit_ram : ℕ → ℕ → Bool
-is_unfit_ram most_pages bytes = not (bytes == 0) && (not (most_pages == 0) || not (is_ram bytes))
+abbrev pub is_unfit_ram : Limits → ℕ → ℕ → Bool
+is_unfit_ram limits most_pages bytes = not (bytes == 0) && (not (most_pages == 0) || not (is_ram limits bytes))
 
 -- The devices that are expected are more than 16, or not all plain.
-abbrev pub are_unfit_shapes : List DeviceShape → Bool
-are_unfit_shapes shapes = nat_lt DEVICES_MAX (length shapes) || not (are_plain shapes)
+abbrev pub are_unfit_shapes : Limits → List DeviceShape → Bool
+are_unfit_shapes limits shapes = nat_lt DEVICES_MAX (length shapes) || not (are_plain limits shapes)
 
 -- There are images, and not those of the devices that are expected.
 abbrev pub are_other_images : Expected → Bool
@@ -39,8 +40,8 @@ are_other_images e =
 abbrev pub arrival_refusal_of : Expected → Option ℕ
 arrival_refusal_of e =
     if not (is_known_arrival e) then Some not_known
-    else if is_unfit_ram e.most_pages (length e.ram.content) then Some bad_ram
-    else if are_unfit_shapes e.shapes.now then Some bad_shape
+    else if is_unfit_ram (limits_for e.flags) e.most_pages (length e.ram.content) then Some bad_ram
+    else if are_unfit_shapes (limits_for e.flags) e.shapes.now then Some bad_shape
     else if not (is_base e.base (length e.ram.content)) then Some bad_base
     else if are_other_images e then Some bad_images
     else None

@@ -5,13 +5,15 @@ use Rattle.region.specs.Empty.{empty_slot}
 use Rattle.region.specs.Address.{address}
 use Rattle.region.specs.Slot.{region_of, slot_of}
 use Rattle.region.specs.declared.slot.Slot.{Slot}
-use Rattle.guestmem.specs.declared.limits.TheConstants.{PAGE_SIZE, PAGES_MAX}
+use Rattle.guestmem.specs.declared.limits.TheConstants.{PAGE_SIZE}
 use Rattle.machine.specs.First.{are_same, is_base, made_machine, zero_pages}
+use Rattle.machine.specs.Limits.{greatest, usual}
 use Rattle.machine.specs.Seen.{Seen, state_of}
 use Rattle.machine.specs.Shapes.{disk_sizes}
 use Rattle.machine.specs.Sound.{IsSound}
 use Rattle.machine.specs.declared.board.RamOf.{RamOf}
 use Rattle.machine.specs.declared.board.RamOf.TheVariants.{Pages, Region}
+use Rattle.machine.specs.declared.limits.Limits.{Limits}
 use Rattle.machine.specs.declared.shape.Shape.{Shape}
 use Rattle.c_machine.specs.Images.{AreImages, image_size}
 use Rattle.c_machine.specs.Making.{are_bad_shapes, shapes_of, zero_sectors}
@@ -35,12 +37,19 @@ has_contents s = not (length s.contents.now == 0)
 abbrev pub has_images : Setup → Bool
 has_images s = not (length s.images.now == 0)
 
--- A log of the pages that calls write is asked for. No other flag is known.
+-- Bit 0: a machine as large as its stream can tell is asked for. Bit 1: a log of the pages that calls write. No other bit is known.
+abbrev pub asks_large : ℕ → Bool
+asks_large flags = flags % 2 == 1
+
 abbrev pub asks_log : ℕ → Bool
-asks_log flags = flags == 2
+asks_log flags = flags / 2 % 2 == 1
 
 abbrev pub are_known : ℕ → Bool
-are_known flags = flags == 0 || asks_log flags
+are_known flags = not (nat_lt 3 flags)
+
+-- How large a machine may be that is made, or let arrive, with these flags.
+abbrev pub limits_for : ℕ → Limits
+limits_for flags = if asks_large flags then greatest else usual
 
 -- The version is 1, and what no version gives a meaning yet is 0.
 abbrev pub is_known_setup : Setup → Bool
@@ -50,13 +59,13 @@ is_known_setup s = s.version == 1 && (are_known s.flags && (s.block == 0 && are_
 abbrev pub ram_bytes : ℕ → ℕ → ℕ
 ram_bytes pages bytes = if bytes == 0 then PAGE_SIZE * pages else bytes
 
--- These bytes are whole pages, and as many as a machine may have.
-abbrev pub is_ram : ℕ → Bool
-is_ram bytes = bytes % PAGE_SIZE == 0 && (not (bytes / PAGE_SIZE == 0) && not (nat_lt PAGES_MAX (bytes / PAGE_SIZE)))
+-- These bytes are whole pages, and as many as a machine within these limits may have.
+abbrev pub is_ram : Limits → ℕ → Bool
+is_ram limits bytes = bytes % PAGE_SIZE == 0 && (not (bytes / PAGE_SIZE == 0) && not (nat_lt limits.pages (bytes / PAGE_SIZE)))
 
 -- They are none; or RAM of the caller has these bytes, and pages are asked for, but not as many.
-abbrev pub is_bad_ram : ℕ → ℕ → Bool
-is_bad_ram pages bytes = not (is_ram (ram_bytes pages bytes)) || (not (bytes == 0) && (not (pages == 0) && not (PAGE_SIZE * pages == bytes)))
+abbrev pub is_bad_ram : Limits → ℕ → ℕ → Bool
+is_bad_ram limits pages bytes = not (is_ram limits (ram_bytes pages bytes)) || (not (bytes == 0) && (not (pages == 0) && not (PAGE_SIZE * pages == bytes)))
 
 -- By whether there are images, and contents: there are both; or the images are not those of the disks, or the contents not as long as they.
 abbrev pub are_others : Bool → Bool → Setup → Bool
@@ -71,8 +80,8 @@ are_other_disks s = are_others (has_images s) (has_contents s) s
 abbrev pub setup_refusal_of : Setup → Option ℕ
 setup_refusal_of s =
     if not (is_known_setup s) then Some not_known
-    else if is_bad_ram s.pages (length s.ram.content) then Some bad_ram
-    else if are_bad_shapes s.shapes.now then Some bad_shape
+    else if is_bad_ram (limits_for s.flags) s.pages (length s.ram.content) then Some bad_ram
+    else if are_bad_shapes (limits_for s.flags) s.shapes.now then Some bad_shape
     else if not (is_base s.base (ram_bytes s.pages (length s.ram.content))) then Some bad_base
     else if are_other_disks s then Some bad_images
     else None

@@ -1,8 +1,8 @@
 -- Devices that C asks for.
 use Rattle.std.specs.Prelude.{ℕ, ◌==◌, ◌||◌, ◌&&◌, not, nat_lt, Bool, true, List, [], ◌∷◌, length, map, replicate, Some, if◌then◌else◌}
 use Rattle.blk.specs.Sectors.{Sector}
-use Rattle.machine.specs.Limits.{usual}
 use Rattle.machine.specs.Shapes.{is_beyond}
+use Rattle.machine.specs.declared.limits.Limits.{Limits}
 use Rattle.machine.specs.declared.machine.TheConstants.{DEVICES_MAX}
 use Rattle.machine.specs.declared.shape.Shape.{Shape}
 use Rattle.machine.specs.declared.shape.Shape.TheVariants.{Net, Block, Console, Entropy}
@@ -32,17 +32,17 @@ has_no_disk s = s.read_only == 0 && (s.sectors == 0 && are_zeros s.id)
 abbrev pub has_only : DeviceShape → Bool
 has_only s = (s.kind == 1 || are_zeros s.mac) && ((s.kind == 2 || has_no_disk s) && (not (nat_lt 1 s.read_only) && (s.frame == 0 && are_zeros s.reserved)))
 
--- A device of a known kind within its limits, of which nothing else is said.
-abbrev pub is_plain : DeviceShape → Bool
-is_plain s = has_only s && (is_known s.kind && not (is_beyond usual (shape_of s)))
+-- A device of a known kind within these limits, of which nothing else is said.
+abbrev pub is_plain : Limits → DeviceShape → Bool
+is_plain limits s = has_only s && (is_known s.kind && not (is_beyond limits (shape_of s)))
 
-abbrev pub are_plain : List DeviceShape → Bool
-are_plain [] = true
-are_plain (s ∷ shapes) = is_plain s && are_plain shapes
+abbrev pub are_plain : Limits → List DeviceShape → Bool
+are_plain limits [] = true
+are_plain limits (s ∷ shapes) = is_plain limits s && are_plain limits shapes
 
 -- The devices are not 1 to 16, or not all plain.
-abbrev pub are_bad_shapes : List DeviceShape → Bool
-are_bad_shapes shapes = length shapes == 0 || nat_lt DEVICES_MAX (length shapes) || not (are_plain shapes)
+abbrev pub are_bad_shapes : Limits → List DeviceShape → Bool
+are_bad_shapes limits shapes = length shapes == 0 || nat_lt DEVICES_MAX (length shapes) || not (are_plain limits shapes)
 
 -- A disk of zeros, all its sectors good.
 abbrev pub zero_sectors : ℕ → List Sector

@@ -32,7 +32,7 @@ pub struct Description {
     /// The guest-physical address at which RAM begins.
     pub base: u64,
 
-    /// 0, until a later version gives it a meaning.
+    /// What it was made, or let arrive, with: any of `LARGE` and `LOG`.
     pub flags: u32,
 
     /// 0, until a later version gives it a meaning.

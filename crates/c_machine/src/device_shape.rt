@@ -5,7 +5,7 @@ ghost use Rattle.c_machine.specs.Description.{described};
 ghost use Rattle.c_machine.specs.Making.{has_no_disk, has_only, is_known, is_plain, no_shape, shape_of};
 ghost use Rattle.c_machine.specs.Named.{are_zeros};
 
-use machine::{SECTORS_MAX, Shape};
+use machine::{Limits, Shape};
 
 /// A device that C asks for. What its kind does not need is 0.
 #[derive(Clone, Copy)]
@@ -101,15 +101,15 @@ impl DeviceShape {
         }
     }
 
-    /// Whether there can be such a device.
-    pub fn is_plain(&self) -> bool
-        ensures { result ≡ is_plain self.now }
+    /// Whether there can be such a device, within these limits.
+    pub fn is_plain(&self, limits: Limits) -> bool
+        ensures { result ≡ is_plain limits self.now }
     {
         if !self.has_only() {
             return false;
         }
         match self.kind {
-            2 => self.sectors != 0 && self.sectors <= SECTORS_MAX,
+            2 => self.sectors != 0 && self.sectors <= limits.sectors as u64,
             kind => is_known(kind),
         }
     }

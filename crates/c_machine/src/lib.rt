@@ -5,6 +5,7 @@
 //!
 //! # What the layer above may rely on
 //! - `setup_refusal` and `arrival_refusal` say why a struct is refused, in one order, and change nothing (`specs/Made`, `specs/Expected`).
+//!   How large a machine may be its flags say (`limits_for`).
 //! - `machine_on` makes the machine over the memory in a slot, which is taken, or over zeros; where memory is refused the slot is as it was,
 //!   and the disks come back. Disks lie in memory of the library (`own_disks`) or in images of the caller (`mapped_disks`), which
 //!   `give_back` puts back where they lay.
@@ -31,4 +32,7 @@ pub use making::{machine_on, own_disks, shapes_of, zero_disks};
 pub use mapping::{give_back, mapped_disks};
 pub use over_ram::{put_back, taken_ram};
 pub use pages::Pages;
-pub use setup::{Expected, LOG, Setup, arrival_refusal, asks_log, is_none, setup_refusal};
+pub use setup::{
+    Expected, LARGE, LOG, Setup, arrival_refusal, asks_large, asks_log, is_none, limits_for,
+    ram_bytes, setup_refusal,
+};

@@ -16,19 +16,19 @@ use machine::{Board, DEVICES_MAX, Disk, Limits, Machine, MemDisk, Shape, Unmade}
 use region::Slot;
 use std::alloc::Global;
 
-/// Whether no machine can have these devices.
-pub fn are_bad_shapes(shapes: &[DeviceShape]) -> bool
-    ensures { result ≡ are_bad_shapes shapes.now }
+/// Whether no machine within these limits can have these devices.
+pub fn are_bad_shapes(limits: Limits, shapes: &[DeviceShape]) -> bool
+    ensures { result ≡ are_bad_shapes limits shapes.now }
 {
-    shapes.is_empty() || shapes.len() > DEVICES_MAX || !are_plain(shapes)
+    shapes.is_empty() || shapes.len() > DEVICES_MAX || !are_plain(limits, shapes)
 }
 
-/// Whether there can be such devices.
-pub fn are_plain(shapes: &[DeviceShape]) -> bool
-    ensures { result ≡ are_plain shapes.now }
+/// Whether there can be such devices, within these limits.
+pub fn are_plain(limits: Limits, shapes: &[DeviceShape]) -> bool
+    ensures { result ≡ are_plain limits shapes.now }
 {
     for shape in shapes {
-        if !shape.is_plain() {
+        if !shape.is_plain(limits) {
             return false;
         }
     }
@@ -75,7 +75,7 @@ pub fn own_disks(alloc: Global, shapes: &[Shape], contents: &[u8]) -> Result<Vec
 }
 
 /// A machine of these devices and disks, whose RAM is the memory in the slot, which is taken; or zeros, where there is none. Where memory is
-/// refused, the slot is as it was, and the disks come back.
+/// refused, the slot is as it was, and the disks come back. It is as large as can be: the limits were tested by `setup_refusal`.
 pub fn machine_on<D: Disk + Drop>(
     alloc: Global,
     base: u64,
@@ -96,7 +96,7 @@ pub fn machine_on<D: Disk + Drop>(
     match Machine::make(
         alloc,
         Board {
-            limits: Limits::usual(),
+            limits: Limits::greatest(),
             base,
             ram: made_of,
             shapes,

@@ -6,17 +6,17 @@ ghost use Rattle.region.specs.Empty.{empty_slot};
 ghost use Rattle.region.specs.Slot.{region_of, slot_of};
 ghost use Rattle.c_machine.specs.Made.{IsFreeFor, first_place, first_ram, has_bytes, is_ram, ram_left, slot_after};
 
-use guestmem::{PAGE_SIZE, PAGES_MAX};
-use machine::RamOf;
+use guestmem::PAGE_SIZE;
+use machine::{Limits, RamOf};
 use region::{Region, Slot};
 use std::mem;
 
-/// Whether `bytes` bytes are whole pages, and as many as a machine may have.
-pub fn is_ram(bytes: u64) -> bool
-    ensures { result ≡ is_ram bytes }
+/// Whether `bytes` bytes are whole pages, and as many as a machine within these limits may have.
+pub fn is_ram(limits: Limits, bytes: u64) -> bool
+    ensures { result ≡ is_ram limits bytes }
 {
     let pages = bytes / PAGE_SIZE as u64;
-    bytes % PAGE_SIZE as u64 == 0 && pages != 0 && pages <= PAGES_MAX as u64
+    bytes % PAGE_SIZE as u64 == 0 && pages != 0 && pages <= limits.pages as u64
 }
 
 /// What the RAM of a machine is made of: the memory in the slot, which is taken; or `pages` pages of zeros, where there is none.

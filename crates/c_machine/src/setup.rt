@@ -10,10 +10,12 @@
 //! A field with nothing in it asks for nothing: contents of no bytes are zeros, and no images are disks of the library, also
 //! where the machine has disks. So a host whose list of images is empty by mistake gets disks of zeros. Contents beside images
 //! are refused, and pages beside RAM of the caller unless they are as many: each would say the same thing twice.
+//!
+//! How large a machine may be is asked for by a flag, and no number: a host that names none gets the usual limits, whatever it hands in.
 
 ghost use Rattle.std.specs.Prelude.{◌≡◌, ◌==◌, length};
 ghost use Rattle.c_machine.specs.Expected.{are_other_images, are_unfit_shapes, arrival_refusal_of, is_known_arrival, is_unfit_ram};
-ghost use Rattle.c_machine.specs.Made.{are_known, are_other_disks, asks_log, is_bad_ram, is_known_setup, ram_bytes, setup_refusal_of};
+ghost use Rattle.c_machine.specs.Made.{are_known, are_other_disks, asks_large, asks_log, is_bad_ram, is_known_setup, limits_for, ram_bytes, setup_refusal_of};
 
 use crate::device_shape::{DeviceShape, are_zeros};
 use crate::images::are_images;
@@ -22,12 +24,15 @@ use crate::mapping::are_counted;
 use crate::over_ram::is_ram;
 use crate::status::{BAD_BASE, BAD_IMAGES, BAD_RAM, BAD_SHAPE, NOT_KNOWN};
 use guestmem::PAGE_SIZE;
-use machine::{DEVICES_MAX, is_base};
+use machine::{DEVICES_MAX, Limits, is_base};
 use mapped_disk::Image;
 use region::Slot;
 
 /// The version of both structs that this library knows.
 const KNOWN: u32 = 1;
+
+/// The flag that allows a machine as large as its stream can tell.
+pub const LARGE: u32 = 1;
 
 /// The flag that asks for a log of the pages that calls write.
 pub const LOG: u32 = 2;
@@ -56,7 +61,7 @@ pub struct Setup<'a, 'i> {
     /// The guest-physical address at which RAM begins.
     pub base: u64,
 
-    /// What else is asked for: `LOG`, or 0.
+    /// What else is asked for: any of `LARGE` and `LOG`.
     pub flags: u32,
 
     /// 0, until a later version gives it a meaning.
@@ -91,7 +96,7 @@ pub struct Expected<'a, 'i> {
     /// The guest-physical address at which RAM begins.
     pub base: u64,
 
-    /// What else is asked for: `LOG`, or 0.
+    /// What else is asked for: any of `LARGE` and `LOG`.
     pub flags: u32,
 
     /// 0, until a later version gives it a meaning.
@@ -118,11 +123,12 @@ pub fn setup_refusal(setup: &mut Setup) -> Option<u32>
     if !is_known_setup(setup) {
         return Some(NOT_KNOWN);
     }
+    let limits = limits_for(setup.flags);
     let bytes = setup.ram.len();
-    if is_bad_ram(setup.pages, bytes) {
+    if is_bad_ram(limits, setup.pages, bytes) {
         return Some(BAD_RAM);
     }
-    if are_bad_shapes(setup.shapes) {
+    if are_bad_shapes(limits, setup.shapes) {
         return Some(BAD_SHAPE);
     }
     if !is_base(setup.base, ram_bytes(setup.pages, bytes)) {
@@ -149,28 +155,45 @@ fn is_known_setup(setup: &mut Setup) -> bool
 fn are_known(flags: u32) -> bool
     ensures { result ≡ are_known flags }
 {
-    flags == 0 || flags == LOG
+    flags <= LARGE + LOG
+}
+
+/// Whether the flags ask for a machine as large as can be.
+pub fn asks_large(flags: u32) -> bool
+    ensures { result ≡ asks_large flags }
+{
+    flags % 2 == LARGE
 }
 
 /// Whether the flags ask for a log of the pages that calls write.
 pub fn asks_log(flags: u32) -> bool
     ensures { result ≡ asks_log flags }
 {
-    flags == LOG
+    flags / LOG % 2 == 1
+}
+
+/// The limits of a machine that is made, or let arrive, with these flags.
+pub fn limits_for(flags: u32) -> Limits
+    ensures { result ≡ limits_for flags }
+{
+    if asks_large(flags) {
+        return Limits::greatest();
+    }
+    Limits::usual()
 }
 
 /// Whether `pages` pages, or `bytes` bytes of the caller, where there are any, are no RAM; or both are there and differ.
-fn is_bad_ram(pages: u32, bytes: usize) -> bool
-    ensures { result ≡ is_bad_ram pages bytes }
+fn is_bad_ram(limits: Limits, pages: u32, bytes: usize) -> bool
+    ensures { result ≡ is_bad_ram limits pages bytes }
 {
-    if !is_ram(ram_bytes(pages, bytes)) {
+    if !is_ram(limits, ram_bytes(pages, bytes)) {
         return true;
     }
     bytes != 0 && pages != 0 && PAGE_SIZE * pages as usize != bytes
 }
 
 /// The bytes of RAM: those of the caller's memory, or of `pages` pages, where there is none.
-fn ram_bytes(pages: u32, bytes: usize) -> u64
+pub fn ram_bytes(pages: u32, bytes: usize) -> u64
     ensures { result ≡ ram_bytes pages bytes }
 {
     if bytes != 0 {
@@ -198,11 +221,12 @@ pub fn arrival_refusal(expected: &mut Expected) -> Option<u32>
     if !is_known_arrival(expected) {
         return Some(NOT_KNOWN);
     }
+    let limits = limits_for(expected.flags);
     let bytes = expected.ram.len();
-    if is_unfit_ram(expected.most_pages, bytes) {
+    if is_unfit_ram(limits, expected.most_pages, bytes) {
         return Some(BAD_RAM);
     }
-    if are_unfit_shapes(expected.shapes) {
+    if are_unfit_shapes(limits, expected.shapes) {
         return Some(BAD_SHAPE);
     }
     if !is_base(expected.base, bytes as u64) {
@@ -229,17 +253,17 @@ fn is_known_arrival(expected: &mut Expected) -> bool
 }
 
 /// Whether `bytes` bytes of the caller, where there are any, are no RAM, or pages are allowed beside them.
-fn is_unfit_ram(most_pages: u32, bytes: usize) -> bool
-    ensures { result ≡ is_unfit_ram most_pages bytes }
+fn is_unfit_ram(limits: Limits, most_pages: u32, bytes: usize) -> bool
+    ensures { result ≡ is_unfit_ram limits most_pages bytes }
 {
-    bytes != 0 && (most_pages != 0 || !is_ram(bytes as u64))
+    bytes != 0 && (most_pages != 0 || !is_ram(limits, bytes as u64))
 }
 
-/// Whether no machine has these devices. That there are none says nothing.
-fn are_unfit_shapes(shapes: &[DeviceShape]) -> bool
-    ensures { result ≡ are_unfit_shapes shapes.now }
+/// Whether no machine within these limits has these devices. That there are none says nothing.
+fn are_unfit_shapes(limits: Limits, shapes: &[DeviceShape]) -> bool
+    ensures { result ≡ are_unfit_shapes limits shapes.now }
 {
-    shapes.len() > DEVICES_MAX || !are_plain(shapes)
+    shapes.len() > DEVICES_MAX || !are_plain(limits, shapes)
 }
 
 /// Whether there are images and devices, and the images are not those of their disks.

@@ -1,7 +1,7 @@
 //! What is asked of a machine that arrives: its header is compared with it before its stream is let in.
 //!
 //! This is checked before the receiver, and not in it. The first bytes are copied, at most 496 of them, until the header is
-//! whole; `read_heading` reads it from the copy, while the receiver gets each piece as it comes. So all kinds of arrival have
+//! whole; `read_heading_within` reads it from the copy, while the receiver gets each piece as it comes. So all kinds of arrival have
 //! the same limits, and the clause of a piece is that of the receiver once it is let in. Sectors are limited for all disks together,
 //! since that is what memory is taken for. Images, and RAM of the caller, are compared by the receiver, before a byte of them is written.
 
@@ -14,8 +14,8 @@ use crate::status::stream_status;
 use c_machine::count_in;
 use c_machine::status::{STREAM_FAILED, STREAM_MISMATCH, STREAM_TOO_LARGE};
 use guestmem::PAGE_SIZE;
-use machine::{Shape, is_base};
-use receiver::{RecvError, read_heading};
+use machine::{Limits, Shape, is_base};
+use receiver::{RecvError, read_heading_within};
 use std::alloc::Global;
 use std::mem;
 
@@ -24,7 +24,10 @@ const HEADING_MAX: usize = 496;
 
 /// The most that a machine may have that arrives, and where its RAM begins.
 #[derive(Clone, Copy)]
-pub struct Limits {
+pub struct Allowed {
+    /// Of any machine: its header is read within these limits.
+    pub limits: Limits,
+
     /// Of pages of RAM.
     pub pages: u32,
 
@@ -41,8 +44,8 @@ pub enum Admission {
     /// Its header is as it has to be: of a machine of these pages and devices. Where no stream arrives there are none.
     Granted(u32, Vec<Shape>),
 
-    /// Its header is not whole: these are the limits, the devices that are expected, if any, and the bytes so far.
-    Pending(Limits, Vec<Shape>, Vec<u8>),
+    /// Its header is not whole: this is allowed, these devices are expected, if any, and these are the bytes so far.
+    Pending(Allowed, Vec<Shape>, Vec<u8>),
 
     /// It was refused, first with this status.
     Denied(u32),
@@ -81,13 +84,13 @@ impl Admission {
         requires { IsPending (admission_of self.old) }
         ensures { Admits (admission_of self.old) piece.now result (admission_of self.new) }
     {
-        let Admission::Pending(limits, expected, held) = mem::replace(
+        let Admission::Pending(allowed, expected, held) = mem::replace(
             self,
             Admission::Denied(STREAM_FAILED),
         ) else {
             unreachable!()
         };
-        match compared(alloc, limits, expected, held, piece) {
+        match compared(alloc, allowed, expected, held, piece) {
             Ok(admission) => {
                 *self = admission;
                 None
@@ -103,13 +106,13 @@ impl Admission {
 /// The admission after the next piece. No more of it is copied than may belong to the header.
 fn compared(
     alloc: Global,
-    limits: Limits,
+    allowed: Allowed,
     expected: Vec<Shape>,
     held: Vec<u8>,
     piece: &[u8],
 ) -> Result<Admission, u32>
-    ensures let_in { IfOk result (λ next. AdmitsAt limits expected.items (held.items ++ piece.now) None (admission_of next)) }
-    ensures refused { IfErr result (λ status. AdmitsAt limits expected.items (held.items ++ piece.now) (Some status) (seen.Denied status)) }
+    ensures let_in { IfOk result (λ next. AdmitsAt allowed expected.items (held.items ++ piece.now) None (admission_of next)) }
+    ensures refused { IfErr result (λ status. AdmitsAt allowed expected.items (held.items ++ piece.now) (Some status) (seen.Denied status)) }
 {
     let mut held = held;
     let few = piece.len().min(HEADING_MAX.saturating_sub(held.len()));
@@ -117,39 +120,39 @@ fn compared(
     if held.extend_from_slice(front).is_err() {
         return Err(stream_status(RecvError::NoMemory));
     }
-    match read_heading(alloc, &held) {
-        Ok(Some(header)) => match stream_refusal(limits, &expected, header.pages, &header.shapes) {
+    match read_heading_within(alloc, allowed.limits, &held) {
+        Ok(Some(header)) => match stream_refusal(allowed, &expected, header.pages, &header.shapes) {
             Some(status) => Err(status),
             None => Ok(Admission::Granted(header.pages, header.shapes)),
         },
-        Ok(None) => Ok(Admission::Pending(limits, expected, held)),
+        Ok(None) => Ok(Admission::Pending(allowed, expected, held)),
         Err(error) => Err(stream_status(error)),
     }
 }
 
 /// Why a machine of these pages and devices is not let in, if so.
-fn stream_refusal(limits: Limits, expected: &[Shape], pages: u32, shapes: &[Shape]) -> Option<u32>
-    ensures { result ≡ stream_refusal limits expected.now pages shapes.now }
+fn stream_refusal(allowed: Allowed, expected: &[Shape], pages: u32, shapes: &[Shape]) -> Option<u32>
+    ensures { result ≡ stream_refusal allowed expected.now pages shapes.now }
 {
-    if !is_within(limits, pages, shapes) {
+    if !is_within(allowed, pages, shapes) {
         return Some(STREAM_TOO_LARGE);
     }
     let bytes = PAGE_SIZE as u64 * pages as u64;
-    if !are_expected(expected, shapes) || !is_base(limits.base, bytes) {
+    if !are_expected(expected, shapes) || !is_base(allowed.base, bytes) {
         return Some(STREAM_MISMATCH);
     }
     None
 }
 
-/// Whether a machine of these pages and devices is within the limits.
+/// Whether so large a machine is allowed.
 #[tactic(auto, using(crate::proofs::Admissions::counted_off, crate::proofs::Admissions::too_many))]
-fn is_within(limits: Limits, pages: u32, shapes: &[Shape]) -> bool
-    ensures { result ≡ is_within limits pages shapes.now }
+fn is_within(allowed: Allowed, pages: u32, shapes: &[Shape]) -> bool
+    ensures { result ≡ is_within allowed pages shapes.now }
 {
-    if pages > limits.pages {
+    if pages > allowed.pages {
         return false;
     }
-    let mut left = limits.sectors;
+    let mut left = allowed.sectors;
     for shape in shapes {
         let sectors = count_in(*shape);
         if sectors > left {

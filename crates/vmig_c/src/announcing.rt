@@ -1,6 +1,6 @@
 //! What the first bytes of a stream announce.
 //!
-//! This keeps nothing, so the bytes are handed in again by `vmig_feed`. That more bytes are needed (79) is no refusal, so it is above 63.
+//! It is told of every machine that an arrival could allow. This keeps nothing, so the bytes are handed in again by `vmig_feed`. That more bytes are needed (79) is no refusal, so it is above 63.
 
 ghost use Rattle.std.specs.Prelude.{◌≡◌};
 ghost use Rattle.vmig_c.specs.Announced.{Announces, heading_status};
@@ -8,7 +8,8 @@ ghost use Rattle.vmig_c.specs.Announced.{Announces, heading_status};
 use crate::status::stream_status;
 use c_machine::status::{DONE, MORE, NO_MEMORY};
 use c_machine::{Description, message_of};
-use receiver::{RecvError, read_heading};
+use machine::Limits;
+use receiver::{RecvError, read_heading_within};
 use std::alloc::Global;
 
 /// What the machine is whose stream begins with these bytes.
@@ -16,7 +17,7 @@ use std::alloc::Global;
 pub(crate) fn announced(alloc: Global, bytes: &[u8], out: &mut Description) -> u32
     ensures { Announces bytes.now result out.new out.old }
 {
-    match read_heading(alloc, bytes) {
+    match read_heading_within(alloc, Limits::greatest(), bytes) {
         Ok(Some(header)) => {
             let mut told = Description::none().with_shapes(header.pages, &header.shapes);
             told.message = message_of(&header.shapes);

@@ -10,20 +10,21 @@
 
 ghost use Rattle.std.specs.Prelude.{◌≡◌, ◌++◌, ◌≤◌, [], IfErr, IfOk, false, length};
 ghost use Rattle.machine.specs.Shapes.{disk_sizes};
-ghost use Rattle.receiver.specs.Calls.{IsNew};
+ghost use Rattle.receiver.specs.Opened.{told_by};
+ghost use Rattle.receiver.specs.Receiving.{place_aside};
 ghost use Rattle.vmig_c.specs.ArrivalSeen.{AtBody};
-ghost use Rattle.vmig_c.specs.Awaited.{AreSteady, GoesOnWith, IsComing, IsFed, IsFedTo, TellsOf, TellsWhy, awaited_by, awaited_place, awaited_ram, is_over, place_for, terms_for};
-ghost use Rattle.vmig_c.specs.Headed.{AreFitting, HasNoneWithin};
+ghost use Rattle.vmig_c.specs.Awaited.{AreSteady, GoesOnWith, IsComing, IsFed, IsFedTo, TellsOf, TellsWhy, awaited_by, awaited_place, awaited_ram, is_over};
+ghost use Rattle.vmig_c.specs.Headed.{AreFitting};
 
 use c_machine::zero_disks;
 use guestmem::Ram;
-use machine::{DEVICES_MAX, Disk, Machine, MemDisk, Shape};
+use machine::{DEVICES_MAX, Machine, MemDisk, Shape};
 use mapped_disk::MappedDisk;
-use receiver::{Receiver, RecvError, read_heading};
+use receiver::{Receiver, RecvError, Terms, read_heading_within};
 use std::alloc::Global;
 use std::marker::Model;
 use std::mem;
-use wire::{FRONT_LEN, decode_header};
+use wire::FRONT_LEN;
 
 /// The longest shape in a header: of a block device, whose kind is followed by its sectors, whether it is read-only, and its id.
 const SHAPE_MAX: usize = 1 + 8 + 1 + 20;
@@ -34,8 +35,8 @@ const HEADER_MAX: usize = FRONT_LEN + DEVICES_MAX * SHAPE_MAX;
 /// How far a machine that arrives has come.
 #[derive(Drop)]
 pub enum Progress {
-    /// The header is incomplete: the address at which RAM will begin, the RAM that was handed in, and the bytes so far.
-    Head(u64, Option<Ram>, Vec<u8>),
+    /// The header is incomplete: where RAM will begin and how large the machine may be, the RAM that was handed in, and the bytes so far.
+    Head(Terms, Option<Ram>, Vec<u8>),
 
     /// The header was read, and the disks are of its sizes.
     Body(Receiver<MemDisk>),
@@ -76,33 +77,35 @@ impl Model for Arrival {
 
 impl Arrival {
     ghost use Rattle.std.specs.Prelude.{◌≡◌, IfErr, IfOk, MatchOption, false, length, true};
-    ghost use Rattle.vmig_c.specs.Awaited.{CountsRounds, HasArrived, HasSameDisks, IsAtHead, IsClosed, IsFed, TellsEnd, TellsOf, TellsWhole, arrived_by, are_images, awaited_base, awaited_sizes, is_over, nothing_fed, place_for, refused_for_good, terms_for};
+    ghost use Rattle.vmig_c.specs.Awaited.{CountsRounds, HasArrived, HasSameDisks, IsAtHead, IsClosed, IsFed, TellsEnd, TellsOf, TellsWhole, arrived_by, are_images, awaited_base, awaited_sizes, is_over, nothing_fed, refused_for_good};
+    ghost use Rattle.receiver.specs.Opened.{told_by};
+    ghost use Rattle.receiver.specs.Receiving.{place_aside};
     ghost use Rattle.vmig_c.specs.Landing.{AreDisksOf, IsAwaitedAt};
     ghost use Rattle.c_machine.specs.Mapping.{contents};
 
-    /// An arrival over disks of the library that was fed nothing yet, of a machine whose RAM will begin at the address `base`: this RAM, or
-    /// one in memory of the library. It takes no memory.
+    /// An arrival over disks of the library that was fed nothing yet, of a machine as these terms say, with this RAM, or one in memory of
+    /// the library. It takes no memory.
     #[tactic(auto, using(crate::proofs::Awaited::empty_head))]
-    pub(crate) fn new(alloc: Global, base: u64, ram: Option<Ram>) -> Arrival
-        ensures { result ≡ nothing_fed (terms_for base ram) (place_for ram) }
+    pub(crate) fn new(alloc: Global, terms: Terms, ram: Option<Ram>) -> Arrival
+        ensures { result ≡ nothing_fed (told_by terms ram) (place_aside ram) }
     {
         Arrival {
-            progress: Progress::Head(base, ram, Vec::new(alloc)),
+            progress: Progress::Head(terms, ram, Vec::new(alloc)),
         }
     }
 
     /// As above, over these images.
     pub(crate) fn over(
         alloc: Global,
-        base: u64,
+        terms: Terms,
         disks: Vec<MappedDisk>,
         ram: Option<Ram>,
     ) -> Arrival
-        ensures awaited { IsAwaitedAt (terms_for base ram) (place_for ram) (contents disks.items) result }
+        ensures awaited { IsAwaitedAt (told_by terms ram) (place_aside ram) (contents disks.items) result }
         ensures images { is_over result ≡ true }
     {
         Arrival {
-            progress: Progress::Over(new_receiver(alloc, base, disks, ram)),
+            progress: Progress::Over(Receiver::with_terms(alloc, disks, ram, terms)),
         }
     }
 
@@ -143,11 +146,11 @@ impl Arrival {
         ensures refused { IfErr result (λ e. TellsOf self.old piece.now e × IsClosed self.old self.new) }
         ensures disks { is_over self.new ≡ false }
     {
-        let Progress::Head(base, ram, held) = mem::replace(&mut self.progress, Progress::Failed)
+        let Progress::Head(terms, ram, held) = mem::replace(&mut self.progress, Progress::Failed)
         else {
             unreachable!()
         };
-        match take_head(alloc, base, ram, held, piece) {
+        match take_head(alloc, terms, ram, held, piece) {
             Ok(progress) => {
                 self.progress = progress;
                 Ok(())
@@ -185,7 +188,7 @@ impl Arrival {
         ensures { result ≡ awaited_base self.now }
     {
         match &self.progress {
-            Progress::Head(base, ..) => *base,
+            Progress::Head(terms, ..) => terms.base,
             Progress::Body(receiver) => receiver.base(),
             Progress::Over(receiver) => receiver.base(),
             Progress::Failed => 0,
@@ -260,17 +263,17 @@ fn take_body(receiver: Receiver<MemDisk>, piece: &[u8]) -> Result<Progress, Recv
 /// the header are copied.
 fn take_head(
     alloc: Global,
-    base: u64,
+    terms: Terms,
     ram: Option<Ram>,
     held: Vec<u8>,
     piece: &[u8],
 ) -> Result<Progress, RecvError>
     ensures coming { IfOk result (λ next. IsComing next) }
     ensures own { IfOk result (λ next. is_over (awaited_by next) ≡ false) }
-    ensures ram { IfOk result (λ next. awaited_ram (awaited_by next) ≡ terms_for base ram) }
-    ensures place { IfOk result (λ next. awaited_place (awaited_by next) ≡ place_for ram) }
+    ensures ram { IfOk result (λ next. awaited_ram (awaited_by next) ≡ told_by terms ram) }
+    ensures place { IfOk result (λ next. awaited_place (awaited_by next) ≡ place_aside ram) }
     ensures goes_on { IfOk result (λ next. GoesOnWith (held.items ++ piece.now) (awaited_by next)) }
-    ensures refused { IfErr result (λ e. TellsWhy (terms_for base ram) (held.items ++ piece.now) e) }
+    ensures refused { IfErr result (λ e. TellsWhy (told_by terms ram) (held.items ++ piece.now) e) }
 {
     let mut held = held;
     let few = piece.len().min(HEADER_MAX.saturating_sub(held.len()));
@@ -278,39 +281,12 @@ fn take_head(
     if held.extend_from_slice(front).is_err() {
         return Err(RecvError::NoMemory);
     }
-    let Ok(found) = decode_header(alloc, &held) else {
-        return Err(RecvError::NoMemory);
-    };
-    match found {
-        Some(header) => match begun(alloc, base, ram, &header.shapes, &held) {
+    match read_heading_within(alloc, terms.limits, &held) {
+        Ok(Some(header)) => match begun(alloc, terms, ram, &header.shapes, &held) {
             Ok(receiver) => take_body(receiver, rest),
             Err(error) => Err(error),
         },
-        None => go_on_headless(alloc, base, ram, held, rest),
-    }
-}
-
-/// Continues after bytes that begin with no header, if they have no fault. More of the piece is left only where they have one, since
-/// as many bytes would hold a header.
-fn go_on_headless(
-    alloc: Global,
-    base: u64,
-    ram: Option<Ram>,
-    held: Vec<u8>,
-    rest: &[u8],
-) -> Result<Progress, RecvError>
-    requires none { HasNoneWithin held.items }
-    requires all { length held.items ≤ 495 → rest.now ≡ [] }
-    ensures coming { IfOk result (λ next. IsComing next) }
-    ensures own { IfOk result (λ next. is_over (awaited_by next) ≡ false) }
-    ensures ram { IfOk result (λ next. awaited_ram (awaited_by next) ≡ terms_for base ram) }
-    ensures place { IfOk result (λ next. awaited_place (awaited_by next) ≡ place_for ram) }
-    ensures goes_on { IfOk result (λ next. GoesOnWith (held.items ++ rest.now) (awaited_by next)) }
-    ensures refused { IfErr result (λ e. TellsWhy (terms_for base ram) (held.items ++ rest.now) e) }
-{
-    match read_heading(alloc, &held) {
-        Ok(None) => Ok(Progress::Head(base, ram, held)),
-        Ok(Some(_)) => unreachable!(),
+        Ok(None) => Ok(Progress::Head(terms, ram, held)),
         Err(error) => Err(error),
     }
 }
@@ -318,35 +294,20 @@ fn go_on_headless(
 /// A receiver over disks of zeros for these devices, and over the RAM that was handed in, which was fed the bytes.
 fn begun(
     alloc: Global,
-    base: u64,
+    terms: Terms,
     ram: Option<Ram>,
     shapes: &[Shape],
     bytes: &[u8],
 ) -> Result<Receiver<MemDisk>, RecvError>
-    ensures begun { IfOk result (λ r. IsFedTo (terms_for base ram) (place_for ram) (disk_sizes shapes.now) bytes.now r) }
-    ensures refused { AreFitting bytes.now (disk_sizes shapes.now) → IfErr result (λ e. TellsWhy (terms_for base ram) bytes.now e) }
+    ensures begun { IfOk result (λ r. IsFedTo (told_by terms ram) (place_aside ram) (disk_sizes shapes.now) bytes.now r) }
+    ensures refused { AreFitting terms.limits bytes.now (disk_sizes shapes.now) → IfErr result (λ e. TellsWhy (told_by terms ram) bytes.now e) }
 {
     let Ok(disks) = zero_disks(alloc, shapes) else {
         return Err(RecvError::NoMemory);
     };
-    let mut receiver = new_receiver(alloc, base, disks, ram);
+    let mut receiver = Receiver::with_terms(alloc, disks, ram, terms);
     match receiver.feed(bytes) {
         Ok(()) => Ok(receiver),
         Err(error) => Err(error),
-    }
-}
-
-/// A receiver that was fed nothing, with these disks, and with the RAM that was handed in.
-pub(crate) fn new_receiver<D: Disk + Drop>(
-    alloc: Global,
-    base: u64,
-    disks: Vec<D>,
-    ram: Option<Ram>,
-) -> Receiver<D>
-    ensures { IsNew D.state disks.items (terms_for base ram) (place_for ram) result }
-{
-    match ram {
-        Some(ram) => Receiver::new_in_at(alloc, disks, ram, base),
-        None => Receiver::new_at(alloc, disks, base),
     }
 }

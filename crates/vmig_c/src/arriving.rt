@@ -6,7 +6,7 @@
 
 ghost use Rattle.std.specs.Prelude.{◌≡◌};
 ghost use Rattle.vmig_c.specs.Admission.{first_refusal};
-ghost use Rattle.vmig_c.specs.Arriving.{Ends, FeedsKept, FeedsWithin, FinishesKept, fed_after, refused_before, taken_status};
+ghost use Rattle.vmig_c.specs.Arriving.{Ends, FeedsKept, FeedsWithin, FinishesKept, fed_after, fitting, log_of_arrived, ram_arrived, refused_before, taken_status};
 ghost use Rattle.vmig_c.specs.Awaited.{is_over};
 ghost use Rattle.vmig_c.specs.Kept.{admission_of, are_mapped, held_state};
 
@@ -15,6 +15,8 @@ use crate::arrival::{Arrival, Arrived};
 use crate::kept::{Contents, Held, Kept, by_state};
 use crate::status::stream_status;
 use c_machine::status::{DONE, IN_USE, STREAM_FAILED, WHOLE};
+use guestmem::PAGE_SIZE;
+use machine::PageLog;
 use std::alloc::Global;
 use std::mem;
 
@@ -82,7 +84,8 @@ fn taken_status(whole: bool) -> u32
 /// All pieces have arrived.
 pub(crate) fn finish(kept: &mut Kept) -> u32
     ensures finishes { FinishesKept kept.old.admission kept.old.state result kept.new.admission kept.new.state }
-    ensures kind { kept.new ≡ record kept.old { state = kept.new.state; admission = kept.new.admission } }
+    ensures log { kept.new.written ≡ log_of_arrived kept.old kept.new.state }
+    ensures kind { kept.new ≡ record kept.old { state = kept.new.state; admission = kept.new.admission; written = kept.new.written } }
 {
     let (next, status) = by_state!(&mut kept.held;
         still(_) => return IN_USE,
@@ -95,11 +98,34 @@ pub(crate) fn finish(kept: &mut Kept) -> u32
             finished(mem::replace(arrival, Arrival::failed()))
         },
     );
+    keep_fitting(&mut kept.output.written, kept.asked.places, ram_len(&next));
     drop(mem::replace(&mut kept.held, next));
     if status != DONE {
         kept.admission = Admission::Denied(status);
     }
     status
+}
+
+/// The bytes of RAM of a machine that has arrived. Where none has there are none.
+fn ram_len(held: &Held) -> u64
+    ensures { result ≡ ram_arrived (held_state held.now) }
+{
+    by_state!(held;
+        still(machine) => machine.ram().len(),
+        moving(_) => 0,
+        lent(_) => 0,
+        arriving(_) => 0,
+    )
+}
+
+/// Drops the log, if it has no place for each page of so many bytes. What was let in has no more pages than the log has places, so that
+/// is never.
+fn keep_fitting(log: &mut Option<PageLog>, places: u32, bytes: u64)
+    ensures kept { log.new ≡ fitting places bytes log.old }
+{
+    if bytes > PAGE_SIZE as u64 * places as u64 {
+        *log = None;
+    }
 }
 
 /// Why an arrival is not ended: its stream was refused before.

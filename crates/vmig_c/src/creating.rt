@@ -11,11 +11,12 @@ ghost use Rattle.c_machine.specs.Mapping.{AreTaken};
 
 use crate::arrival::Arrival;
 use crate::handle::Handle;
-use crate::kept::{Contents, Held, Kept};
+use crate::kept::{Asked, Contents, Held, Kept};
 use crate::logging::log_for;
 use c_machine::status::{DONE, IN_USE, NO_MEMORY};
 use c_machine::{
-    Setup, give_back, is_none, machine_on, mapped_disks, own_disks, setup_refusal, shapes_of,
+    Setup, give_back, is_none, machine_on, mapped_disks, own_disks, ram_bytes, setup_refusal,
+    shapes_of,
 };
 use guestmem::NoMemory;
 use std::alloc::Global;
@@ -54,14 +55,15 @@ fn made(alloc: Global, setup: &mut Setup) -> Result<Box<Kept>, NoMemory>
 {
     let shapes = shapes_of(alloc, setup.shapes)?;
     let boxed = stand_in(alloc)?;
-    let log = log_for(alloc, setup.flags)?;
+    let asked = Asked::by(setup.flags, ram_bytes(setup.pages, setup.ram.len()));
+    let log = log_for(alloc, setup.flags, asked.places)?;
     let (base, pages) = (setup.base, setup.pages);
     if is_none(setup.images) {
         let disks = own_disks(alloc, &shapes, setup.contents)?;
         return match machine_on(alloc, base, pages, &mut setup.ram, &shapes, disks) {
             Ok(machine) => Ok(filled(
                 boxed,
-                Kept::new(alloc, Held::Own(Contents::Still(machine)), log),
+                Kept::new(alloc, Held::Own(Contents::Still(machine)), log, asked),
             )),
             Err(_disks) => Err(NoMemory),
         };
@@ -70,7 +72,7 @@ fn made(alloc: Global, setup: &mut Setup) -> Result<Box<Kept>, NoMemory>
     match machine_on(alloc, base, pages, &mut setup.ram, &shapes, disks) {
         Ok(machine) => Ok(filled(
             boxed,
-            Kept::new(alloc, Held::Mapped(Contents::Still(machine)), log),
+            Kept::new(alloc, Held::Mapped(Contents::Still(machine)), log, asked),
         )),
         Err(disks) => {
             give_back(disks, setup.images);
@@ -83,7 +85,12 @@ fn made(alloc: Global, setup: &mut Setup) -> Result<Box<Kept>, NoMemory>
 pub(crate) fn stand_in(alloc: Global) -> Result<Box<Kept>, NoMemory> {
     let boxed = Box::new(
         alloc,
-        Kept::new(alloc, Held::Arriving(Arrival::failed()), None),
+        Kept::new(
+            alloc,
+            Held::Arriving(Arrival::failed()),
+            None,
+            Asked::nothing(),
+        ),
     )?;
     Ok(boxed)
 }

@@ -13,7 +13,7 @@ use crate::kept::{Kept, by_state};
 use crate::loan::Loan;
 use crate::unmapping::image_count;
 use c_machine::status::SEND_FAILED;
-use c_machine::{Description, LOG, message_of};
+use c_machine::{Description, LARGE, LOG, message_of};
 use guestmem::PAGE_SIZE;
 use machine::{DEVICES_MAX, Disk, Machine, PageLog, Shape};
 use sender::Phase;
@@ -37,7 +37,7 @@ pub(crate) fn describe(kept: &Kept) -> Description
     let mut told = told(kept);
     told.images = image_count(&kept.held).min(u32::MAX as usize) as u32;
     told.lost = lost_bits(kept.lost());
-    told.flags = flags_of(&kept.output.written);
+    told.flags = flags_of(kept.asked.large, &kept.output.written);
     told
 }
 
@@ -181,13 +181,14 @@ fn lost_bits(lost: &[bool]) -> u32
 }
 
 /// What was asked for when it was made, or let arrive.
-fn flags_of(written: &Option<PageLog>) -> u32
-    ensures { result ≡ flags_of written.now }
+fn flags_of(large: bool, written: &Option<PageLog>) -> u32
+    ensures { result ≡ flags_of large written.now }
 {
-    match written {
+    let log = match written {
         Some(_) => LOG,
         None => 0,
-    }
+    };
+    if large { LARGE + log } else { log }
 }
 
 fn number_of(whole: bool) -> u32

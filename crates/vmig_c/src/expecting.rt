@@ -5,22 +5,24 @@
 //! after a refusal. Without images the disks are made in memory of the library, as soon as the header says their sizes.
 
 ghost use Rattle.std.specs.Prelude.{◌≡◌, [], IfErr, IfOk, None};
-ghost use Rattle.vmig_c.specs.Expected.{Expects, IsArrivalOf, IsGiven, IsNoneOrRam, limits_of, terms_of};
+ghost use Rattle.vmig_c.specs.Expected.{Expects, IsArrivalOf, IsGiven, IsNoneOrRam, allowed_of, terms_in};
 ghost use Rattle.c_machine.specs.Expected.{IsUntaken, arrival_refusal_of, has_ram};
 ghost use Rattle.c_machine.specs.Made.{has_bytes, ram_left};
 ghost use Rattle.c_machine.specs.Mapping.{AreTaken};
 
-use crate::admission::{Admission, Limits};
+use crate::admission::{Admission, Allowed};
 use crate::arrival::Arrival;
 use crate::creating::{filled, stand_in};
 use crate::handle::Handle;
-use crate::kept::{Held, Kept};
+use crate::kept::{Asked, Held, Kept};
 use crate::logging::log_for;
 use c_machine::status::{DONE, IN_USE, NO_MEMORY};
 use c_machine::{
-    Expected, arrival_refusal, give_back, is_none, mapped_disks, put_back, shapes_of, taken_ram,
+    Expected, arrival_refusal, give_back, is_none, limits_for, mapped_disks, put_back, ram_bytes,
+    shapes_of, taken_ram,
 };
-use guestmem::{NoMemory, PAGES_MAX, Ram};
+use guestmem::{NoMemory, PAGES_GREATEST, Ram};
+use receiver::Terms;
 use region::Slot;
 use std::alloc::Global;
 use std::mem;
@@ -57,20 +59,22 @@ pub(crate) fn awaited(alloc: Global, expected: &mut Expected) -> Result<Box<Kept
     ensures slots { expected.new.images.ghost_name ≡ expected.old.images.ghost_name }
 {
     let shapes = shapes_of(alloc, expected.shapes)?;
-    let admission = Admission::Pending(limits(expected), shapes, Vec::new(alloc));
+    let admission = Admission::Pending(allowed(expected), shapes, Vec::new(alloc));
     let boxed = stand_in(alloc)?;
-    let log = log_for(alloc, expected.flags)?;
-    let base = expected.base;
+    let bytes = ram_bytes(expected.most_pages, expected.ram.len());
+    let asked = Asked::by(expected.flags, bytes);
+    let log = log_for(alloc, expected.flags, asked.places)?;
+    let terms = terms(expected);
     if is_none(expected.images) {
         let ram = ram_from(alloc, &mut expected.ram)?;
-        let arrival = Held::Arriving(Arrival::new(alloc, base, ram));
-        return Ok(filled(boxed, Kept::within(alloc, arrival, admission, log)));
+        let arrival = Held::Arriving(Arrival::new(alloc, terms, ram));
+        return Ok(filled(boxed, Kept::within(alloc, arrival, admission, log, asked)));
     }
     let disks = mapped_disks(alloc, expected.images)?;
     match ram_from(alloc, &mut expected.ram) {
         Ok(ram) => {
-            let arrival = Held::Arriving(Arrival::over(alloc, base, disks, ram));
-            Ok(filled(boxed, Kept::within(alloc, arrival, admission, log)))
+            let arrival = Held::Arriving(Arrival::over(alloc, terms, disks, ram));
+            Ok(filled(boxed, Kept::within(alloc, arrival, admission, log, asked)))
         }
         Err(_) => {
             give_back(disks, expected.images);
@@ -99,22 +103,34 @@ fn ram_from(alloc: Global, ram: &mut Slot) -> Result<Option<Ram>, NoMemory>
     }
 }
 
-/// The most that a machine may have that arrives. RAM and images of the caller are their own limit.
-fn limits(expected: &mut Expected) -> Limits
+/// What is said of the machine to whoever receives it.
+fn terms(expected: &mut Expected) -> Terms
     ensures same { expected.new ≡ expected.old }
-    ensures limits { result ≡ limits_of expected.old }
+    ensures terms { result ≡ terms_in expected.old }
+{
+    Terms {
+        base: expected.base,
+        limits: limits_for(expected.flags),
+    }
+}
+
+/// The most that a machine may have that arrives. RAM and images of the caller are their own limit.
+fn allowed(expected: &mut Expected) -> Allowed
+    ensures same { expected.new ≡ expected.old }
+    ensures allowed { result ≡ allowed_of expected.old }
 {
     let pages = if expected.ram.is_none() {
         expected.most_pages
     } else {
-        PAGES_MAX
+        PAGES_GREATEST
     };
     let sectors = if is_none(expected.images) {
         expected.most_sectors
     } else {
         u64::MAX
     };
-    Limits {
+    Allowed {
+        limits: limits_for(expected.flags),
         pages,
         sectors,
         base: expected.base,

@@ -11,12 +11,16 @@
 //! `by_state` has the states once: a call names two or three answers in place of seven cases. It is a macro, and no function of a generic type
 //! that each call would have beside its own, with a contract that says the same.
 
-ghost use Rattle.vmig_c.specs.Kept.{admission_of, kept_of};
+ghost use Rattle.vmig_c.specs.Kept.{admission_of, kept_of, places_for};
+ghost use Rattle.c_machine.specs.Made.{asks_large};
+ghost use Rattle.std.specs.Prelude.{◌≡◌, false};
 
 use crate::admission::Admission;
 use crate::arrival::Arrival;
 use crate::loan::Loan;
 use crate::logging::Output;
+use c_machine::{asks_large, limits_for};
+use guestmem::{PAGE_SIZE, PAGES_MAX};
 use machine::{DEVICES_MAX, Disk, Machine, MemDisk, PageLog};
 use mapped_disk::MappedDisk;
 use sender::LiveWaiting;
@@ -148,8 +152,52 @@ pub(crate) use by_state;
 pub(crate) use on_disks;
 pub(crate) use turned;
 
+/// What its flags asked for.
+#[derive(Clone, Copy)]
+pub struct Asked {
+    /// Whether the machine may be as large as can be.
+    pub large: bool,
+
+    /// For how many pages its log, if it has one, has a place: as many as the machine has, or may have where it arrives, and no fewer than
+    /// the usual limits allow.
+    pub places: u32,
+}
+
+impl Asked {
+    /// By these flags, of a machine whose RAM has so many bytes, or no more where it arrives.
+    pub(crate) fn by(flags: u32, bytes: u64) -> Asked
+        ensures large { result.large ≡ asks_large flags }
+        ensures places { result.places ≡ places_for flags bytes }
+    {
+        Asked {
+            large: asks_large(flags),
+            places: places_for(flags, bytes),
+        }
+    }
+
+    /// Nothing.
+    pub(crate) fn nothing() -> Asked
+        ensures large { result.large ≡ false }
+        ensures places { result.places ≡ 0 }
+    {
+        Asked {
+            large: false,
+            places: 0,
+        }
+    }
+}
+
+fn places_for(flags: u32, bytes: u64) -> u32
+    ensures { result ≡ places_for flags bytes }
+{
+    let pages = (bytes / PAGE_SIZE as u64).min(limits_for(flags).pages as u64);
+    (pages as u32).max(PAGES_MAX)
+}
+
 /// The contents of a handle. Contracts see which state they are in, whether the disks are the caller's memory, whether a stream is let in and
-/// how much of it was taken, which disks were lost, and which pages are to be handed out.
+/// how much of it was taken, which disks were lost, what was asked for, and which pages are to be handed out.
+///
+/// A log of pages has a place for each page of the machine (`FitsLog`): no call changes how many pages a machine has.
 #[derive(Drop)]
 pub struct Kept {
     pub(crate) held: Held,
@@ -163,30 +211,31 @@ pub struct Kept {
     pub(crate) fed: u64,
     // For each device, whether its disk was lost: it could not be brought to its file, and will not be.
     lost: [bool; DEVICES_MAX],
+    pub(crate) asked: Asked,
 }
 
 impl Model for Kept {
-    ghost use Rattle.vmig_c.specs.Kept.{FitsLog, KeptSeen, admission_of, kept_with};
+    ghost use Rattle.vmig_c.specs.Kept.{FitsLog, KeptSeen, admission_of, held_state, kept_with, ram_in};
 
     ghost Value = { KeptSeen };
 
-    ghost view = { λ k. record (kept_with k.held (admission_of k.admission) k.fed k.lost) { written = k.output.written } };
+    ghost view = { λ k. record (kept_with k.held (admission_of k.admission) k.fed k.lost) { written = k.output.written; large = k.asked.large; places = k.asked.places } };
 
-    ghost invariant = { λ k. FitsLog k.output.written };
+    ghost invariant = { λ k. FitsLog k.output.written (ram_in k.asked.places (held_state k.held)) };
 }
 
 impl Kept {
     ghost use Rattle.std.specs.Prelude.{◌≡◌, ◌≤◌, length, slice_set, true};
     ghost use Rattle.machine.specs.declared.machine.TheConstants.{DEVICES_MAX};
-    ghost use Rattle.vmig_c.specs.Kept.{FitsLog, is_lost, kept_with, none_lost};
+    ghost use Rattle.vmig_c.specs.Kept.{FitsLog, held_state, is_lost, kept_with, none_lost, ram_in};
 
     /// Wraps a machine.
-    pub(crate) fn new(alloc: Global, held: Held, written: Option<PageLog>) -> Kept
-        requires { FitsLog written }
-        ensures { result ≡ record (kept_of held) { written = written } }
+    pub(crate) fn new(alloc: Global, held: Held, written: Option<PageLog>, asked: Asked) -> Kept
+        requires { FitsLog written (ram_in asked.places (held_state held)) }
+        ensures { result ≡ record (kept_of held) { written = written; large = asked.large; places = asked.places } }
     {
         let unasked = Admission::Granted(0, Vec::new(alloc));
-        Kept::within(alloc, held, unasked, written)
+        Kept::within(alloc, held, unasked, written, asked)
     }
 
     /// Wraps a machine that will arrive.
@@ -195,9 +244,10 @@ impl Kept {
         held: Held,
         admission: Admission,
         written: Option<PageLog>,
+        asked: Asked,
     ) -> Kept
-        requires { FitsLog written }
-        ensures { result ≡ record (kept_with held (admission_of admission) 0 none_lost) { written = written } }
+        requires { FitsLog written (ram_in asked.places (held_state held)) }
+        ensures { result ≡ record (kept_with held (admission_of admission) 0 none_lost) { written = written; large = asked.large; places = asked.places } }
     {
         Kept {
             held,
@@ -206,6 +256,7 @@ impl Kept {
             admission,
             fed: 0,
             lost: [false; DEVICES_MAX],
+            asked,
         }
     }
 

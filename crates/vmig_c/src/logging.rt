@@ -2,7 +2,7 @@
 //!
 //! Without one the calls without a log are made, which cost nothing for it.
 
-ghost use Rattle.std.specs.Prelude.{◌≡◌, IfOk};
+ghost use Rattle.std.specs.Prelude.{◌≡◌, IfOk, length};
 ghost use Rattle.guestmem.specs.Maybe.{after_if, may_if};
 ghost use Rattle.machine.specs.Applied.{IsAppliedLogged, MayItems};
 ghost use Rattle.machine.specs.Direct.{done_reply};
@@ -17,7 +17,7 @@ ghost use Rattle.vmig_c.specs.Kept.{FitsLog, first_log};
 
 use crate::kept::Moving;
 use c_machine::asks_log;
-use guestmem::{NoMemory, PAGES_MAX};
+use guestmem::NoMemory;
 use machine::{Disk, Machine, PageLog, Refusal, Reply, Stepped};
 use sender::MigError;
 use std::alloc::Global;
@@ -45,15 +45,15 @@ impl Output {
     }
 }
 
-/// The log that these flags ask for. It has a place for each page that RAM may have.
+/// The log that these flags ask for, with a place for each of so many pages.
 #[tactic(auto, using(crate::proofs::PageLogs::asked, crate::proofs::PageLogs::unasked))]
-pub(crate) fn log_for(alloc: Global, flags: u32) -> Result<Option<PageLog>, NoMemory>
-    ensures { IfOk result (λ log. log ≡ first_log flags) }
+pub(crate) fn log_for(alloc: Global, flags: u32, places: u32) -> Result<Option<PageLog>, NoMemory>
+    ensures { IfOk result (λ log. log ≡ first_log flags places) }
 {
     if !asks_log(flags) {
         return Ok(None);
     }
-    let log = PageLog::new(alloc, PAGES_MAX)?;
+    let log = PageLog::new(alloc, places)?;
     Ok(Some(log))
 }
 
@@ -64,9 +64,9 @@ pub(crate) fn stepped<D: Disk>(
     pick: u8,
     output: &mut Output,
 ) -> Stepped
-    requires fits { FitsLog output.old.written }
+    requires fits { FitsLog output.old.written (length machine.old.memory.bytes) }
     requires may { MayItems (may_if may_note) output.old.written (state_of machine.old) }
-    ensures fits { FitsLog output.new.written }
+    ensures fits { FitsLog output.new.written (length machine.new.memory.bytes) }
     ensures logged { IsAppliedLogged (after_if noted) machine.old output.old.written (events.Step dev pick) (reply_in result output.new.sent.items) machine.new output.new.written }
 {
     let Output { sent, written } = output;
@@ -83,9 +83,9 @@ pub(crate) fn live_stepped<D: Disk>(
     pick: u8,
     output: &mut Output,
 ) -> Result<Stepped, MigError>
-    requires fits { FitsLog output.old.written }
+    requires fits { FitsLog output.old.written (length live.old.machine.memory.bytes) }
     requires may { MayItems (may_if may_note) output.old.written (now live.old) }
-    ensures fits { FitsLog output.new.written }
+    ensures fits { FitsLog output.new.written (length live.new.machine.memory.bytes) }
     ensures logged { ServesLogged (after_if noted) live.old output.old.written (events.Step dev pick) (guest_reply (stepped_result result output.new.sent.items)) live.new output.new.written }
 {
     let Output { sent, written } = output;
@@ -102,9 +102,9 @@ pub(crate) fn written<D: Disk>(
     bytes: &[u8],
     log: &mut Option<PageLog>,
 ) -> Result<(), Refusal>
-    requires fits { FitsLog log.old }
+    requires fits { FitsLog log.old (length machine.old.memory.bytes) }
     requires may { MayItems (may_if may_note) log.old (state_of machine.old) }
-    ensures fits { FitsLog log.new }
+    ensures fits { FitsLog log.new (length machine.new.memory.bytes) }
     ensures logged { IsAppliedLogged (after_if noted) machine.old log.old (events.MemWrite addr bytes.now) (done_reply result) machine.new log.new }
 {
     if let None = log {
@@ -120,9 +120,9 @@ pub(crate) fn live_written<D: Disk>(
     bytes: &[u8],
     log: &mut Option<PageLog>,
 ) -> Result<Reply, MigError>
-    requires fits { FitsLog log.old }
+    requires fits { FitsLog log.old (length live.old.machine.memory.bytes) }
     requires may { MayItems (may_if may_note) log.old (now live.old) }
-    ensures fits { FitsLog log.new }
+    ensures fits { FitsLog log.new (length live.new.machine.memory.bytes) }
     ensures logged { ServesLogged (after_if noted) live.old log.old (events.MemWrite addr bytes.now) (guest_reply result) live.new log.new }
 {
     if let None = log {

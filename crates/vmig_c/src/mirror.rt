@@ -154,11 +154,11 @@ fn push_still<D: Disk>(
     seen: &mut [u64],
     log: &mut Option<PageLog>,
 ) -> u32
-    requires fits { FitsLog log.old }
+    requires fits { FitsLog log.old (length machine.old.memory.bytes) }
     requires pushable { IsPushable (states.Still machine.old) pages.now (length ram.now) (length seen.old) }
     ensures pushed { ArePushed (states.Still machine.old) log.old pages.now ram.now seen.old seen.new (states.Still machine.new) log.new }
     ensures done { result ≡ done }
-    ensures fits { FitsLog log.new }
+    ensures fits { FitsLog log.new (length machine.new.memory.bytes) }
 {
     for n in pages {
         push_page(machine, *n, ram, seen, log);
@@ -174,14 +174,14 @@ fn push_page<D: Disk>(
     seen: &mut [u64],
     log: &mut Option<PageLog>,
 )
-    requires fits { FitsLog log.old }
+    requires fits { FitsLog log.old (length machine.old.memory.bytes) }
     requires page { n < length machine.old.memory.versions }
     requires bytes { length machine.old.memory.bytes ≤ length ram.now }
     requires entries { length machine.old.memory.versions ≤ length seen.old }
     ensures pushed { IsPushed (states.Still machine.old) log.old n ram.now seen.old seen.new (states.Still machine.new) log.new }
     ensures bytes { length machine.new.memory.bytes ≡ length machine.old.memory.bytes }
     ensures versions { length machine.new.memory.versions ≡ length machine.old.memory.versions }
-    ensures fits { FitsLog log.new }
+    ensures fits { FitsLog log.new (length machine.new.memory.bytes) }
 {
     let _shapes = machine.shapes();
     machine.ram().recall();
@@ -199,11 +199,11 @@ fn push_moving<D: Disk>(
     seen: &mut [u64],
     log: &mut Option<PageLog>,
 ) -> u32
-    requires fits { FitsLog log.old }
+    requires fits { FitsLog log.old (length live.old.machine.memory.bytes) }
     requires pushable { IsPushable (states.Moving live.old) pages.now (length ram.now) (length seen.old) }
     ensures pushed { ArePushed (states.Moving live.old) log.old pages.now ram.now seen.old seen.new (states.Moving live.new) log.new }
     ensures done { result ≡ done }
-    ensures fits { FitsLog log.new }
+    ensures fits { FitsLog log.new (length live.new.machine.memory.bytes) }
 {
     for n in pages {
         push_live_page(live, *n, ram, seen, log);
@@ -219,7 +219,7 @@ fn push_live_page<D: Disk>(
     seen: &mut [u64],
     log: &mut Option<PageLog>,
 )
-    requires fits { FitsLog log.old }
+    requires fits { FitsLog log.old (length live.old.machine.memory.bytes) }
     requires page { n < length live.old.machine.memory.versions }
     requires bytes { length live.old.machine.memory.bytes ≤ length ram.now }
     requires entries { length live.old.machine.memory.versions ≤ length seen.old }
@@ -228,7 +228,7 @@ fn push_live_page<D: Disk>(
     ensures bytes { length live.new.machine.memory.bytes ≡ length live.old.machine.memory.bytes }
     ensures versions { length live.new.machine.memory.versions ≡ length live.old.machine.memory.versions }
     ensures going { is_closed live.new.phase ≡ false }
-    ensures fits { FitsLog log.new }
+    ensures fits { FitsLog log.new (length live.new.machine.memory.bytes) }
 {
     live.recall();
     live.machine().ram().recall();

@@ -2,7 +2,7 @@
 //!
 //! Events that do not access RAM are applied while it is lent too: a host serves register accesses while the guest's processors run.
 
-ghost use Rattle.std.specs.Prelude.{◌≡◌};
+ghost use Rattle.std.specs.Prelude.{◌≡◌, length};
 ghost use Rattle.machine.specs.declared.event.Event.TheVariants as events;
 ghost use Rattle.vmig_c.specs.Kept.{FitsLog};
 ghost use Rattle.vmig_c.specs.Told.{IsServedWrite, IsWritten, ReadsKept, Tells, TellsOr, TellsSo, WritesKept, lines_in};
@@ -127,9 +127,9 @@ fn write_still<D: Disk>(
     bytes: &[u8],
     log: &mut Option<PageLog>,
 ) -> u32
-    requires { FitsLog log.old }
+    requires { FitsLog log.old (length machine.old.memory.bytes) }
     ensures written { IsWritten machine.old log.old addr bytes.now result machine.new log.new }
-    ensures fits { FitsLog log.new }
+    ensures fits { FitsLog log.new (length machine.new.memory.bytes) }
 {
     let _shapes = machine.shapes();
     done_status(logging::written(machine, addr, bytes, log))
@@ -142,9 +142,9 @@ fn write_moving<D: Disk>(
     bytes: &[u8],
     log: &mut Option<PageLog>,
 ) -> u32
-    requires { FitsLog log.old }
+    requires { FitsLog log.old (length live.old.machine.memory.bytes) }
     ensures written { IsServedWrite live.old log.old addr bytes.now result live.new log.new }
-    ensures fits { FitsLog log.new }
+    ensures fits { FitsLog log.new (length live.new.machine.memory.bytes) }
 {
     live.recall();
     reply_status(live_written(live, addr, bytes, log), &mut 0)

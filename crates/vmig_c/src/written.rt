@@ -1,6 +1,6 @@
 //! The pages that steps and writes of the host wrote, handed out by their numbers.
 
-ghost use Rattle.std.specs.Prelude.{◌≡◌};
+ghost use Rattle.std.specs.Prelude.{◌≡◌, ℕ};
 ghost use Rattle.vmig_c.specs.HandedOut.{HandsFrom, HandsIf, is_here};
 ghost use Rattle.vmig_c.specs.Kept.{FitsLog};
 
@@ -29,9 +29,8 @@ fn is_here(kept: &Kept) -> bool
 
 #[tactic(auto, using(crate::proofs::PageLogs::handed, crate::proofs::PageLogs::not_handed, crate::proofs::PageLogs::still_fits))]
 fn hand_from(log: &mut Option<PageLog>, pages: &mut [u32], count: &mut usize) -> u32
-    requires { FitsLog log.old }
     ensures hands { HandsFrom log.old result pages.old pages.new count.new count.old log.new }
-    ensures fits { FitsLog log.new }
+    ensures fits { (bytes : ℕ) → FitsLog log.old bytes → FitsLog log.new bytes }
 {
     let Some(written) = log else {
         return NOT_KNOWN;
