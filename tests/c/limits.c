@@ -113,7 +113,7 @@ static void large_headers(void)
     is_taken(allowing(MORE, 0, VMIG_LARGE), header_of(MORE, 0, 0), MORE);
     is_refused(allowing(MORE - 1, 0, VMIG_LARGE), header_of(MORE, 0, 0), FRONT + ENTROPY, VMIG_STREAM_TOO_LARGE);
     is_refused(allowing(0, 0, VMIG_LARGE), header_of(1, 0, 0), FRONT + ENTROPY, VMIG_STREAM_TOO_LARGE);
-    is_refused(allowing(UINT32_MAX - 1, 0, VMIG_LARGE | VMIG_LOG), header_of(UINT32_MAX, 0, 0), FRONT + ENTROPY, VMIG_STREAM_TOO_LARGE);
+    is_refused(allowing(UINT32_MAX - 1, 0, VMIG_LARGE), header_of(UINT32_MAX, 0, 0), FRONT + ENTROPY, VMIG_STREAM_TOO_LARGE);
     is_refused(large, header_of(0, 0, 0), FRONT, VMIG_STREAM_BAD_SHAPE);
     is_refused(allowing(2, USUAL_SECTORS, VMIG_LARGE), header_of(2, 1, USUAL_SECTORS + 1), FRONT + DISK, VMIG_STREAM_TOO_LARGE);
     is_refused(allowing(2, 2 * (uint64_t)UINT32_MAX - 1, VMIG_LARGE), header_of(2, 2, UINT32_MAX), FRONT + 2 * DISK, VMIG_STREAM_TOO_LARGE);
