@@ -28,7 +28,7 @@ static const uint8_t NUMBER_OF[QUEUES] = {0, 0, 1, 0, 1, 0, 0, 0, 1, 0, 1, 0};
 
 /* What of a queue lies across an edge. What does not has a page of its own above it: the three areas, the header and the outcome of a
  * request of a disk, and the bytes. */
-enum { TABLE, DRIVER, DEVICE, BUFFER, OBJECTS, HEADERS = OBJECTS, ROOM = 8 };
+enum { TABLE, DRIVER, DEVICE, BUFFER, OBJECTS, HEADERS = OBJECTS, NOTHING, ROOM = 8 };
 
 /* Requests of a disk (VIRTIO 1.2, 5.2.6), and the flags of packed descriptors (2.7.1, 2.8.1). */
 enum { IN = 0, OUT = 1, OUTCOME = 0x100, AVAILABLE = 1 << 7, USED_ONCE = 1 << 15 };
@@ -366,7 +366,7 @@ static void lay_out_all(struct host *h)
 {
     for (uint32_t queue = 0; queue < QUEUES; queue++) {
         int is_split_disk = queue == 0, is_packed_disk = kind_of(queue) == BLOCK && !is_split_disk;
-        lay_out(h, queue, EDGES[!is_split_disk], is_split_disk || is_packed_disk ? TABLE : OBJECTS);
+        lay_out(h, queue, EDGES[!is_split_disk], is_split_disk || is_packed_disk ? TABLE : NOTHING);
         give_back(h);
     }
     for (uint8_t dev = 0; dev < DEVICES; dev++) take_over(h, dev);
