@@ -1,8 +1,8 @@
 /* What grows with a machine: `sizes times PAGES SECTORS` makes one with RAM of so many pages and a disk of so many sectors, or none where
- * that is 0, and prints how much memory the library takes for it, and the nanoseconds of processor time of its calls, the least of some.
- * Without a disk it is also sent, as far as nothing is left, and arrives. `sizes begin PAGES SECTORS`, `sizes list ..` and `sizes bitmap
- * ..` make only these calls, TURNS times, and print TURNS: `count` counts their instructions. With no words it does all of it with a small
- * machine, and prints nothing. RAM and the disk are mapped without reserve and all but never written: they take no room. */
+ * that is 0, and prints how much memory the library takes for it, and the nanoseconds of processor time of its calls, the least of some;
+ * `sizes move PAGES 0` sends it, until nothing is left, to one that arrives. `sizes begin PAGES SECTORS`, `sizes list ..` and `sizes
+ * bitmap ..` make only these calls, TURNS times, and print TURNS: `count` counts their instructions. With no words it does all of it
+ * with a small machine, and prints nothing. RAM and the disk are mapped without reserve and all but never written: they take no room. */
 #define _DEFAULT_SOURCE
 #include <malloc.h>
 #include <stdlib.h>
@@ -193,7 +193,7 @@ static void move(struct host *h, uint8_t *to)
     expect("arrive", vmig_arrive(&arrival, &target), VMIG_OK);
     expect("begin", vmig_send_begin(&h->machine), VMIG_OK);
     hand_over(h, &target);
-    tell_memory("memory while it is sent and arrives", before);
+    tell_memory("memory while it is sent, and of the one that arrives", before);
     send_all(h, &target);
     LEAST("a copy, nothing due", IDLE_TURNS, quiet_copy(h));
     LEAST("end of a round, nothing dirty", IDLE_TURNS, quiet_round(h));
@@ -224,6 +224,25 @@ static void make_one(struct host *h)
     tell_memory("memory of the machine", before);
 }
 
+/* The machine is freed, and one like it arrives in the same memory, as far as its header: what is taken for it is there then. */
+static void let_arrive(struct host *h)
+{
+    vmig_image image = {h->disk, h->sectors};
+    vmig_arrival arrival = VMIG_ARRIVAL;
+    uint8_t header[64];
+    size_t got = 0, before;
+
+    expect("begin", vmig_send_begin(&h->machine), VMIG_OK);
+    expect("its header", vmig_send_take(&h->machine, header, sizeof header, &got), VMIG_OK);
+    vmig_free(&h->machine);
+    arrival.ram = (vmig_ram){h->room, (size_t)h->pages * PAGE}, arrival.flags = VMIG_LARGE;
+    arrival.images = &image, arrival.count_images = h->sectors > 0;
+    before = in_use;
+    expect("arrive", vmig_arrive(&arrival, &h->machine), VMIG_OK);
+    expect("its header", vmig_feed(&h->machine, header, got), VMIG_OK);
+    tell_memory("memory of one that arrives", before);
+}
+
 /* All of it, or one call alone. */
 static void run(struct host *h, const char *what, uint8_t *to)
 {
@@ -234,8 +253,9 @@ static void run(struct host *h, const char *what, uint8_t *to)
     if (strcmp(what, "times") == 0) {
         loans(h);
         begins(h);
-        if (h->sectors == 0) move(h, to);
+        let_arrive(h);
     }
+    if (strcmp(what, "move") == 0) move(h, to);
     vmig_free(&h->machine);
 }
 
@@ -243,9 +263,11 @@ static void run(struct host *h, const char *what, uint8_t *to)
 static int run_mapped(const char *what, uint32_t pages, uint64_t sectors)
 {
     size_t len = (size_t)pages * PAGE;
-    uint8_t *room = map_unreserved(len), *to = map_unreserved(len), *disk = sectors > 0 ? map_unreserved(sectors * SECTOR) : NULL;
+    int is_sent = strcmp(what, "move") == 0;
+    uint8_t *room = map_unreserved(len), *to = is_sent ? map_unreserved(len) : NULL;
+    uint8_t *disk = sectors > 0 ? map_unreserved(sectors * SECTOR) : NULL;
     struct host h = {.room = room, .disk = disk, .pages = pages, .sectors = sectors, .words = calloc((pages + 63) / 64, sizeof(uint64_t))};
-    int is_there = room != NULL && to != NULL && h.words != NULL && (sectors == 0 || disk != NULL);
+    int is_there = room != NULL && h.words != NULL && (to != NULL || !is_sent) && (disk != NULL || sectors == 0);
 
     if (is_there) run(&h, what, to);
     else printf("sizes: not run: the system maps no memory without reserve\n");
@@ -258,17 +280,17 @@ static int run_mapped(const char *what, uint32_t pages, uint64_t sectors)
 
 int main(int argc, char **argv)
 {
-    static const char *const names[] = {"begin", "list", "bitmap", "times"};
+    static const char *const names[] = {"begin", "list", "bitmap", "times", "move"};
 
     if (argc == 4) {
-        is_long = strcmp(argv[1], "times") == 0;
+        is_long = strcmp(argv[1], "times") == 0 || strcmp(argv[1], "move") == 0;
         if (!run_mapped(argv[1], (uint32_t)strtoul(argv[2], NULL, 10), strtoull(argv[3], NULL, 10))) return 2;
         if (!is_long) printf("%d\n", TURNS);
         return failures != 0;
     }
     for (size_t i = 0; i < sizeof names / sizeof *names; i++) {
         run_mapped(names[i], 20000, 0);
-        run_mapped(names[i], 100, 3000000);
+        if (strcmp(names[i], "move") != 0) run_mapped(names[i], 100, 3000000);
     }
     return ended("sizes");
 }
