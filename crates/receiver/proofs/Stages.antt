@@ -16,7 +16,7 @@ use Rattle.receiver.proofs.Takings.{new_taken}
 use Rattle.receiver.specs.Good.{AreGood}
 use Rattle.machine.specs.Shapes.{disk_sizes}
 use Rattle.receiver.specs.Disks.{AreRefused, sizes_in}
-use Rattle.receiver.specs.Faults.{ShowsHeaderFault, IsComplete, IsTrailing, IsHeaderFault, Fault, TellsHead}
+use Rattle.receiver.specs.Faults.{ShowsHeaderFault, IsComplete, IsTrailing, Fault, TellsHead}
 use Rattle.receiver.specs.Fed.{AreWritten, HasRead, IsReadWhole, IsUpTo, Tells, device_records}
 use Rattle.receiver.specs.declared.intake.Intake.{Intake}
 use Rattle.machine.specs.Limits.{AreWithin}

@@ -29,7 +29,7 @@ pub fn saved_len<D: Disk>(machine: &Machine<D>) -> u64
 /// The length of the records of all pages.
 fn pages_len<D: Disk>(machine: &Machine<D>) -> u64
     ensures len { result ≡ length (texts (records_below (state_of machine.now) (pages_of (state_of machine.now)))) }
-    ensures short { result ≤ 67190784 }
+    ensures short { result ≤ 17613660876795 }
 {
     let ram = machine.ram();
     ram.recall();

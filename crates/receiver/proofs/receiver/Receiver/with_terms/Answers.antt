@@ -5,8 +5,8 @@ use Rattle.receiver.proofs.receiver.Receiver.with_terms.Goals as goal
 pub returns-in-None : goal.returns-in-None
 returns-in-None g c = rw c.in-None.is c.reading.ensures
 
-pub reading-requires-2 : goal.reading-requires-2
-reading-requires-2 g c = ap Some (let same : c.len.result ≡ length c.over.result.bytes = search rules in same)
+pub reading-requires-in-Some : goal.reading-requires-in-Some
+reading-requires-in-Some g c = ap Some (let same : c.len.result ≡ length c.over.result.bytes = search rules in same)
 
 pub returns-in-Some : goal.returns-in-Some
 returns-in-Some g c =
