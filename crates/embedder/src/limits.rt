@@ -64,17 +64,21 @@ fn refusal_of(alloc: Global, limits: Limits, pages: u32, sectors: u64) -> Result
         read_only: false,
         id: [0; 20],
     };
+    Ok(code_of(alloc, limits, pages, &[block], disks))
+}
+
+fn code_of(alloc: Global, limits: Limits, pages: u32, shapes: &[Shape], disks: Vec<MemDisk>) -> u8 {
     let board = Board {
         limits,
         base: 0,
         ram: RamOf::Pages(pages),
-        shapes: &[block],
+        shapes,
         disks,
     };
-    Ok(match Machine::make(alloc, board) {
+    match Machine::make(alloc, board) {
         Ok(_) => 0,
         Err(unmade) => unmade.reason().code(),
-    })
+    }
 }
 
 /// A header is read within limits of exactly what it announces, and refused within any less, and within the usual.
