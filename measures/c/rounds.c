@@ -256,6 +256,15 @@ static void move(vmig_machine *m, uint32_t pages, uint64_t disks, uint64_t secto
     expect("sectors of the stop", sent_sectors, 0);
 }
 
+static void make(uint32_t pages, const vmig_shape *shapes, vmig_image *images, size_t disks, vmig_machine *m)
+{
+    vmig_setup setup = VMIG_SETUP;
+
+    setup.pages = pages, setup.shapes = shapes, setup.count = disks > 0 ? disks : 1, setup.images = images, setup.count_images = disks;
+    setup.flags = VMIG_LARGE;
+    expect("make", vmig_make(&setup, m), VMIG_OK);
+}
+
 int main(int argc, char **argv)
 {
     vmig_shape shapes[DISKS_MAX] = {{.kind = VMIG_ENTROPY}};
@@ -275,7 +284,7 @@ int main(int argc, char **argv)
     clock_alone();
     plain_list(pages + disks * sectors);
     plain_copies(pages);
-    expect("make", make_mapped(pages, shapes, disks > 0 ? disks : 1, images, disks, &m), VMIG_OK);
+    make(pages, shapes, images, disks, &m);
     fill(&m, pages);
     if (disks == 0 || !is_long) save_whole(&m, pages);
     move(&m, pages, disks, sectors);

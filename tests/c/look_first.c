@@ -152,7 +152,11 @@ static void refuse_a_large_one(void)
         is_refused(VMIG_STREAM_MISMATCH, header, sizeof header, piece, sectors, room);
     }
     header[8] = 1;
-    expect("too large", vmig_stream_describe(header, sizeof header, &announced), VMIG_STREAM_BAD_SHAPE);
+    expect("a page more", vmig_stream_describe(header, sizeof header, &announced), VMIG_OK);
+    expect("its pages", announced.pages, 16385);
+    is_refused(VMIG_STREAM_BAD_SHAPE, header, 16, 16, NULL, NULL);
+    header[8] = header[9] = 0;
+    expect("no page", vmig_stream_describe(header, sizeof header, &announced), VMIG_STREAM_BAD_SHAPE);
     header[4] = 3;
     expect("of another version", vmig_stream_describe(header, sizeof header, &announced), VMIG_STREAM_BAD_VERSION);
     header[0] = 'v';

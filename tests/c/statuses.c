@@ -394,7 +394,7 @@ static void making_in_order(void)
     vmig_image few = {sector, 2}, image = {sector, 1};
     vmig_setup setup = VMIG_SETUP;
 
-    setup.ram = (vmig_ram){room, sizeof room - 1}, setup.flags = 1, setup.shapes = &none, setup.count = 1, setup.base = 1;
+    setup.ram = (vmig_ram){room, sizeof room - 1}, setup.flags = 4, setup.shapes = &none, setup.count = 1, setup.base = 1;
     setup.images = &few, setup.count_images = 1;
     expect("a flag", vmig_make(&setup, &m), VMIG_NOT_KNOWN);
     setup.flags = 0;
@@ -425,7 +425,7 @@ static void arriving_in_order(void)
     vmig_image few = {sector, 2}, image = {sector, 1};
     vmig_arrival arrival = VMIG_ARRIVAL;
 
-    arrival.ram = (vmig_ram){room, sizeof room - 1}, arrival.flags = 1, arrival.shapes = &none, arrival.count = 1, arrival.base = 1;
+    arrival.ram = (vmig_ram){room, sizeof room - 1}, arrival.flags = 4, arrival.shapes = &none, arrival.count = 1, arrival.base = 1;
     arrival.images = &few, arrival.count_images = 1;
     expect("a flag", vmig_arrive(&arrival, &m), VMIG_NOT_KNOWN);
     arrival.flags = 0;

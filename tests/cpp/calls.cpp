@@ -202,6 +202,34 @@ void moved()
     EXPECT(arrived.describe().pages == 4);
 }
 
+// One with a page more than the usual is made, and arrives, where that is asked for.
+void large()
+{
+    constexpr std::uint32_t pages = 16385;
+    std::vector<std::uint8_t> memory(std::size_t{pages} * 4096), stream(1 << 20);
+    const vmig_shape shape = {VMIG_CONSOLE, 0, {}, 0, {}, 0, {}};
+    vmig_setup setup = VMIG_SETUP;
+    vmig_arrival arrival = VMIG_ARRIVAL;
+    machine m, arrived;
+    std::size_t len = 0;
+
+    setup.shapes = &shape, setup.count = 1, setup.ram = {memory.data(), memory.size()};
+    EXPECT(m.make(&setup), status::bad_ram);
+    setup.flags = VMIG_LARGE;
+    EXPECT(m.make(&setup), status::ok);
+    EXPECT(m.describe().pages == pages && m.describe().flags == VMIG_LARGE);
+    EXPECT(m.save(stream.data(), stream.size(), &len), status::ok);
+    arrival.most_pages = pages - 1, arrival.flags = VMIG_LARGE;
+    EXPECT(arrived.arrive(&arrival), status::ok);
+    EXPECT(arrived.feed(stream.data(), len), status::stream_too_large);
+    arrived.free();
+    arrival.most_pages = pages;
+    EXPECT(arrived.arrive(&arrival), status::ok);
+    EXPECT(arrived.feed(stream.data(), len), status::whole);
+    EXPECT(arrived.finish(), status::ok);
+    EXPECT(arrived.describe().pages == pages && arrived.describe().flags == VMIG_LARGE);
+}
+
 }  // namespace
 
 int main()
@@ -209,6 +237,7 @@ int main()
     none();
     idle_and_lent();
     moved();
+    large();
     EXPECT(vmig::version() == VMIG_VERSION_NUMBER);
     std::printf(failures == 0 ? "calls: all as expected\n" : "calls: %d not as expected\n", failures);
     return failures != 0;

@@ -99,13 +99,20 @@ impl ArrivalBuilder {
         ArrivalBuilder { base, ..self }
     }
 
+    /// It may have more than 16,384 pages, and more than 2,097,152 sectors a disk: up to what is allowed, or to the memory and the images that
+    /// it is given. Without this such a stream is refused as `StreamBadShape`. Large RAM should be a [`Memory`]: else
+    /// [`Arrival::finish`] writes what did not come, and one page can ask for all before it.
+    pub fn large(self) -> ArrivalBuilder {
+        ArrivalBuilder { flags: self.flags | raw::LARGE, ..self }
+    }
+
     /// The pages that the calls of the library write are logged, for [`Machine::hand_out`], from the arrival's end on. None of those that arrive
     /// is: all of RAM is new then.
     pub fn log_written(self) -> ArrivalBuilder {
         ArrivalBuilder { flags: self.flags | raw::LOG, ..self }
     }
 
-    /// The arrival begins. Refusals, in their order: `BadRam` (the memory is not 1 to 16,384 whole pages, or `most_pages` beside it),
+    /// The arrival begins. Refusals, in their order: `BadRam` (the memory is not whole pages, or has too many; or `most_pages` beside it),
     /// `BadShape`, `BadBase`, `BadImages` (not those of the devices), `NoMemory`.
     pub fn begin(mut self) -> Result<Arrival, Refused<ArrivalBuilder>> {
         match self.arrive() {

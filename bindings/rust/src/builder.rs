@@ -29,7 +29,7 @@ pub struct MachineBuilder {
 
 impl MachineBuilder {
     /// RAM is this number of pages of 4,096 bytes, 1 to 16,384, in memory of the library, all zeros. With [`MachineBuilder::memory`] it need
-    /// not be said, and is the number of its pages.
+    /// not be said, and is the number of its pages. More are for a machine that is [`MachineBuilder::large`].
     pub fn pages(self, pages: u32) -> MachineBuilder {
         MachineBuilder { pages, ..self }
     }
@@ -69,12 +69,18 @@ impl MachineBuilder {
         self
     }
 
+    /// RAM may have up to 4,294,967,295 pages (16 TiB), and each disk as many sectors (2 TiB). Large RAM should be a [`Memory`]: the library
+    /// fills what it allocates for itself.
+    pub fn large(self) -> MachineBuilder {
+        MachineBuilder { flags: self.flags | raw::LARGE, ..self }
+    }
+
     /// The pages that the calls of the library write are logged, for [`Machine::hand_out`]: a step then takes some instructions more.
     pub fn log_written(self) -> MachineBuilder {
         MachineBuilder { flags: self.flags | raw::LOG, ..self }
     }
 
-    /// Makes the machine. Refusals, in their order: `BadRam` (not 1 to 16,384 whole pages, or `pages` and the memory differ), `BadShape`,
+    /// Makes the machine. Refusals, in their order: `BadRam` (not whole pages, none or too many, or `pages` and the memory differ), `BadShape`,
     /// `BadBase`, `BadImages` (contents and images; not one for each disk, or of other lengths), `NoMemory`.
     pub fn build(mut self) -> Result<Machine, Refused<MachineBuilder>> {
         match self.make() {

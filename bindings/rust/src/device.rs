@@ -13,7 +13,7 @@ pub enum Device {
         mac: [u8; 6],
     },
 
-    /// A block device of 1 to 2,097,152 sectors of 512 bytes.
+    /// A block device of 1 to 2,097,152 sectors of 512 bytes, of a large machine to 4,294,967,295.
     Block {
         /// Its sectors.
         sectors: u64,

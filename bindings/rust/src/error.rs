@@ -70,7 +70,7 @@ pub enum Error {
     /// The RAM is in memory of the library.
     NotYours = raw::NOT_YOURS,
 
-    /// The memory is not 1 to 16,384 whole pages, or not as long as what was asked for or lent.
+    /// The memory is not 1 to 16,384 whole pages, of a large machine 4,294,967,295, or not as long as what was asked for or lent.
     BadRam = raw::BAD_RAM,
 
     /// The library does not know what is asked for, or this crate what the library has: they are of different versions.
@@ -155,7 +155,7 @@ const TEXTS: &[(Error, &str)] = &[
     (Error::Lent, "the RAM is lent"),
     (Error::NotLent, "the RAM is not lent"),
     (Error::NotYours, "the RAM is in memory of the library"),
-    (Error::BadRam, "invalid RAM size: not 1 to 16,384 whole pages, or not that of the RAM that was lent"),
+    (Error::BadRam, "invalid RAM size: not whole pages, none or more than the limits, or not that of the RAM that was lent"),
     (Error::NotKnown, "not supported: the library and this crate are of different versions"),
     (Error::BadBase, "invalid base: not a multiple of 4,096, or RAM would reach past the last address"),
     (Error::StreamBadMagic, "bad magic: not a machine stream"),

@@ -11,8 +11,8 @@ use std::ptr::NonNull;
 /// The bytes of a sector.
 const SECTOR: u64 = 512;
 
-/// The most sectors that a disk has.
-const MOST_SECTORS: u64 = 2_097_152;
+/// The most sectors that a disk has. More than 2,097,152 are for a machine that is large.
+const MOST_SECTORS: u64 = 4_294_967_295;
 
 /// The sectors of a disk in memory of the caller, as in a file that is mapped. It owns the map.
 ///
@@ -39,7 +39,8 @@ pub struct Image {
 }
 
 impl Image {
-    /// 1 to 2,097,152 sectors of zeros, without a file.
+    /// 1 to 2,097,152 sectors of zeros, without a file; for a machine that is [`MachineBuilder::large`](crate::MachineBuilder::large) up to
+    /// 4,294,967,295.
     pub fn zeros(sectors: u64) -> Result<Image, Error> {
         if !(1..=MOST_SECTORS).contains(&sectors) {
             return Err(Error::BadImages);
@@ -49,7 +50,7 @@ impl Image {
         Ok(Image { region })
     }
 
-    /// A file whose length is that of 1 to 2,097,152 sectors, mapped and shared: what the guest writes is there at once, and durable after
+    /// A file whose length is that of as many sectors, mapped and shared: what the guest writes is there at once, and durable after
     /// [`Machine::sync`](crate::Machine::sync). The file is open for reading and writing. All its blocks are allocated, and it is locked
     /// ([`File::try_lock`]) until the image is dropped: a second image of it, in this process or another one, is refused by
     /// [`io::ErrorKind::WouldBlock`]. (A clone of the [`File`] has the same lock.)
@@ -113,7 +114,7 @@ impl Image {
 fn len_of(file: &File) -> io::Result<usize> {
     let len = file.metadata()?.len();
     if len % SECTOR != 0 || !(1..=MOST_SECTORS).contains(&(len / SECTOR)) {
-        return Err(io::Error::new(io::ErrorKind::InvalidInput, "not 1 to 2,097,152 whole sectors of 512 bytes"));
+        return Err(io::Error::new(io::ErrorKind::InvalidInput, "not 1 to 4,294,967,295 whole sectors of 512 bytes"));
     }
     usize::try_from(len).map_err(|_| io::ErrorKind::FileTooLarge.into())
 }

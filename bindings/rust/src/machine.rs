@@ -200,6 +200,12 @@ impl Machine {
         self.describe().message as usize
     }
 
+    /// Whether it was made, or arrived, with greater limits than the usual ([`MachineBuilder::large`]).
+    #[must_use]
+    pub fn is_large(&self) -> bool {
+        self.describe().flags & raw::LARGE != 0
+    }
+
     /// Whether the pages that calls write are logged ([`MachineBuilder::log_written`]).
     #[must_use]
     pub fn is_logged(&self) -> bool {

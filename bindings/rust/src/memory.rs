@@ -6,10 +6,8 @@ use crate::region::{PAGE, Region};
 use std::ops::{Deref, DerefMut};
 use std::ptr::NonNull;
 
-/// The most pages that RAM has.
-const MOST_PAGES: u32 = 16_384;
-
-/// Memory for the RAM of a machine: 1 to 16,384 pages of 4,096 bytes.
+/// Memory for the RAM of a machine: 1 to 16,384 pages of 4,096 bytes, and more for one that is
+/// [`MachineBuilder::large`](crate::MachineBuilder::large).
 ///
 /// Its owner reads and writes the bytes, for instance to put a kernel there. Then a machine is made over it
 /// ([`MachineBuilder::memory`](crate::MachineBuilder::memory)), or arrives in it ([`ArrivalBuilder::memory`](crate::ArrivalBuilder::memory)).
@@ -33,9 +31,9 @@ pub struct Memory {
 }
 
 impl Memory {
-    /// Pages of zeros, aligned to a page.
+    /// Pages of zeros, aligned to a page. Of many pages the system gives each when it is first written.
     pub fn zeros(pages: u32) -> Result<Memory, Error> {
-        if !(1..=MOST_PAGES).contains(&pages) {
+        if pages == 0 {
             return Err(Error::BadRam);
         }
         let region = Region::zeros(PAGE * pages as usize).ok_or(Error::NoMemory)?;

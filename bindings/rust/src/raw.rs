@@ -122,7 +122,7 @@ pub struct Setup {
     pub ram: Ram,
     /// The guest-physical address of RAM's first byte.
     pub base: u64,
-    /// `LOG`, or 0.
+    /// `LARGE`, `LOG`, both, or 0.
     pub flags: u32,
     /// 0.
     pub block: u32,
@@ -169,7 +169,7 @@ pub struct Arrival {
     pub ram: Ram,
     /// The guest-physical address of RAM's first byte.
     pub base: u64,
-    /// `LOG`, or 0.
+    /// `LARGE`, `LOG`, both, or 0.
     pub flags: u32,
     /// 0.
     pub frame: u32,
@@ -216,7 +216,7 @@ pub struct Description {
     pub count: u32,
     /// Of RAM.
     pub base: u64,
-    /// `LOG`, or 0.
+    /// `LARGE`, `LOG`, both, or 0.
     pub flags: u32,
     /// 0.
     pub calls_out: u32,
@@ -278,6 +278,8 @@ pub struct Left {
     pub reserved: [u64; 3],
 }
 
+/// A flag of a setup and of an arrival: more pages and sectors than the usual are allowed.
+pub const LARGE: u32 = 1;
 /// A flag of a setup and of an arrival: the pages that calls write are logged.
 pub const LOG: u32 = 2;
 
@@ -356,7 +358,7 @@ pub const LENT: u32 = 23;
 pub const NOT_LENT: u32 = 24;
 /// RAM is in memory of the library, and is never lent.
 pub const NOT_YOURS: u32 = 25;
-/// Not 1 to 16,384 whole pages, or not as asked for or lent; lend: not `NO_RAM`.
+/// Not 1 to 16,384 whole pages, with `LARGE` to 4,294,967,295, or not as asked for or lent; lend: not `NO_RAM`.
 pub const BAD_RAM: u32 = 26;
 /// A struct of another version, a flag, or a word that has to be 0.
 pub const NOT_KNOWN: u32 = 27;

@@ -25,6 +25,12 @@ unsafe extern "C" {
     fn posix_fallocate(file: c_int, offset: i64, len: i64) -> c_int;
 }
 
+/// What is allocated for so many bytes, which begin at a page in it. Without an alignment of its own the allocator takes many zeros from the
+/// system, which has them; with one it writes each.
+fn layout(len: usize) -> Option<Layout> {
+    Layout::array::<u8>(len.checked_add(PAGE)?).ok()
+}
+
 /// Bytes, and how they are let go.
 #[derive(Debug)]
 pub(crate) struct Region {
@@ -35,7 +41,8 @@ pub(crate) struct Region {
 
 #[derive(Debug)]
 enum Owner {
-    Allocator,
+    // What was allocated begins so many bytes before.
+    Allocator { before: u16 },
     // The lock that the file holds is given up with it, after the bytes were unmapped.
     Map { _file: File, is_shared: bool },
     Caller,
@@ -47,17 +54,16 @@ unsafe impl Send for Region {}
 // SAFETY: likewise; through a shared reference they are only read.
 unsafe impl Sync for Region {}
 
-fn layout(len: usize) -> Option<Layout> {
-    Layout::from_size_align(len, PAGE).ok()
-}
-
 impl Region {
     /// Zeros, aligned to a page. `None` of no bytes, and where memory is refused.
     pub(crate) fn zeros(len: usize) -> Option<Region> {
         let layout = layout(len).filter(|_| len != 0)?;
         // SAFETY: the layout has bytes.
-        let at = NonNull::new(unsafe { alloc_zeroed(layout) })?;
-        Some(Region { at, len, owner: Owner::Allocator })
+        let all = NonNull::new(unsafe { alloc_zeroed(layout) })?;
+        let before = u16::try_from(all.align_offset(PAGE)).expect("less than a page");
+        // SAFETY: it is less than a page, and a page more than the bytes was allocated.
+        let at = unsafe { all.add(before.into()) };
+        Some(Region { at, len, owner: Owner::Allocator { before } })
     }
 
     /// The first bytes of a file, all of whose blocks are allocated. They are shared with it.
@@ -137,10 +143,10 @@ impl Region {
 impl Drop for Region {
     fn drop(&mut self) {
         match self.owner {
-            Owner::Allocator => {
+            Owner::Allocator { before } => {
                 let layout = layout(self.len).expect("the layout with which it was allocated");
                 // SAFETY: it was allocated so, and no machine uses it any more.
-                unsafe { dealloc(self.at.as_ptr(), layout) }
+                unsafe { dealloc(self.at.sub(before.into()).as_ptr(), layout) }
             }
             Owner::Map { .. } => {
                 // SAFETY: it was mapped so, and no machine uses it any more.

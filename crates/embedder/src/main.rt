@@ -4,6 +4,7 @@
 #![tactic(auto)]
 
 mod durable;
+mod limits;
 mod machines;
 mod moves;
 mod own_disk;
@@ -31,7 +32,9 @@ fn machines_agree(rt: &HostRuntime) -> Result<()> {
     durable::ends_after_its_flush(alloc)?;
     say(rt, "a write that ends after its flush")?;
     written::agree(alloc)?;
-    say(rt, "the pages that are written")
+    say(rt, "the pages that are written")?;
+    limits::agree(alloc)?;
+    say(rt, "how large a machine may be")
 }
 
 /// A machine on its way to another host.

@@ -5,12 +5,15 @@ use crate::own_sink::OwnSink;
 use anyhow::{Result, bail, ensure};
 use std::alloc::Global;
 use vmig::{
-    Both, Event, Live, LiveEvent, Machine, MemDisk, MigError, PAGES_MAX, PageLog, Reply, Shape,
-    Stepped, Stopped, parse,
+    Both, Event, Live, LiveEvent, Machine, MemDisk, MigError, PageLog, Reply, Shape, Stepped,
+    Stopped, parse,
 };
 
-/// How many pages RAM has.
+/// How many pages RAM has, and the log places.
 const PAGES: u32 = 8;
+
+/// And how many bytes.
+const RAM: u64 = 32_768;
 
 /// A driver of an entropy device asks for four bytes, and the host has put them in. The descriptor table is at 0, and the driver area at
 /// 0x100: no step writes there. The device area begins at 0x3ff8: its flags, its index and the id of its first entry are the end of page 3,
@@ -95,9 +98,9 @@ fn steps_are_noted(alloc: Global) -> Result<()> {
 
 /// The pages that the step writes.
 fn step(alloc: Global, machine: &mut Machine<MemDisk>) -> Result<PageLog> {
-    let mut log = PageLog::new(alloc, PAGES_MAX)?;
+    ensure!(machine.ram().len() == RAM, "RAM");
+    let mut log = PageLog::new(alloc, PAGES)?;
     let mut sent = Vec::new(alloc);
-    let _shapes = machine.shapes();
     let stepped = machine.step_into_logged(0, 0, &mut sent, &mut log);
     ensure!(stepped == Stepped::Completed(4), "the step");
     Ok(log)
@@ -126,12 +129,12 @@ fn are_noted(log: &mut PageLog, expected: &[u32]) -> Result<()> {
 
 /// A step, with a log of our own beside the log of pages.
 fn step_is_noted_twice(alloc: Global, machine: &mut Machine<MemDisk>) -> Result<()> {
+    ensure!(machine.ram().len() == RAM, "RAM");
     let mut logs = Both {
-        first: PageLog::new(alloc, PAGES_MAX)?,
+        first: PageLog::new(alloc, PAGES)?,
         second: OwnLog::EMPTY,
     };
     let step = Event::Step { dev: 0, pick: 0 };
-    let _shapes = machine.shapes();
     let reply = machine.apply_logged(&step, &mut logs);
     ensure!(reply == Reply::Completed(4), "the step as an event");
     ensure!(logs.second.is_touched, "a log of our own");
@@ -140,9 +143,9 @@ fn step_is_noted_twice(alloc: Global, machine: &mut Machine<MemDisk>) -> Result<
 
 /// A write of RAM, over the end of page 1.
 fn write_is_noted(alloc: Global, machine: &mut Machine<MemDisk>) -> Result<()> {
-    let mut log = PageLog::new(alloc, PAGES_MAX)?;
+    ensure!(machine.ram().len() == RAM, "RAM");
+    let mut log = PageLog::new(alloc, PAGES)?;
     let bytes = [1, 2];
-    let _shapes = machine.shapes();
     let answer = machine.write_ram_logged(0x1fff, &bytes, &mut log);
     ensure!(answer.is_ok(), "a write of RAM");
     are_noted(&mut log, &[1, 2])
@@ -164,9 +167,9 @@ fn lives_note(alloc: Global) -> Result<()> {
 }
 
 fn live_step_is_noted(alloc: Global, live: &mut Live<MemDisk, OwnSink>) -> Result<()> {
-    let mut log = Some(PageLog::new(alloc, PAGES_MAX)?);
+    ensure!(live.machine().ram().len() == RAM, "RAM");
+    let mut log = Some(PageLog::new(alloc, PAGES)?);
     let mut sent = Vec::new(alloc);
-    live.recall();
     let stepped = live.step_into_logged(0, 0, &mut sent, &mut log);
     ensure!(stepped == Ok(Stepped::Completed(4)), "a step of a Live");
     has_noted(log, &STEPPED)
@@ -181,9 +184,9 @@ fn has_noted(log: Option<PageLog>, expected: &[u32]) -> Result<()> {
 
 /// A write of the host. Without a log it is the same write.
 fn live_write_is_noted(alloc: Global, live: &mut Live<MemDisk, OwnSink>) -> Result<()> {
-    let mut log = Some(PageLog::new(alloc, PAGES_MAX)?);
+    ensure!(live.machine().ram().len() == RAM, "RAM");
+    let mut log = Some(PageLog::new(alloc, PAGES)?);
     let byte = [1];
-    live.recall();
     let answer = live.write_ram_logged(0x7000, &byte, &mut log);
     ensure!(answer == Ok(Reply::Done), "a write of a Live");
     let mut none = None;
@@ -195,9 +198,9 @@ fn live_write_is_noted(alloc: Global, live: &mut Live<MemDisk, OwnSink>) -> Resu
 /// What is refused writes nothing.
 fn stopped_live_notes_nothing(alloc: Global, live: &mut Live<MemDisk, OwnSink>) -> Result<()> {
     stops(live)?;
-    let mut log = Some(PageLog::new(alloc, PAGES_MAX)?);
+    ensure!(live.machine().ram().len() == RAM, "RAM");
+    let mut log = Some(PageLog::new(alloc, PAGES)?);
     let step = Event::Step { dev: 0, pick: 0 };
-    live.recall();
     let answer = live.apply_logged(&step, &mut log);
     ensure!(answer == Err(MigError::AlreadyStopped), "after the stop");
     has_noted(log, &[])
