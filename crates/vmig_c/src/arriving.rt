@@ -120,8 +120,8 @@ fn ram_len(held: &Held) -> u64
     )
 }
 
-/// Drops the log, if it has no place for each page of so many bytes. What was let in has no more pages than the log has places, so that
-/// is never.
+/// Drops the log, if it has no place for each page of so many bytes. That is never (`laws::arrived_keeps_log`): what is let in has no more
+/// pages than it has places. No clause of a receiver tells its machine's pages, so here it is looked at.
 fn keep_fitting(log: &mut Option<PageLog>, places: u32, bytes: u64)
     ensures kept { log.new ≡ fitting places bytes log.old }
 {
