@@ -42,7 +42,7 @@ counted_off left s shapes i d all below is fits so_far =
     same_tests (left - s) rest left (sectors_in (drop i shapes)) (λ h. omega (arith, more, is, fits, h)) (λ h. omega (arith, more, is, fits, h)) ∙ so_far
 
 -- What begins bytes begins longer ones.
-begins_longer : (bytes more : List ℕ) (opening : Opening) (rest : List ℕ) → Begins bytes opening rest → Begins (bytes ++ more) opening (rest ++ more)
+pub begins_longer : (bytes more : List ℕ) (opening : Opening) (rest : List ℕ) → Begins bytes opening rest → Begins (bytes ++ more) opening (rest ++ more)
 begins_longer bytes more opening rest begins = record {
   good = begins.good;
   whole = ap (λ (l : List ℕ). l ++ more) begins.whole ∙ append_assoc _ rest more;

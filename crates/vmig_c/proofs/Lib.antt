@@ -3,6 +3,7 @@ mod Allowing
 mod Announcements
 mod ArrivalCalls
 mod Arrivals
+mod ArrivedLogs
 mod AsBox
 mod Awaited
 mod ByHandle

@@ -1,6 +1,6 @@
 -- No call changes how many bytes RAM has, so a log that fits a machine fits it after each call.
-use Rattle.std.proofs.Common.{◌≡◌, ◌≤◌, ◌*◌, ◌==◌, nat_lt, ℕ, zero, suc, Bool, true, false, List, refl, sym, ap, ◌∙◌, subst, arith, length, true≢false}
-use Rattle.std.specs.Prelude.{Option, Some, None, MatchOption, if◌then◌else◌}
+use Rattle.std.proofs.Common.{◌≡◌, ◌≤◌, ◌*◌, nat_lt, ℕ, zero, suc, Bool, true, false, List, refl, sym, ap, ◌∙◌, subst, arith, length}
+use Rattle.std.specs.Prelude.{Option, Some, None, MatchOption}
 use Rattle.std.proofs.lemmas.Bool.Decides.{nat_tests}
 use Rattle.guestmem.specs.Memory.{IsMemory}
 use Rattle.machine.specs.Applied.{IsApplied}

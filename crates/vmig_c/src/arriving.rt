@@ -108,7 +108,7 @@ pub(crate) fn finish(kept: &mut Kept) -> u32
     status
 }
 
-/// Whether the machine that arrives has more pages than there are places for. No such machine is let in.
+/// Whether the machine that arrives has more pages than its log may have places. No such machine is let in (`laws::arrived_has_places`).
 fn has_more(arrival: &Arrival, places: u32) -> bool
     ensures { result ≡ has_more places (ram_coming arrival.now) }
 {
