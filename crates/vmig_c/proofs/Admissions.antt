@@ -6,16 +6,15 @@ use Rattle.std.proofs.lemmas.Bool.Decides.{nat_tests}
 use Rattle.std.proofs.lemmas.List.{append-nil, append_assoc, drop_all, drop_more}
 use Rattle.machine.specs.Shapes.{sector_count}
 use Rattle.machine.specs.declared.shape.Shape.{Shape}
-use Rattle.machine.specs.Limits.{usual}
+use Rattle.machine.specs.Limits.{AreWithin}
 use Rattle.wire.specs.Header.{Begins, Opening}
 use Rattle.receiver.specs.Faults.{ShowsHeaderFault, TellsHead}
-use Rattle.receiver.specs.declared.ram_terms.RamTerms.{RamTerms}
 use Rattle.receiver.specs.declared.recv_error.RecvError.{RecvError}
 use Rattle.receiver.specs.declared.recv_error.RecvError.TheVariants.{NoMemory}
 use Rattle.vmig_c.specs.Admission.{IsAdmitted, IsFaultyHead, IsUnfit, are_expected, are_same_shapes, is_same_shape, stream_refusal}
 use Rattle.vmig_c.specs.Awaited.{stream_status}
 use Rattle.c_machine.specs.Images.{sectors_in}
-use Rattle.vmig_c.specs.declared.admission.Limits.{Limits}
+use Rattle.vmig_c.specs.declared.admission.Allowed.{Allowed}
 use Rattle.c_machine.proofs.Imaging.{eq_of}
 
 -- Sectors are counted off what may come.
@@ -43,29 +42,29 @@ counted_off left s shapes i d all below is fits so_far =
     same_tests (left - s) rest left (sectors_in (drop i shapes)) (λ h. omega (arith, more, is, fits, h)) (λ h. omega (arith, more, is, fits, h)) ∙ so_far
 
 -- What begins bytes begins longer ones.
-begins_longer : (bytes more : List ℕ) (opening : Opening) (rest : List ℕ) → Begins bytes opening rest → Begins (bytes ++ more) opening (rest ++ more)
+pub begins_longer : (bytes more : List ℕ) (opening : Opening) (rest : List ℕ) → Begins bytes opening rest → Begins (bytes ++ more) opening (rest ++ more)
 begins_longer bytes more opening rest begins = record {
   good = begins.good;
   whole = ap (λ (l : List ℕ). l ++ more) begins.whole ∙ append_assoc _ rest more;
 }
 
 -- What the first bytes show is so of all.
-pub admitted : (limits : Limits) (expected : List Shape) (bytes front more : List ℕ) (opening : Opening) (rest : List ℕ) → front ++ more ≡ bytes → Begins front opening rest → stream_refusal limits expected opening.pages opening.shapes ≡ None
-    → IsAdmitted limits expected bytes opening.pages opening.shapes
-admitted limits expected bytes front more opening rest all begins fits =
-    rw (← all) (record { opening = opening; rest = rest ++ more; begins = begins_longer front more opening rest begins; fits = fits; pages_are = refl; shapes_are = refl })
+pub admitted : (allowed : Allowed) (expected : List Shape) (bytes front more : List ℕ) (opening : Opening) (rest : List ℕ) → front ++ more ≡ bytes → Begins front opening rest → AreWithin allowed.limits opening.pages opening.shapes
+    → stream_refusal allowed expected opening.pages opening.shapes ≡ None → IsAdmitted allowed expected bytes opening.pages opening.shapes
+admitted allowed expected bytes front more opening rest all begins within fits =
+    rw (← all) (record { opening = opening; rest = rest ++ more; begins = begins_longer front more opening rest begins; within = within; fits = fits; pages_are = refl; shapes_are = refl })
 
-pub unfit : (limits : Limits) (expected : List Shape) (bytes front more : List ℕ) (opening : Opening) (rest : List ℕ) (status : ℕ) → front ++ more ≡ bytes → Begins front opening rest → stream_refusal limits expected opening.pages opening.shapes ≡ Some status
-    → (status ≡ status) × (IsUnfit limits expected bytes status ⊎ IsFaultyHead bytes status)
-unfit limits expected bytes front more opening rest status all begins refused =
-    (refl, rw (← all) (inl (record { opening = opening; rest = rest ++ more; begins = begins_longer front more opening rest begins; refused = refused })))
+pub unfit : (allowed : Allowed) (expected : List Shape) (bytes front more : List ℕ) (opening : Opening) (rest : List ℕ) (status : ℕ) → front ++ more ≡ bytes → Begins front opening rest → AreWithin allowed.limits opening.pages opening.shapes
+    → stream_refusal allowed expected opening.pages opening.shapes ≡ Some status → (status ≡ status) × (IsUnfit allowed expected bytes status ⊎ IsFaultyHead allowed.limits bytes status)
+unfit allowed expected bytes front more opening rest status all begins within refused =
+    (refl, rw (← all) (inl (record { opening = opening; rest = rest ++ more; begins = begins_longer front more opening rest begins; within = within; refused = refused })))
 
-pub faulty : (limits : Limits) (expected : List Shape) (bytes front more : List ℕ) (error : RecvError) (status : ℕ) → front ++ more ≡ bytes → TellsHead error (ShowsHeaderFault usual front error) → status ≡ stream_status error
-    → (status ≡ status) × (IsUnfit limits expected bytes status ⊎ IsFaultyHead bytes status)
-faulty limits expected bytes front more error status all why is = (refl, inr (record { front = front; rest = more; are = sym all; refused = record { error = error; status_is = is; why = why } }))
+pub faulty : (allowed : Allowed) (expected : List Shape) (bytes front more : List ℕ) (error : RecvError) (status : ℕ) → front ++ more ≡ bytes → TellsHead error (ShowsHeaderFault allowed.limits front error) → status ≡ stream_status error
+    → (status ≡ status) × (IsUnfit allowed expected bytes status ⊎ IsFaultyHead allowed.limits bytes status)
+faulty allowed expected bytes front more error status all why is = (refl, inr (record { front = front; rest = more; are = sym all; refused = record { error = error; status_is = is; why = why } }))
 
-pub full : (limits : Limits) (expected : List Shape) (bytes : List ℕ) (status : ℕ) → status ≡ stream_status NoMemory → (status ≡ status) × (IsUnfit limits expected bytes status ⊎ IsFaultyHead bytes status)
-full limits expected bytes status is = faulty limits expected bytes bytes [] NoMemory status (append-nil bytes) tt is
+pub full : (allowed : Allowed) (expected : List Shape) (bytes : List ℕ) (status : ℕ) → status ≡ stream_status NoMemory → (status ≡ status) × (IsUnfit allowed expected bytes status ⊎ IsFaultyHead allowed.limits bytes status)
+full allowed expected bytes status is = faulty allowed expected bytes bytes [] NoMemory status (append-nil bytes) tt is
 
 not_both : (a b : Bool) → b ≡ false → (a && b) ≡ false
 not_both true b is = is

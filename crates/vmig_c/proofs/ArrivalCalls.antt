@@ -1,7 +1,7 @@
 -- The calls of an arrival, by cases on the handle.
-use Rattle.std.proofs.Common.{◌≡◌, ℕ, false, List, ap, ◌∙◌, subst, true≢false}
+use Rattle.std.proofs.Common.{◌≡◌, ℕ, Bool, false, List, ap, ◌∙◌, subst, true≢false}
 use Rattle.std.specs.Prelude.{Option, Some, None, is_some}
-use Rattle.vmig_c.specs.Arriving.{Fed, FeedsKept, Finished, FinishesKept, fed_after}
+use Rattle.vmig_c.specs.Arriving.{Fed, FeedsKept, Finished, FinishesKept, fed_after, log_of_arrived}
 use Rattle.vmig_c.specs.Kept.{KeptSeen}
 use Rattle.std.proofs.Common.{refl}
 
@@ -19,7 +19,8 @@ pub finished_none : (k after : Option KeptSeen) → is_some k ≡ false → afte
 finished_none None after is same = (refl, same)
 finished_none (Some m) after is same = absurd (true≢false is)
 
-pub finished_some : (k after : Option KeptSeen) (m next : KeptSeen) (status : ℕ) → Some m ≡ k → after ≡ Some next → next ≡ record m { state = next.state; admission = next.admission }
-    → FinishesKept m.admission m.state status next.admission next.state → Finished k status after
-finished_some k after m next status is becomes kind does =
-    subst (λ (o : Option KeptSeen). Finished o status after) is (record { next = next.state; admission = next.admission; is_next = becomes ∙ ap Some kind; does = does })
+pub finished_some : (k after : Option KeptSeen) (m next : KeptSeen) (status : ℕ) → Some m ≡ k → after ≡ Some next → next ≡ record m { state = next.state; admission = next.admission; written = next.written }
+    → next.written ≡ log_of_arrived m status next.state → FinishesKept m.admission m.state status next.admission next.state → Finished k status after
+finished_some k after m next status is becomes kind log does =
+    let all : next ≡ record m { state = next.state; admission = next.admission; written = log_of_arrived m status next.state } = kind ∙ ap (λ (l : Option (List Bool)). record m { state = next.state; admission = next.admission; written = l }) log in
+    subst (λ (o : Option KeptSeen). Finished o status after) is (record { next = next.state; admission = next.admission; is_next = becomes ∙ ap Some all; does = does })

@@ -1,9 +1,9 @@
 -- Machines whose streams arrive in pieces.
-use Rattle.std.proofs.Common.{◌≡◌, ◌⊎◌, ℕ, Bool, true, false, List, [], ◌∷◌, ◌++◌, refl, sym, ap, ◌∙◌, subst, map, length, take, drop, inl, inr, append_assoc, arith, true≢false}
+use Rattle.std.proofs.Common.{◌≡◌, ◌≤◌, ◌+◌, ◌-◌, min, ℕ, Bool, true, false, List, [], ◌∷◌, ◌++◌, refl, sym, ap, ◌∙◌, subst, map, length, take, drop, inl, inr, append_assoc, arith, true≢false}
 use denote.RawPtr.{Ptr}
 use Rattle.std.specs.Prelude.{IsTrue, IfErr, IfOk, Result, Ok, Err, Option, Some, None, slice_get}
 use Rattle.guestmem.specs.Memory.{Memory}
-use Rattle.std.proofs.lemmas.List.{length-append, take-append-drop}
+use Rattle.std.proofs.lemmas.List.{length-append, length-take-le, take-append-drop, take_all}
 use Rattle.std.proofs.lemmas.List.Elements.{All-map}
 use Rattle.std.proofs.lemmas.Option.{slice_get-map}
 use Rattle.machine.specs.First.{dealt_marks}
@@ -11,24 +11,24 @@ use Rattle.machine.specs.Seen.{DeviceSeen, Marks, Seen, all_marks, marks_at, no_
 use Rattle.machine.specs.Shapes.{disk_sizes}
 use Rattle.machine.specs.State.{MachineState, base_of}
 use Rattle.machine.specs.Layout.{pages_of}
-use Rattle.machine.specs.Limits.{AreWithin, usual}
-use Rattle.machine.specs.declared.limits.Limits as machines
-use Rattle.wire.specs.HeaderFaults.{IsBadCount, IsBadShape}
+use Rattle.machine.specs.Limits.{AreWithin}
+use Rattle.machine.specs.declared.limits.Limits.{Limits}
 use Rattle.wire.specs.Header.{Begins, Opening, header}
 use Rattle.wire.proofs.PartLengths.{length_header}
 use Rattle.wire.specs.Stream.{IsStream, device_texts, opening_in, shapes_in, texts}
 use Rattle.wire.proofs.Unique.{pages_limits}
 use Rattle.receiver.specs.Disks.{AreHonestDisks, HasFailed, MarksRefused, disk_marks_of, sizes_of}
-use Rattle.receiver.specs.Receiving.{HasBeenFed, HasRounds, IsFinish, end_error, IsWholeFor, NoFault, Received, TellsNow}
+use Rattle.receiver.specs.Receiving.{HasBeenFed, HasRounds, IsFinish, end_error, IsWholeFor, NoFault, Received, TellsNow, place_aside}
 use Rattle.receiver.specs.declared.recv_error.RecvError.{RecvError}
 use Rattle.receiver.specs.declared.recv_error.RecvError.TheVariants.{BadMagic, BadVersion, BadShape, ShapeMismatch, BadTag, BadPage, BadSector, BadRound, BadDevice, BadDigest, Missing, Trailing, Truncated, DiskFailed, NoMemory, AlreadyFailed}
 use Rattle.receiver.proofs.Heads.{no_header_fault}
 use Rattle.receiver.proofs.Prefixes.{header_stays, stays}
-use Rattle.receiver.specs.Faults.{Fault, IsHeaderFault, ShowsHeaderFault, TellsHead, WaitsHead}
-use Rattle.receiver.specs.Opened.{ram_at, said_by}
+use Rattle.receiver.specs.Faults.{Fault, ShowsHeaderFault, TellsHead, WaitsHead}
+use Rattle.receiver.specs.Opened.{said_by, terms_at, told_by}
 use Rattle.receiver.specs.declared.ram_terms.RamTerms.{RamTerms}
+use Rattle.receiver.specs.declared.terms.Terms.{Terms}
 use Rattle.vmig_c.specs.ArrivalSeen.{ArrivalSeen, AtHead, AtBody, Refused, Over}
-use Rattle.vmig_c.specs.Awaited.{AreSteady, CountsRounds, GoesOnWith, IsClosed, HasArrived, HasCome, IsFaulty, IsFed, IsFedTo, IsWholeIf, TellsEnd, TellsOf, TellsWhole, TellsWhy, awaited_by, awaited_place, awaited_ram, place_for, terms_for, IsComing, IsAtHead}
+use Rattle.vmig_c.specs.Awaited.{AreSteady, CountsRounds, GoesOnWith, IsClosed, HasArrived, HasCome, IsFaulty, IsFed, IsFedTo, IsWholeIf, TellsEnd, TellsOf, TellsWhole, TellsWhy, awaited_by, awaited_place, awaited_ram, IsComing, IsAtHead}
 use Rattle.vmig_c.specs.declared.arrival.Progress.{Progress}
 use Rattle.vmig_c.specs.declared.arrival.Progress.TheVariants.{Head, Body, Failed}
 use Rattle.vmig_c.specs.declared.arrival.Progress.TheVariants as progress
@@ -39,8 +39,8 @@ use Rattle.vmig_c.proofs.Streams.{of_found}
 use Rattle.c_machine.proofs.Zeros.{alike}
 
 -- A header stays at the beginning of more bytes.
-longer : (bytes piece sizes : List ℕ) → HasHeader bytes sizes → HasHeader (bytes ++ piece) sizes
-longer bytes piece sizes h = record {
+longer : (limits : Limits) (bytes piece sizes : List ℕ) → HasHeader limits bytes sizes → HasHeader limits (bytes ++ piece) sizes
+longer limits bytes piece sizes h = record {
   opening = h.opening;
   rest = h.rest ++ piece;
   begins = record { good = h.begins.good; whole = ap (λ (b : List ℕ). b ++ piece) h.begins.whole ∙ append_assoc _ h.rest piece };
@@ -66,7 +66,7 @@ pub never_failed : (r : Received) (new : List Marks) (e : RecvError) → AreStea
 never_failed r new e steady h is = no_failure r new steady (subst (λ (x : RecvError). MarksRefused r.marks x new) is h)
 
 -- What a refusal of a receiver tells.
-told : (ram : RamTerms) (sizes b piece : List ℕ) (e : RecvError) → AreFitting (b ++ piece) sizes → TellsNow ram sizes b piece e → ¬ (e ≡ DiskFailed) → TellsWhy ram (b ++ piece) e
+told : (ram : RamTerms) (sizes b piece : List ℕ) (e : RecvError) → AreFitting ram.limits (b ++ piece) sizes → TellsNow ram sizes b piece e → ¬ (e ≡ DiskFailed) → TellsWhy ram (b ++ piece) e
 told ram sizes b piece NoMemory fit t never = tt
 told ram sizes b piece DiskFailed fit t never = absurd (never refl)
 told ram sizes b piece BadMagic fit t never = record { sizes = sizes; fit = fit; at = t.0; fault = t.2 }
@@ -90,14 +90,14 @@ more_steady r next steady sizes marks = rw (sizes, marks) steady
 
 more_come : (r next : Received) (piece b : List ℕ) → next.ram ≡ r.ram → next.sizes ≡ r.sizes → ((b : List ℕ) → HasBeenFed r b → HasBeenFed next (b ++ piece)) → ((b : List ℕ) → HasBeenFed r b → NoFault r.ram r.sizes (b ++ piece)) → HasCome (AtBody r) b → GoesOnWith (b ++ piece) (AtBody next)
 more_come r next piece b ram sizes fed quiet h =
-    let header : HasHeader (b ++ piece) next.sizes = rw sizes (longer b piece r.sizes h.1) in
+    let header : HasHeader next.ram.limits (b ++ piece) next.sizes = rw (sizes, ram) (longer r.ram.limits b piece r.sizes h.1) in
     record { come = (fed b h.0, header); fit = inl header; quiet = rw (ram, sizes) (quiet b h.0) }
 
 pub more_fed : (r next : Received) (piece : List ℕ) → next.ram ≡ r.ram → next.place ≡ r.place → next.sizes ≡ r.sizes → ((b : List ℕ) → HasBeenFed r b → HasBeenFed next (b ++ piece)) → ((b : List ℕ) → HasBeenFed r b → NoFault r.ram r.sizes (b ++ piece)) → IsFed (AtBody r) piece (AtBody next)
 more_fed r next piece ram place sizes fed quiet = record { went_on = tt; goes_on = λ b h. more_come r next piece b ram sizes fed quiet h; ram = ram; place = place }
 
 pub more_refused : (r : Received) (new : List Marks) (piece : List ℕ) (e : RecvError) → AreSteady r → MarksRefused r.marks e new → ((b : List ℕ) → HasBeenFed r b → TellsNow r.ram r.sizes b piece e) → TellsOf (AtBody r) piece e
-more_refused r new piece e steady marks tells = λ b h. told r.ram r.sizes b piece e (inl (longer b piece r.sizes h.1)) (tells b h.0) (never_failed r new e steady marks)
+more_refused r new piece e steady marks tells = λ b h. told r.ram r.sizes b piece e (inl (longer r.ram.limits b piece r.sizes h.1)) (tells b h.0) (never_failed r new e steady marks)
 
 -- The rest of a piece that completed the header.
 pub cut_piece : (held all piece front rest : List ℕ) (few : ℕ) → all ≡ held ++ front → front ≡ take few piece → rest ≡ drop few piece → all ++ rest ≡ held ++ piece
@@ -132,17 +132,18 @@ all_fed ram place r next bytes sizes first based alike there stays are same stea
   quiet = rw (← based, ← are) (quiet [] first);
 }
 
-pub all_refused : (ram : RamTerms) (r : Received) (new : List Marks) (bytes sizes : List ℕ) (e : RecvError) → HasBeenFed r [] → r.ram ≡ ram → r.sizes ≡ sizes → AreSteady r → AreFitting bytes sizes → MarksRefused r.marks e new → ((b : List ℕ) → HasBeenFed r b → TellsNow r.ram r.sizes b bytes e) → TellsWhy ram bytes e
-all_refused ram r new bytes sizes e first based are steady fit marks tells = subst (λ (n : RamTerms). TellsWhy n bytes e) based (told r.ram r.sizes [] bytes e (rw are fit) (tells [] first) (never_failed r new e steady marks))
+pub all_refused : (ram : RamTerms) (r : Received) (new : List Marks) (bytes sizes : List ℕ) (e : RecvError) → HasBeenFed r [] → r.ram ≡ ram → r.sizes ≡ sizes → AreSteady r → AreFitting ram.limits bytes sizes → MarksRefused r.marks e new → ((b : List ℕ) → HasBeenFed r b → TellsNow r.ram r.sizes b bytes e) → TellsWhy ram bytes e
+all_refused ram r new bytes sizes e first based are steady fit marks tells = subst (λ (n : RamTerms). TellsWhy n bytes e) based (told r.ram r.sizes [] bytes e (rw (are, based) fit) (tells [] first) (never_failed r new e steady marks))
 
 -- The header was found, or not.
-pub begun_coming : (ram : RamTerms) (place : Option Ptr) (r : Received) (bytes : List ℕ) (opening : Opening) (rest : List ℕ) → Begins bytes opening rest → AreWithin usual opening.pages opening.shapes → IsFedTo ram place (disk_sizes opening.shapes) bytes r → GoesOnWith bytes (AtBody r)
+pub begun_coming : (ram : RamTerms) (place : Option Ptr) (r : Received) (bytes : List ℕ) (opening : Opening) (rest : List ℕ) → Begins bytes opening rest → AreWithin ram.limits opening.pages opening.shapes → IsFedTo ram place (disk_sizes opening.shapes) bytes r → GoesOnWith bytes (AtBody r)
 begun_coming ram place r bytes opening rest begins within h =
-    let header : HasHeader bytes r.sizes = record { opening = opening; rest = rest; begins = begins; within = within; sizes_are = h.sizes_are } in
+    let here : AreWithin r.ram.limits opening.pages opening.shapes = rw h.ram_is within in
+    let header : HasHeader r.ram.limits bytes r.sizes = record { opening = opening; rest = rest; begins = begins; within = here; sizes_are = h.sizes_are } in
     record { come = (h.fed, header); fit = inl header; quiet = rw (h.ram_is, h.sizes_are) (h.quiet) }
 
-pub fits_header : (bytes : List ℕ) (opening : Opening) (rest : List ℕ) → Begins bytes opening rest → AreWithin usual opening.pages opening.shapes → AreFitting bytes (disk_sizes opening.shapes)
-fits_header bytes opening rest begins within = inl (record { opening = opening; rest = rest; begins = begins; within = within; sizes_are = refl })
+pub fits_header : (limits : Limits) (bytes : List ℕ) (opening : Opening) (rest : List ℕ) → Begins bytes opening rest → AreWithin limits opening.pages opening.shapes → AreFitting limits bytes (disk_sizes opening.shapes)
+fits_header limits bytes opening rest begins within = inl (record { opening = opening; rest = rest; begins = begins; within = within; sizes_are = refl })
 
 -- The stream of each machine begins with a header.
 headless : (bytes : List ℕ) → HasNoHeader bytes → (m : MachineState) → ¬ (IsStream bytes m)
@@ -206,34 +207,47 @@ pub head_whole : (ram : RamTerms) (place : Option Ptr) (held : List ℕ) → Has
 head_whole ram place held none = λ b is whole. subst HasNoHeader (sym is) none (said_by whole.opening) _ whole.front.begins
 
 pub not_whole : (p : Progress) (a : ArrivalSeen) → IsComing p → awaited_by p ≡ a → IsAtHead (awaited_by p) → TellsWhole a false
-not_whole (Head base ram held) a coming view at = subst (λ (x : ArrivalSeen). TellsWhole x false) view (head_whole (terms_for base ram) (place_for ram) held.items coming)
+not_whole (Head terms ram held) a coming view at = subst (λ (x : ArrivalSeen). TellsWhole x false) view (head_whole (told_by terms ram) (place_aside ram) held.items coming)
 not_whole (Body r) a coming view at = absurd at
 not_whole (progress.Over r) a coming view at = absurd at
 not_whole Failed a coming view at = absurd at
 
 pub not_counted : (p : Progress) (a : ArrivalSeen) → IsComing p → awaited_by p ≡ a → IsAtHead (awaited_by p) → CountsRounds a 0
-not_counted (Head base ram held) a coming view at = subst (λ (x : ArrivalSeen). CountsRounds x 0) view (head_counts (terms_for base ram) (place_for ram) held.items coming)
+not_counted (Head terms ram held) a coming view at = subst (λ (x : ArrivalSeen). CountsRounds x 0) view (head_counts (told_by terms ram) (place_aside ram) held.items coming)
 not_counted (Body r) a coming view at = absurd at
 not_counted (progress.Over r) a coming view at = absurd at
 not_counted Failed a coming view at = absurd at
 
 -- The address at which RAM will begin.
-pub based_at : (base : ℕ) (ram : Option Memory) → base ≡ (terms_for base ram).base
-based_at base None = refl
-based_at base (Some ram) = refl
+pub based_at : (terms : Terms) (ram : Option Memory) → terms.base ≡ (told_by terms ram).base
+based_at terms None = refl
+based_at terms (Some ram) = refl
 
--- The limits are the usual ones.
-pub terms_usual : (base : ℕ) (ram : Option Memory) → (terms_for base ram).limits ≡ usual
-terms_usual base None = refl
-terms_usual base (Some ram) = refl
+-- And how large it may be.
+pub limits_at : (terms : Terms) (ram : Option Memory) → (told_by terms ram).limits ≡ terms.limits
+limits_at terms None = refl
+limits_at terms (Some ram) = refl
 
-no_fault_in : (ram : RamTerms) (sizes bytes : List ℕ) (k : RecvError) (at : ℕ) → ram.limits ≡ usual → WaitsHead usual bytes → ¬ (Fault ram sizes bytes k at)
-no_fault_in ram sizes bytes k at is waits (inl h) = waits.no_fault ram sizes k at is h
-no_fault_in ram sizes bytes k at is waits (inr h) = waits.no_header (said_by h.opening) _ h.front.begins
+no_fault_in : (ram : RamTerms) (sizes bytes : List ℕ) (k : RecvError) (at : ℕ) → WaitsHead ram.limits bytes → ¬ (Fault ram sizes bytes k at)
+no_fault_in ram sizes bytes k at waits (inl h) = waits.no_fault ram sizes k at refl h
+no_fault_in ram sizes bytes k at waits (inr h) = waits.no_header (said_by h.opening) _ h.front.begins
 
 -- A header that is not whole.
-pub head_goes_on : (ram : RamTerms) (place : Option Ptr) (held : List ℕ) → ram.limits ≡ usual → WaitsHead usual held → GoesOnWith held (AtHead ram place held)
-head_goes_on ram place held is waits = record { come = refl; fit = inr (λ opening rest within. waits.no_header opening rest); quiet = λ k at fault. no_fault_in ram [] held k at is waits fault }
+head_goes_on : (ram : RamTerms) (place : Option Ptr) (held : List ℕ) → WaitsHead ram.limits held → GoesOnWith held (AtHead ram place held)
+head_goes_on ram place held waits = record { come = refl; fit = inr (λ opening rest within. waits.no_header opening rest); quiet = λ k at fault. no_fault_in ram [] held k at waits fault }
+
+-- All of a piece after which the header is not whole was copied.
+none_cut : (held all piece : List ℕ) (few : ℕ) → all ≡ held ++ take few piece → few ≡ min (length piece) (496 - length held) → length all ≤ 495 → all ≡ held ++ piece
+none_cut held all piece few is size short =
+    let long : length all ≡ length held + length (take few piece) = ap (λ (l : List ℕ). length l) is ∙ length-append held (take few piece) in
+    let front : length (take few piece) ≡ few = length-take-le few piece (omega (arith, size)) in
+    is ∙ ap (λ (l : List ℕ). held ++ l) (take_all few piece (omega (arith, long, front, size, short)))
+
+pub head_waits : (terms : Terms) (ram : Option Memory) (held all piece : List ℕ) (few : ℕ) → all ≡ held ++ take few piece → few ≡ min (length piece) (496 - length held) → length all ≤ 495 → WaitsHead terms.limits all
+    → GoesOnWith (held ++ piece) (AtHead (told_by terms ram) (place_aside ram) all)
+head_waits terms ram held all piece few is size short waits =
+    let here : WaitsHead (told_by terms ram).limits all = subst (λ (l : Limits). WaitsHead l all) (sym (limits_at terms ram)) waits in
+    subst (λ (l : List ℕ). GoesOnWith l (AtHead (told_by terms ram) (place_aside ram) all)) (none_cut held all piece few is size short) (head_goes_on (told_by terms ram) (place_aside ram) all here)
 
 pub head_fed : (ram : RamTerms) (place : Option Ptr) (held piece : List ℕ) (next : ArrivalSeen) → awaited_ram next ≡ ram → awaited_place next ≡ place → GoesOnWith (held ++ piece) next → IsFed (AtHead ram place held) piece next
 head_fed ram place held piece next based there h = record { went_on = tt; goes_on = λ b is. subst (λ (x : List ℕ). GoesOnWith (x ++ piece) next) (sym is) h; ram = based; place = there }
@@ -245,13 +259,13 @@ pub empty_head : (opening : Opening) (rest : List ℕ) → ¬ (Begins [] opening
 empty_head opening rest begins = omega (arith, ap (λ (l : List ℕ). length l) begins.whole, length-append (header opening) rest, length_header opening)
 
 -- A fault in bytes that begin with a header is one of all longer bytes.
-faulty_longer : (ram : RamTerms) (bytes rest sizes : List ℕ) (e : RecvError) → HasHeader bytes sizes → IsFaulty ram bytes e → IsFaulty ram (bytes ++ rest) e
+faulty_longer : (ram : RamTerms) (bytes rest sizes : List ℕ) (e : RecvError) → HasHeader ram.limits bytes sizes → IsFaulty ram bytes e → IsFaulty ram (bytes ++ rest) e
 faulty_longer ram bytes rest sizes e header f = elim f.fit as (λ _. IsFaulty ram (bytes ++ rest) e) [
-  | inl h ↦ record { sizes = f.sizes; fit = inl (longer bytes rest f.sizes h); at = f.at; fault = stays ram f.sizes bytes rest e f.at f.fault }
+  | inl h ↦ record { sizes = f.sizes; fit = inl (longer ram.limits bytes rest f.sizes h); at = f.at; fault = stays ram f.sizes bytes rest e f.at f.fault }
   | inr none ↦ absurd (none header.opening header.rest header.within header.begins)
 ]
 
-pub told_longer : (ram : RamTerms) (bytes rest sizes : List ℕ) (e : RecvError) → HasHeader bytes sizes → TellsWhy ram bytes e → TellsWhy ram (bytes ++ rest) e
+pub told_longer : (ram : RamTerms) (bytes rest sizes : List ℕ) (e : RecvError) → HasHeader ram.limits bytes sizes → TellsWhy ram bytes e → TellsWhy ram (bytes ++ rest) e
 told_longer ram bytes rest sizes NoMemory header t = tt
 told_longer ram bytes rest sizes BadMagic header t = faulty_longer ram bytes rest sizes BadMagic header t
 told_longer ram bytes rest sizes BadVersion header t = faulty_longer ram bytes rest sizes BadVersion header t
@@ -269,60 +283,46 @@ told_longer ram bytes rest sizes Truncated header t = faulty_longer ram bytes re
 told_longer ram bytes rest sizes DiskFailed header t = faulty_longer ram bytes rest sizes DiskFailed header t
 told_longer ram bytes rest sizes AlreadyFailed header t = faulty_longer ram bytes rest sizes AlreadyFailed header t
 
--- A fault in bytes that begin with no header is one of all longer bytes.
-usually : (ram : RamTerms) (opening : Opening) → ram.limits ≡ usual → AreWithin ram.limits opening.pages opening.shapes → AreWithin usual opening.pages opening.shapes
-usually ram opening is within = subst (λ (l : machines.Limits). AreWithin l opening.pages opening.shapes) is within
+-- Bytes whose header has a fault begin with no header of a machine within the limits, and so do all longer ones.
+still_headless : (limits : Limits) (bytes rest : List ℕ) (e : RecvError) → ShowsHeaderFault limits bytes e → HasNoneWithin limits (bytes ++ rest)
+still_headless limits bytes rest e why opening more within begins =
+    let terms : RamTerms = terms_at (record { base = 0; limits = limits }) in
+    let sizes = disk_sizes opening.shapes in
+    let f = why terms sizes refl in
+    no_header_fault terms sizes (bytes ++ rest) opening more begins within refl tt e f.0 (header_stays terms sizes bytes rest e f.0 f.1)
 
-other_sizes : (ram : RamTerms) (sizes others bytes : List ℕ) (e : RecvError) (at : ℕ) → ram.limits ≡ usual → HasNoneWithin bytes → IsHeaderFault ram sizes bytes e at → IsHeaderFault (ram_at 0) others bytes e at
-other_sizes ram sizes others bytes BadMagic at is none h = h
-other_sizes ram sizes others bytes BadVersion at is none h = h
-other_sizes ram sizes others bytes BadShape at is none h = subst (λ (l : machines.Limits). IsBadCount l bytes at ⊎ IsBadShape l bytes at) is h
-other_sizes ram sizes others bytes ShapeMismatch at is none h = absurd (none h.opening h.more (usually ram h.opening is h.within) h.begins)
-other_sizes ram sizes others bytes BadTag at is none h = absurd h
-other_sizes ram sizes others bytes BadPage at is none h = absurd h
-other_sizes ram sizes others bytes BadSector at is none h = absurd h
-other_sizes ram sizes others bytes BadRound at is none h = absurd h
-other_sizes ram sizes others bytes BadDevice at is none h = absurd h
-other_sizes ram sizes others bytes BadDigest at is none h = absurd h
-other_sizes ram sizes others bytes Missing at is none h = absurd h
-other_sizes ram sizes others bytes Trailing at is none h = absurd h
-other_sizes ram sizes others bytes Truncated at is none h = absurd h
-other_sizes ram sizes others bytes DiskFailed at is none h = absurd h
-other_sizes ram sizes others bytes NoMemory at is none h = absurd h
-other_sizes ram sizes others bytes AlreadyFailed at is none h = absurd h
+faulty_head : (ram : RamTerms) (bytes rest : List ℕ) (e : RecvError) → ShowsHeaderFault ram.limits bytes e → IsFaulty ram (bytes ++ rest) e
+faulty_head ram bytes rest e why =
+    let f = why ram [] refl in
+    record { sizes = []; fit = inr (still_headless ram.limits bytes rest e why); at = f.0; fault = stays ram [] bytes rest e f.0 (inl f.1) }
 
-in_header : (ram : RamTerms) (sizes others bytes : List ℕ) (e : RecvError) (at : ℕ) → ram.limits ≡ usual → HasNoneWithin bytes → Fault ram sizes bytes e at → IsHeaderFault (ram_at 0) others bytes e at
-in_header ram sizes others bytes e at is none (inl h) = other_sizes ram sizes others bytes e at is none h
-in_header ram sizes others bytes e at is none (inr h) = absurd (none (said_by h.opening) _ (usually ram (said_by h.opening) is h.front.within) h.front.begins)
+-- What is told of the head of bytes, whatever follows.
+told_of_head : (ram : RamTerms) (bytes rest : List ℕ) (e : RecvError) → TellsHead e (ShowsHeaderFault ram.limits bytes e) → TellsWhy ram (bytes ++ rest) e
+told_of_head ram bytes rest NoMemory t = tt
+told_of_head ram bytes rest BadMagic t = faulty_head ram bytes rest BadMagic t
+told_of_head ram bytes rest BadVersion t = faulty_head ram bytes rest BadVersion t
+told_of_head ram bytes rest BadShape t = faulty_head ram bytes rest BadShape t
+told_of_head ram bytes rest ShapeMismatch t = faulty_head ram bytes rest ShapeMismatch t
+told_of_head ram bytes rest BadTag t = faulty_head ram bytes rest BadTag t
+told_of_head ram bytes rest BadPage t = faulty_head ram bytes rest BadPage t
+told_of_head ram bytes rest BadSector t = faulty_head ram bytes rest BadSector t
+told_of_head ram bytes rest BadRound t = faulty_head ram bytes rest BadRound t
+told_of_head ram bytes rest BadDevice t = faulty_head ram bytes rest BadDevice t
+told_of_head ram bytes rest BadDigest t = faulty_head ram bytes rest BadDigest t
+told_of_head ram bytes rest Missing t = faulty_head ram bytes rest Missing t
+told_of_head ram bytes rest Trailing t = faulty_head ram bytes rest Trailing t
+told_of_head ram bytes rest Truncated t = faulty_head ram bytes rest Truncated t
+told_of_head ram bytes rest DiskFailed t = faulty_head ram bytes rest DiskFailed t
+told_of_head ram bytes rest AlreadyFailed t = faulty_head ram bytes rest AlreadyFailed t
 
-still_headless : (ram : RamTerms) (sizes bytes rest : List ℕ) (e : RecvError) (at : ℕ) → ram.limits ≡ usual → HasNoneWithin bytes → Fault ram sizes bytes e at → HasNoneWithin (bytes ++ rest)
-still_headless ram sizes bytes rest e at is none f opening more within begins =
-    no_header_fault (ram_at 0) (disk_sizes opening.shapes) (bytes ++ rest) opening more begins within refl tt e at (header_stays (ram_at 0) (disk_sizes opening.shapes) bytes rest e at (in_header ram sizes (disk_sizes opening.shapes) bytes e at is none f))
+pub told_head : (terms : Terms) (ram : Option Memory) (bytes rest all : List ℕ) (e : RecvError) → bytes ++ rest ≡ all → TellsHead e (ShowsHeaderFault terms.limits bytes e) → TellsWhy (told_by terms ram) all e
+told_head terms ram bytes rest all e is why =
+    let here : TellsHead e (ShowsHeaderFault (told_by terms ram).limits bytes e) = subst (λ (l : Limits). TellsHead e (ShowsHeaderFault l bytes e)) (sym (limits_at terms ram)) why in
+    subst (λ (b : List ℕ). TellsWhy (told_by terms ram) b e) is (told_of_head (told_by terms ram) bytes rest e here)
 
-faulty_headless : (ram : RamTerms) (bytes rest : List ℕ) (e : RecvError) → ram.limits ≡ usual → HasNoneWithin bytes → IsFaulty ram bytes e → IsFaulty ram (bytes ++ rest) e
-faulty_headless ram bytes rest e is none f = record { sizes = f.sizes; fit = inr (still_headless ram f.sizes bytes rest e f.at is none f.fault); at = f.at; fault = stays ram f.sizes bytes rest e f.at f.fault }
-
--- What is told of the head of bytes that begin with no header, whatever follows.
-faulty_head : (ram : RamTerms) (bytes rest : List ℕ) (e : RecvError) → ram.limits ≡ usual → HasNoneWithin bytes → ShowsHeaderFault usual bytes e → IsFaulty ram (bytes ++ rest) e
-faulty_head ram bytes rest e is none why = let f = why ram [] is in faulty_headless ram bytes rest e is none (record { sizes = []; fit = inr none; at = f.0; fault = inl f.1 })
-
-pub told_head : (ram : RamTerms) (bytes rest : List ℕ) (e : RecvError) → ram.limits ≡ usual → HasNoneWithin bytes → TellsHead e (ShowsHeaderFault usual bytes e) → TellsWhy ram (bytes ++ rest) e
-told_head ram bytes rest NoMemory is none t = tt
-told_head ram bytes rest BadMagic is none t = faulty_head ram bytes rest BadMagic is none t
-told_head ram bytes rest BadVersion is none t = faulty_head ram bytes rest BadVersion is none t
-told_head ram bytes rest BadShape is none t = faulty_head ram bytes rest BadShape is none t
-told_head ram bytes rest ShapeMismatch is none t = faulty_head ram bytes rest ShapeMismatch is none t
-told_head ram bytes rest BadTag is none t = faulty_head ram bytes rest BadTag is none t
-told_head ram bytes rest BadPage is none t = faulty_head ram bytes rest BadPage is none t
-told_head ram bytes rest BadSector is none t = faulty_head ram bytes rest BadSector is none t
-told_head ram bytes rest BadRound is none t = faulty_head ram bytes rest BadRound is none t
-told_head ram bytes rest BadDevice is none t = faulty_head ram bytes rest BadDevice is none t
-told_head ram bytes rest BadDigest is none t = faulty_head ram bytes rest BadDigest is none t
-told_head ram bytes rest Missing is none t = faulty_head ram bytes rest Missing is none t
-told_head ram bytes rest Trailing is none t = faulty_head ram bytes rest Trailing is none t
-told_head ram bytes rest Truncated is none t = faulty_head ram bytes rest Truncated is none t
-told_head ram bytes rest DiskFailed is none t = faulty_head ram bytes rest DiskFailed is none t
-told_head ram bytes rest AlreadyFailed is none t = faulty_head ram bytes rest AlreadyFailed is none t
+-- What is within the limits of the terms is within those of the receiver.
+pub within_terms : (terms : Terms) (ram : Option Memory) (opening : Opening) → AreWithin terms.limits opening.pages opening.shapes → AreWithin (told_by terms ram).limits opening.pages opening.shapes
+within_terms terms ram opening within = subst (λ (l : Limits). AreWithin l opening.pages opening.shapes) (sym (limits_at terms ram)) within
 
 -- A result has one error.
 pub one_error : {A E : Type 0} (r : Result A E) (x y : E) → r ≡ Err x → r ≡ Err y → x ≡ y

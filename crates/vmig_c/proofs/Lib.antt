@@ -1,12 +1,15 @@
 mod Admissions
+mod Allowing
 mod Announcements
 mod ArrivalCalls
 mod Arrivals
+mod ArrivedLogs
 mod AsBox
 mod Awaited
 mod ByHandle
 mod ByKept
 mod ByParked
+mod CallTurns
 mod Descriptions
 mod Failing
 mod Filling
@@ -29,9 +32,9 @@ mod PushedPages
 mod Quiet
 mod Reading
 mod Resets
+mod SamePages
 mod Sending
 mod Sent
 mod Streams
 mod ToldStates
-mod CallTurns
 mod TurnSteps

@@ -5,7 +5,8 @@ use Rattle.guestmem.specs.declared.limits.TheConstants.{PAGE_SIZE}
 use Rattle.machine.specs.First.{is_base}
 use Rattle.machine.specs.declared.shape.Shape.{Shape}
 use Rattle.machine.specs.declared.shape.Shape.TheVariants.{Net, Block, Console, Entropy}
-use Rattle.machine.specs.Limits.{usual}
+use Rattle.machine.specs.Limits.{AreWithin}
+use Rattle.machine.specs.declared.limits.Limits.{Limits}
 use Rattle.wire.specs.Header.{Begins, Opening}
 use Rattle.receiver.specs.Faults.{WaitsHead}
 use Rattle.receiver.specs.declared.recv_error.RecvError.TheVariants.{AlreadyFailed}
@@ -14,11 +15,11 @@ use Rattle.vmig_c.specs.Announced.{IsRefusedAt}
 use Rattle.vmig_c.specs.Awaited.{stream_status}
 use Rattle.c_machine.specs.Images.{sectors_in}
 use Rattle.c_machine.specs.Status.{stream_mismatch, stream_too_large}
-use Rattle.vmig_c.specs.declared.admission.Limits.{Limits}
+use Rattle.vmig_c.specs.declared.admission.Allowed.{Allowed}
 
--- A machine of these pages and devices has no more pages, and no more sectors in all its disks together.
-abbrev pub is_within : Limits → ℕ → List Shape → Bool
-is_within limits pages shapes = not (nat_lt limits.pages pages) && not (nat_lt limits.sectors (sectors_in shapes))
+-- A machine of these pages and devices has no more pages than are allowed, and no more sectors in all its disks together.
+abbrev pub is_within : Allowed → ℕ → List Shape → Bool
+is_within allowed pages shapes = not (nat_lt allowed.pages pages) && not (nat_lt allowed.sectors (sectors_in shapes))
 
 -- Both devices are made as the same.
 abbrev pub same_flag : Bool → Bool → Bool
@@ -44,64 +45,66 @@ are_expected (s ∷ ss) shapes = are_same_shapes (s ∷ ss) shapes
 
 -- Why a machine of these pages and devices is not let in: it is too large, or another than is expected, or its RAM may not begin at its
 -- base.
-abbrev pub stream_refusal : Limits → List Shape → ℕ → List Shape → Option ℕ
-stream_refusal limits expected pages shapes =
-    if not (is_within limits pages shapes) then Some stream_too_large
-    else if not (are_expected expected shapes) || not (is_base limits.base (PAGE_SIZE * pages)) then Some stream_mismatch
+abbrev pub stream_refusal : Allowed → List Shape → ℕ → List Shape → Option ℕ
+stream_refusal allowed expected pages shapes =
+    if not (is_within allowed pages shapes) then Some stream_too_large
+    else if not (are_expected expected shapes) || not (is_base allowed.base (PAGE_SIZE * pages)) then Some stream_mismatch
     else None
 
 -- The header is whole, of a machine of these pages and devices, and it is let in.
-pub record IsAdmitted (limits : Limits) (expected : List Shape) (bytes : List ℕ) (pages : ℕ) (shapes : List Shape) : Type 0 where
+pub record IsAdmitted (allowed : Allowed) (expected : List Shape) (bytes : List ℕ) (pages : ℕ) (shapes : List Shape) : Type 0 where
   pub opening : Opening
   pub rest : List ℕ
   pub begins : Begins bytes opening rest
-  pub fits : stream_refusal limits expected opening.pages opening.shapes ≡ None
+  pub within : AreWithin allowed.limits opening.pages opening.shapes
+  pub fits : stream_refusal allowed expected opening.pages opening.shapes ≡ None
   pub pages_are : pages ≡ opening.pages
   pub shapes_are : shapes ≡ opening.shapes
 
 -- The header is whole, of a machine that is not let in.
-pub record IsUnfit (limits : Limits) (expected : List Shape) (bytes : List ℕ) (status : ℕ) : Type 0 where
+pub record IsUnfit (allowed : Allowed) (expected : List Shape) (bytes : List ℕ) (status : ℕ) : Type 0 where
   pub opening : Opening
   pub rest : List ℕ
   pub begins : Begins bytes opening rest
-  pub refused : stream_refusal limits expected opening.pages opening.shapes ≡ Some status
+  pub within : AreWithin allowed.limits opening.pages opening.shapes
+  pub refused : stream_refusal allowed expected opening.pages opening.shapes ≡ Some status
 
--- The header has a fault within the first bytes, or memory for it was refused.
-pub record IsFaultyHead (bytes : List ℕ) (status : ℕ) : Type 0 where
+-- The header has a fault within the first bytes, as of a machine beyond the limits, or memory for it was refused.
+pub record IsFaultyHead (limits : Limits) (bytes : List ℕ) (status : ℕ) : Type 0 where
   pub front : List ℕ
   pub rest : List ℕ
   pub are : bytes ≡ front ++ rest
-  pub refused : IsRefusedAt stream_status front status
+  pub refused : IsRefusedAt limits stream_status front status
 
 -- The header is not whole, and has no fault so far: these bytes are kept.
-pub record IsPendingWith (limits : Limits) (expected : List Shape) (bytes : List ℕ) (kept : Limits) (shapes : List Shape) (held : List ℕ) : Type 0 where
-  pub waits : WaitsHead usual bytes
-  pub same : kept ≡ limits
+pub record IsPendingWith (allowed : Allowed) (expected : List Shape) (bytes : List ℕ) (kept : Allowed) (shapes : List Shape) (held : List ℕ) : Type 0 where
+  pub waits : WaitsHead allowed.limits bytes
+  pub same : kept ≡ allowed
   pub shapes_same : shapes ≡ expected
   pub held_are : held ≡ bytes
 
 -- What is answered for all bytes so far: that they are let in, or a status that refuses them for good.
-abbrev pub AdmitsAt : Limits → List Shape → List ℕ → Option ℕ → AdmissionSeen → Type 0
-AdmitsAt limits expected bytes None (Granted pages shapes) = IsAdmitted limits expected bytes pages shapes
-AdmitsAt limits expected bytes None (Pending kept shapes held) = IsPendingWith limits expected bytes kept shapes held
-AdmitsAt limits expected bytes None (Denied told) = ⊥
-AdmitsAt limits expected bytes (Some status) (Denied told) = (told ≡ status) × (IsUnfit limits expected bytes status ⊎ IsFaultyHead bytes status)
-AdmitsAt limits expected bytes (Some status) (Granted pages shapes) = ⊥
-AdmitsAt limits expected bytes (Some status) (Pending kept shapes held) = ⊥
+abbrev pub AdmitsAt : Allowed → List Shape → List ℕ → Option ℕ → AdmissionSeen → Type 0
+AdmitsAt allowed expected bytes None (Granted pages shapes) = IsAdmitted allowed expected bytes pages shapes
+AdmitsAt allowed expected bytes None (Pending kept shapes held) = IsPendingWith allowed expected bytes kept shapes held
+AdmitsAt allowed expected bytes None (Denied told) = ⊥
+AdmitsAt allowed expected bytes (Some status) (Denied told) = (told ≡ status) × (IsUnfit allowed expected bytes status ⊎ IsFaultyHead allowed.limits bytes status)
+AdmitsAt allowed expected bytes (Some status) (Granted pages shapes) = ⊥
+AdmitsAt allowed expected bytes (Some status) (Pending kept shapes held) = ⊥
 
 -- What is answered for the next piece. A stream that was refused stays refused.
 abbrev pub Admits : AdmissionSeen → List ℕ → Option ℕ → AdmissionSeen → Type 0
 Admits (Granted pages shapes) piece told next = (told ≡ None) × (next ≡ Granted pages shapes)
 Admits (Denied first) piece told next = (told ≡ Some (stream_status AlreadyFailed)) × (next ≡ Denied first)
-Admits (Pending limits expected held) piece told next = AdmitsAt limits expected (held ++ piece) told next
+Admits (Pending allowed expected held) piece told next = AdmitsAt allowed expected (held ++ piece) told next
 
 abbrev pub IsPending : AdmissionSeen → Type 0
 IsPending (Granted pages shapes) = ⊥
-IsPending (Pending limits expected held) = Unit {0}
+IsPending (Pending allowed expected held) = Unit {0}
 IsPending (Denied first) = ⊥
 
 -- The status with which the stream was refused first, if it was.
 abbrev pub first_refusal : AdmissionSeen → Option ℕ
 first_refusal (Granted pages shapes) = None
-first_refusal (Pending limits expected held) = None
+first_refusal (Pending allowed expected held) = None
 first_refusal (Denied first) = Some first

@@ -1,5 +1,6 @@
 -- The arrival of a machine of a handle, call by call.
-use Rattle.std.specs.Prelude.{◌≡◌, ◌⊎◌, ℕ, ◌+◌, ◌-◌, ◌^◌, ◌==◌, ◌||◌, if◌then◌else◌, min, Bool, true, false, List, length, Option, Some, None}
+use Rattle.std.specs.Prelude.{◌≡◌, ◌⊎◌, ℕ, ◌+◌, ◌-◌, ◌*◌, ◌^◌, ◌==◌, ◌||◌, if◌then◌else◌, min, nat_lt, Bool, true, false, List, length, Option, Some, None}
+use Rattle.guestmem.specs.declared.limits.TheConstants.{PAGE_SIZE}
 use Rattle.machine.specs.Seen.{Seen}
 use Rattle.receiver.specs.declared.recv_error.RecvError.{RecvError}
 use Rattle.receiver.specs.declared.recv_error.RecvError.TheVariants.{AlreadyFailed}
@@ -113,10 +114,23 @@ abbrev pub FinishesKept : AdmissionSeen → State → ℕ → AdmissionSeen → 
 FinishesKept admission k status after next =
     Unless (finish_refusal admission k) (λ reason. Refuses status next k reason × (after ≡ admission)) (HasEnded admission k status after next)
 
+-- The bytes of RAM of a machine that has arrived. Where none has there are none.
+abbrev pub ram_arrived : State → ℕ
+ram_arrived (Still m) = length m.memory.bytes
+ram_arrived _ = 0
+
+-- A log that has no place for each page of so many bytes is dropped. What is let in has no more pages than are allowed, and these have a
+-- place.
+abbrev pub fitting : ℕ → ℕ → Option (List Bool) → Option (List Bool)
+fitting places bytes log = if nat_lt (PAGE_SIZE * places) bytes then None else log
+
+abbrev pub log_of_arrived : KeptSeen → ℕ → State → Option (List Bool)
+log_of_arrived k status next = if status == done then fitting k.places (ram_arrived next) k.written else k.written
+
 pub record DoesFinish (k : KeptSeen) (status : ℕ) (after : Option KeptSeen) : Type 0 where
   pub next : State
   pub admission : AdmissionSeen
-  pub is_next : after ≡ Some (record k { state = next; admission = admission })
+  pub is_next : after ≡ Some (record k { state = next; admission = admission; written = log_of_arrived k status next })
   pub does : FinishesKept k.admission k.state status admission next
 
 -- A call to finish the arrival of the machine of a handle.

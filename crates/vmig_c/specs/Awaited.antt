@@ -1,13 +1,12 @@
 -- A machine whose stream arrives in pieces.
 use denote.RawPtr.{Ptr}
-use Rattle.std.specs.Prelude.{◌≡◌, ◌≢◌, ℕ, ◌+◌, List, [], ◌++◌, map, Option, Some, None, Bool, true, false}
-use Rattle.guestmem.specs.Memory.{Memory}
+use Rattle.std.specs.Prelude.{◌≡◌, ◌≢◌, ℕ, ◌+◌, List, [], ◌++◌, map, Option, None, Bool, true, false}
 use Rattle.machine.specs.Seen.{Seen, no_marks, state_of}
 use Rattle.machine.specs.State.{base_of}
 use Rattle.receiver.specs.Codes.{recv_code_of}
 use Rattle.receiver.specs.Faults.{Fault}
-use Rattle.receiver.specs.Receiving.{HasBeenFed, HasRounds, IsFinish, end_error, IsWholeFor, NoFault, Received, TellsNow}
-use Rattle.receiver.specs.Opened.{given_at, ram_at}
+use Rattle.receiver.specs.Receiving.{HasBeenFed, HasRounds, IsFinish, end_error, IsWholeFor, NoFault, Received, TellsNow, place_aside}
+use Rattle.receiver.specs.Opened.{ram_at, told_by}
 use Rattle.receiver.specs.declared.ram_terms.RamTerms.{RamTerms}
 use Rattle.receiver.specs.declared.recv_error.RecvError.{RecvError}
 use Rattle.receiver.specs.declared.recv_error.RecvError.TheVariants.{NoMemory, DiskFailed, AlreadyFailed}
@@ -21,16 +20,6 @@ use Rattle.vmig_c.specs.declared.arrival.Progress.{Progress}
 use Rattle.vmig_c.specs.declared.arrival.Progress.TheVariants.{Head, Body, Failed}
 use Rattle.vmig_c.specs.declared.arrival.Progress.TheVariants as progress
 
--- The terms of RAM: the address at which it will begin, and the length of the RAM that is handed in, if one is.
-abbrev pub terms_for : ℕ → Option Memory → RamTerms
-terms_for base None = ram_at base
-terms_for base (Some ram) = given_at base ram.bytes
-
--- Where that RAM lies, if that is memory of the caller.
-abbrev pub place_for : Option Memory → Option Ptr
-place_for None = None
-place_for (Some ram) = ram.place
-
 -- Nothing was fed, and these are the terms of RAM.
 abbrev pub nothing_fed : RamTerms → Option Ptr → ArrivalSeen
 nothing_fed ram place = AtHead ram place []
@@ -41,7 +30,7 @@ refused_for_good = Refused
 
 -- What contracts see.
 abbrev pub awaited_by : Progress → ArrivalSeen
-awaited_by (Head base ram held) = AtHead (terms_for base ram) (place_for ram) held.items
+awaited_by (Head terms ram held) = AtHead (told_by terms ram) (place_aside ram) held.items
 awaited_by (Body r) = AtBody r
 awaited_by (progress.Over r) = Over r
 awaited_by Failed = Refused
@@ -65,7 +54,7 @@ IsAtHead (Over r) = ⊥
 -- These are all bytes that were fed, and there was no refusal. Once the header was read, the disks are of the sizes that it says.
 abbrev pub HasCome : ArrivalSeen → List ℕ → Type 0
 HasCome (AtHead ram place held) bytes = bytes ≡ held
-HasCome (AtBody r) bytes = HasBeenFed r bytes × HasHeader bytes r.sizes
+HasCome (AtBody r) bytes = HasBeenFed r bytes × HasHeader r.ram.limits bytes r.sizes
 HasCome Refused bytes = ⊥
 HasCome (Over r) bytes = HasBeenFed r bytes
 
@@ -83,7 +72,7 @@ awaited_base (AtBody r) = r.ram.base
 awaited_base Refused = 0
 awaited_base (Over r) = r.ram.base
 
--- The terms of RAM: that address, and the length of the RAM that was handed in.
+-- What the host says: that address, the length of the RAM that was handed in, and how large the machine may be.
 abbrev pub awaited_ram : ArrivalSeen → RamTerms
 awaited_ram (AtHead ram place held) = ram
 awaited_ram (AtBody r) = r.ram
@@ -111,7 +100,7 @@ pub record IsFedTo (ram : RamTerms) (place : Option Ptr) (sizes bytes : List ℕ
   pub quiet : NoFault ram sizes bytes
 
 abbrev pub IsComing : Progress → Type 0
-IsComing (Head base ram held) = HasNoHeader held.items
+IsComing (Head terms ram held) = HasNoHeader held.items
 IsComing (Body r) = AreSteady r
 IsComing (progress.Over r) = AreSteady r
 IsComing Failed = Unit {0}
@@ -125,7 +114,7 @@ is_over _ = false
 -- header is a fault.
 abbrev pub AreFittingFor : ArrivalSeen → List ℕ → Type 0
 AreFittingFor (Over r) bytes = Unit {0}
-AreFittingFor a bytes = AreFitting bytes (awaited_sizes a)
+AreFittingFor a bytes = AreFitting (awaited_ram a).limits bytes (awaited_sizes a)
 
 -- These are all bytes that were fed, and there is no fault in them.
 pub record GoesOnWith (bytes : List ℕ) (a : ArrivalSeen) : Type 0 where
@@ -161,7 +150,7 @@ pub record IsFed (a : ArrivalSeen) (piece : List ℕ) (next : ArrivalSeen) : Typ
 -- There is a fault in the bytes, for these terms of RAM, and disks of the sizes that the header says.
 pub record IsFaulty (ram : RamTerms) (bytes : List ℕ) (error : RecvError) : Type 0 where
   pub sizes : List ℕ
-  pub fit : AreFitting bytes sizes
+  pub fit : AreFitting ram.limits bytes sizes
   pub at : ℕ
   pub fault : Fault ram sizes bytes error at
 

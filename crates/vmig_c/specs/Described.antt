@@ -18,7 +18,7 @@ use Rattle.c_machine.specs.Description.{message_of, nothing_told, with_shapes}
 use Rattle.vmig_c.specs.SendStatus.{mig_status}
 use Rattle.vmig_c.specs.Unmapping.{images_in}
 use Rattle.c_machine.specs.declared.description.Description.{Description}
-use Rattle.c_machine.specs.declared.setup.TheConstants.{LOG}
+use Rattle.c_machine.specs.declared.setup.TheConstants.{LARGE, LOG}
 
 -- The states of a handle that has something. One that has nothing is 0.
 abbrev pub is_arriving : ℕ
@@ -82,7 +82,7 @@ told_failed status fed = record nothing_told { state = is_failed; fault = status
 abbrev pub told_arriving : AdmissionSeen → ℕ → ℕ → ℕ → Bool → Description
 told_arriving (Denied first) fed base rounds whole = told_failed first fed
 told_arriving (Granted pages shapes) fed base rounds whole = told_coming (told_head pages shapes) base rounds whole
-told_arriving (Pending limits expected held) fed base rounds whole = told_coming nothing_told base rounds whole
+told_arriving (Pending allowed expected held) fed base rounds whole = told_coming nothing_told base rounds whole
 
 pub record IsToldArriving (k : KeptSeen) (r : ArrivalSeen) (d : Description) : Type 0 where
   pub rounds : ℕ
@@ -97,9 +97,12 @@ lost_bits [] = 0
 lost_bits (b ∷ bs) = number_of b + 2 * lost_bits bs
 
 -- What was asked for when it was made, or let arrive.
-abbrev pub flags_of : Option (List Bool) → ℕ
-flags_of None = 0
-flags_of (Some pages) = LOG
+abbrev pub log_flag : Option (List Bool) → ℕ
+log_flag None = 0
+log_flag (Some pages) = LOG
+
+abbrev pub flags_of : Bool → Option (List Bool) → ℕ
+flags_of large log = if large then LARGE + log_flag log else log_flag log
 
 -- By its state, without what each has: its images, which disks were lost, and what was asked for.
 abbrev pub IsToldState : KeptSeen → State → Description → Type 0
@@ -111,7 +114,7 @@ IsToldState k (Lent x) d = d ≡ told_lent x
 pub record IsDescribed (k : KeptSeen) (d : Description) : Type 0 where
   pub told : Description
   pub by_state : IsToldState k k.state told
-  pub is : d ≡ record told { images = min (images_in k) (2 ^ 32 - 1); lost = lost_bits k.lost; flags = flags_of k.written }
+  pub is : d ≡ record told { images = min (images_in k) (2 ^ 32 - 1); lost = lost_bits k.lost; flags = flags_of k.large k.written }
 
 -- The description of a handle.
 abbrev pub Describes : Option KeptSeen → Description → Type 0

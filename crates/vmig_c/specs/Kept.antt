@@ -1,7 +1,7 @@
 -- The contents of a handle, as contracts see them.
-use Rattle.std.specs.Prelude.{◌≡◌, ℕ, Bool, true, false, List, [], Option, Some, None, if◌then◌else◌, length, replicate, slice_index_or}
-use Rattle.guestmem.specs.declared.limits.TheConstants.{PAGES_MAX}
-use Rattle.c_machine.specs.Made.{asks_log}
+use Rattle.std.specs.Prelude.{◌≡◌, ◌≤◌, ◌*◌, ◌/◌, ℕ, Bool, true, false, List, [], Option, Some, None, if◌then◌else◌, length, max, min, replicate, slice_index_or}
+use Rattle.guestmem.specs.declared.limits.TheConstants.{PAGE_SIZE, PAGES_MAX}
+use Rattle.c_machine.specs.Made.{asks_large, asks_log, limits_for}
 use Rattle.machine.specs.Parked.{ParkedSeen}
 use Rattle.machine.specs.Seen.{Seen}
 use Rattle.machine.specs.declared.machine.TheConstants.{DEVICES_MAX}
@@ -37,13 +37,16 @@ pub data State : Type 0 where
   Lent : LoanSeen → State
 
 -- Whether its disks lie in memory of the caller, in which state it is, whether what arrives is let in, how many bytes of it were taken, and
--- for each device whether its disk was lost, and for each page whether it is to be handed out as written, if the caller asks for these.
+-- for each device whether its disk was lost, whether it may be as large as can be, for how many pages its log, if it has one, has a place,
+-- and for each page whether it is to be handed out as written, if the caller asks for these.
 pub record KeptSeen : Type 0 where
   pub is_mapped : Bool
   pub state : State
   pub admission : AdmissionSeen
   pub fed : ℕ
   pub lost : List Bool
+  pub large : Bool
+  pub places : ℕ
   pub written : Option (List Bool)
 
 -- No disk was lost.
@@ -54,24 +57,33 @@ none_lost = replicate DEVICES_MAX false
 abbrev pub is_lost : KeptSeen → ℕ → Bool
 is_lost k dev = slice_index_or k.lost dev false
 
--- A log has a place for each page that RAM may have. At first none of them is in it.
-abbrev pub FitsLog : Option (List Bool) → Type 0
-FitsLog None = Unit {0}
-FitsLog (Some pages) = length pages ≡ PAGES_MAX
+-- A log has a place for each page of so many bytes of RAM.
+abbrev pub FitsLog : Option (List Bool) → ℕ → Type 0
+FitsLog None bytes = Unit {0}
+FitsLog (Some pages) bytes = bytes ≤ PAGE_SIZE * length pages
 
-abbrev pub first_log : ℕ → Option (List Bool)
-first_log flags = if asks_log flags then Some (replicate PAGES_MAX false) else None
+-- For how many pages a log has a place from the first, of a machine whose RAM has so many bytes, or no more where it arrives: for these,
+-- as far as the flags allow them, and for no fewer than a machine may have without flags.
+abbrev pub places_for : ℕ → ℕ → ℕ
+places_for flags bytes = max (min (bytes / PAGE_SIZE) (limits_for flags).pages) PAGES_MAX
 
--- As it is at first: whose memory its disks lie in, none of them is lost, nothing was fed, and what the flags ask for.
-pub record IsNew (mapped : Bool) (flags : ℕ) (k : KeptSeen) : Type 0 where
+-- At first none of them is in it.
+abbrev pub first_log : ℕ → ℕ → Option (List Bool)
+first_log flags places = if asks_log flags then Some (replicate places false) else None
+
+-- As it is at first: whose memory its disks lie in, none of them is lost, nothing was fed, and what the flags ask for, with a log of so
+-- many places.
+pub record IsNew (mapped : Bool) (flags places : ℕ) (k : KeptSeen) : Type 0 where
   pub is_mapped : k.is_mapped ≡ mapped
   pub none_lost : k.lost ≡ none_lost
   pub none_fed : k.fed ≡ 0
-  pub log : k.written ≡ first_log flags
+  pub large : k.large ≡ asks_large flags
+  pub places_are : k.places ≡ places
+  pub log : k.written ≡ first_log flags places
 
 abbrev pub admission_of : Admission → AdmissionSeen
 admission_of (admissions.Granted pages shapes) = Granted pages shapes.items
-admission_of (admissions.Pending limits expected held) = Pending limits expected.items held.items
+admission_of (admissions.Pending allowed expected held) = Pending allowed expected.items held.items
 admission_of (admissions.Denied status) = Denied status
 
 abbrev pub loan_of : {D : Type 0} → Loan D → LoanSeen
@@ -89,13 +101,20 @@ held_state (held.Own c) = state_in c
 held_state (held.Mapped c) = state_in c
 held_state (held.Arriving a) = Arriving a
 
+-- The bytes of RAM that its log has to have places for. Of what arrives that is what is allowed.
+abbrev pub ram_in : ℕ → State → ℕ
+ram_in places (Still m) = length m.memory.bytes
+ram_in places (Moving l) = length l.machine.memory.bytes
+ram_in places (Lent x) = PAGE_SIZE * length (parked_in x).versions
+ram_in places (Arriving r) = PAGE_SIZE * places
+
 abbrev pub are_mapped : Held → Bool
 are_mapped (held.Own c) = false
 are_mapped (held.Mapped c) = true
 are_mapped (held.Arriving a) = is_over a
 
 abbrev pub kept_with : Held → AdmissionSeen → ℕ → List Bool → KeptSeen
-kept_with held admission fed lost = record { is_mapped = are_mapped held; state = held_state held; admission = admission; fed = fed; lost = lost; written = None }
+kept_with held admission fed lost = record { is_mapped = are_mapped held; state = held_state held; admission = admission; fed = fed; lost = lost; large = false; places = 0; written = None }
 
 -- Where no stream arrives none was asked for.
 abbrev pub unasked : AdmissionSeen

@@ -2,6 +2,7 @@ pub mod Admission
 pub mod AdmissionSeen
 pub mod Announced
 pub mod ArrivalSeen
+pub mod ArrivedLogs
 pub mod Arriving
 pub mod Awaited
 pub mod Described

@@ -1,16 +1,20 @@
 -- The machine that a setup asks for, in a handle.
-use Rattle.std.specs.Prelude.{◌≡◌, ℕ, Option}
+use Rattle.std.specs.Prelude.{◌≡◌, ℕ, Option, length}
 use Rattle.machine.specs.Seen.{Seen}
-use Rattle.vmig_c.specs.Kept.{IsNew, KeptSeen, Still}
-use Rattle.c_machine.specs.Made.{IsFirstOf, IsUntaken, has_images, has_ram, ram_left, setup_refusal_of}
+use Rattle.vmig_c.specs.Kept.{IsNew, KeptSeen, Still, places_for}
+use Rattle.c_machine.specs.Made.{IsFirstOf, IsUntaken, has_images, has_ram, ram_bytes, ram_left, setup_refusal_of}
 use Rattle.c_machine.specs.Mapping.{AreTaken}
 use Rattle.vmig_c.specs.Filled.{Fills}
 use Rattle.c_machine.specs.declared.setup.Setup.{Setup}
 
+-- A log of it has a place for each of its pages.
+abbrev pub places_of : Setup → ℕ
+places_of s = places_for s.flags (ram_bytes s.pages (length s.ram.content))
+
 -- The new machine. It is not being migrated.
 pub record IsMachineOf (s : Setup) (k : KeptSeen) : Type 0 where
   pub machine : Seen
-  pub new : IsNew (has_images s) s.flags k
+  pub new : IsNew (has_images s) s.flags (places_of s) k
   pub is_idle : k.state ≡ Still machine
   pub is_first : IsFirstOf s machine
 

@@ -33,7 +33,7 @@ pub(crate) fn feed(alloc: Global, kept: &mut Kept, piece: &[u8]) -> u32
     status
 }
 
-#[tactic(auto, using(crate::proofs::Arrivals::fed))]
+#[tactic(auto, using(crate::proofs::Arrivals::fed, crate::proofs::SamePages::coming))]
 fn fed(alloc: Global, kept: &mut Kept, piece: &[u8]) -> u32
     ensures feeds { FeedsKept kept.old.admission kept.old.state piece.now result kept.new.admission kept.new.state }
     ensures kind { kept.new ≡ record kept.old { state = kept.new.state; admission = kept.new.admission } }
@@ -82,9 +82,10 @@ fn taken_status(whole: bool) -> u32
 }
 
 /// All pieces have arrived.
+#[tactic(auto, using(crate::proofs::SamePages::arrived_fits, crate::proofs::SamePages::not_arrived_fits))]
 pub(crate) fn finish(kept: &mut Kept) -> u32
     ensures finishes { FinishesKept kept.old.admission kept.old.state result kept.new.admission kept.new.state }
-    ensures log { kept.new.written ≡ log_of_arrived kept.old kept.new.state }
+    ensures log { kept.new.written ≡ log_of_arrived kept.old result kept.new.state }
     ensures kind { kept.new ≡ record kept.old { state = kept.new.state; admission = kept.new.admission; written = kept.new.written } }
 {
     let (next, status) = by_state!(&mut kept.held;
@@ -98,11 +99,12 @@ pub(crate) fn finish(kept: &mut Kept) -> u32
             finished(mem::replace(arrival, Arrival::failed()))
         },
     );
-    keep_fitting(&mut kept.output.written, kept.asked.places, ram_len(&next));
-    drop(mem::replace(&mut kept.held, next));
-    if status != DONE {
+    if status == DONE {
+        keep_fitting(&mut kept.output.written, kept.asked.places, ram_len(&next));
+    } else {
         kept.admission = Admission::Denied(status);
     }
+    drop(mem::replace(&mut kept.held, next));
     status
 }
 
@@ -118,8 +120,8 @@ fn ram_len(held: &Held) -> u64
     )
 }
 
-/// Drops the log, if it has no place for each page of so many bytes. What was let in has no more pages than the log has places, so that
-/// is never.
+/// Drops the log, if it has no place for each page of so many bytes. That is never (`laws::arrived_keeps_log`): what is let in has no more
+/// pages than it has places. No clause of a receiver tells its machine's pages, so here it is looked at.
 fn keep_fitting(log: &mut Option<PageLog>, places: u32, bytes: u64)
     ensures kept { log.new ≡ fitting places bytes log.old }
 {

@@ -43,7 +43,7 @@ pub(crate) fn make(alloc: Global, setup: &mut Setup, machine: &mut Handle) -> u3
 }
 
 /// The machine in a box. All was tested, so it fails only if it is out of memory: then slot and images are as they were.
-#[tactic(auto, using(c_machine::proofs::MadeOf::fits, crate::proofs::PageLogs::first_fits))]
+#[tactic(auto, using(c_machine::proofs::MadeOf::fits, crate::proofs::PageLogs::made_fits))]
 fn made(alloc: Global, setup: &mut Setup) -> Result<Box<Kept>, NoMemory>
     requires { setup_refusal_of setup.old ≡ None }
     ensures made { IfOk result (λ k. IsMachineOf setup.old k.value) }

@@ -48,7 +48,7 @@ pub(crate) fn arrive(alloc: Global, arrival: &mut Expected, machine: &mut Handle
 }
 
 /// An arrival in a box. What it names was checked before, so its only error is out of memory: then nothing is taken.
-#[tactic(auto, using(crate::proofs::PageLogs::first_fits))]
+#[tactic(auto, using(crate::proofs::PageLogs::first_fits, crate::proofs::Allowing::is_ram_of))]
 pub(crate) fn awaited(alloc: Global, expected: &mut Expected) -> Result<Box<Kept>, NoMemory>
     requires { arrival_refusal_of expected.old ≡ None }
     ensures expected { IfOk result (λ k. IsArrivalOf expected.old k.value) }
@@ -119,6 +119,7 @@ fn allowed(expected: &mut Expected) -> Allowed
     ensures same { expected.new ≡ expected.old }
     ensures allowed { result ≡ allowed_of expected.old }
 {
+    let limits = limits_for(expected.flags);
     let pages = if expected.ram.is_none() {
         expected.most_pages
     } else {
@@ -130,7 +131,7 @@ fn allowed(expected: &mut Expected) -> Allowed
         u64::MAX
     };
     Allowed {
-        limits: limits_for(expected.flags),
+        limits,
         pages,
         sectors,
         base: expected.base,

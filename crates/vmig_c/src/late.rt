@@ -43,7 +43,7 @@ pub(crate) fn mark(alloc: Global, kept: &mut Kept, pages: &Pages) -> u32
 }
 
 /// Names the pages with these numbers.
-#[tactic(auto, using(crate::proofs::LatePages::pages_below_still, crate::proofs::LatePages::pages_below_moving, crate::proofs::LatePages::marked_still, crate::proofs::LatePages::marked_moving))]
+#[tactic(auto, using(crate::proofs::LatePages::pages_below_still, crate::proofs::LatePages::pages_below_moving, crate::proofs::LatePages::marked_still, crate::proofs::LatePages::marked_moving, crate::proofs::SamePages::marked, crate::proofs::SamePages::marked_moving))]
 fn mark_listed(kept: &mut Kept, pages: &[u32])
     requires here { is_away kept.old.state ≡ false }
     requires are { are_pages (length (memory_in kept.old.state).versions) pages.now ≡ true }

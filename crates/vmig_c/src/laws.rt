@@ -1,5 +1,6 @@
 //! Laws over the definitions alone. These functions do nothing: their contracts are the laws.
 
+ghost use Rattle.vmig_c.specs.ArrivedLogs.{ArrivedKeepsLog};
 ghost use Rattle.vmig_c.specs.Durable.{FailedIsLost, FailedMirrors, FailedStaysPlain, RefusedFailsNothing};
 ghost use Rattle.vmig_c.specs.Mirror.{AppliedMirrors, PulledMirrors, PushedMirrors, UnseenMirrors};
 ghost use Rattle.c_machine.specs.Plain.{PlainStays, RefusedChangesNothing};
@@ -113,6 +114,11 @@ pub fn stopped_is_whole()
 /// The machine that arrives from these bytes, fed in any pieces, is the one that was stopped.
 pub fn arrived_is_sent()
     ensures { ArrivedIsSent }
+{}
+
+/// The log of a machine that arrives is not dropped.
+pub fn arrived_keeps_log()
+    ensures { ArrivedKeepsLog }
 {}
 
 /// The memory of a caller that has seen no page is a mirror.

@@ -7,11 +7,13 @@
 //! RAM in memory of the caller is the caller's again after `vmig_free` and `vmig_release`, in each state. No clause says what it
 //! holds then, since no contract sees a machine that was freed; `examples/c/lent.c` tests it.
 
-ghost use Rattle.std.specs.Prelude.{◌≡◌, ◌≤◌, ◌*◌, [], None, IfErr, IfOk, length, true};
+ghost use Rattle.std.specs.Prelude.{◌≡◌, ◌≤◌, ◌*◌, ℕ, [], None, IfErr, IfOk, length, true};
+ghost use Rattle.guestmem.specs.Memory.{IsMemory};
+ghost use Rattle.machine.specs.Parked.{IsParked};
 ghost use Rattle.guestmem.specs.declared.limits.TheConstants.{PAGE_SIZE, PAGES_GREATEST};
 ghost use Rattle.region.specs.Empty.{empty_slot};
 ghost use Rattle.region.specs.Slot.{region_of};
-ghost use Rattle.vmig_c.specs.Kept.{are_mapped, held_state, loan_of, parked_in, state_in};
+ghost use Rattle.vmig_c.specs.Kept.{are_mapped, held_state, loan_of, parked_in, ram_in, state_in};
 ghost use Rattle.vmig_c.specs.declared.kept.Contents.TheVariants as contents;
 ghost use Rattle.vmig_c.specs.Lent.{ComesBack, HasComeBack, IsBackWith, IsLiveLoan, IsReturnable, LendsIfOver, LendsKept, back_refusal_of, lend_refusal_in, lend_refusal_of, lent_pages, return_refusal_of};
 ghost use Rattle.c_machine.specs.Named.{are_pages};
@@ -25,12 +27,13 @@ use c_machine::status::{
 };
 use c_machine::{Pages, put_back, taken_ram};
 use guestmem::{NoLog, PAGE_SIZE};
-use machine::Disk;
+use machine::{Disk, Machine, Parked};
 use region::{Region, Slot};
 use std::alloc::Global;
 use std::mem;
 
 /// Lends the RAM of a machine: it goes into the slot, which has to be free. It takes no memory.
+#[tactic(auto, using(crate::proofs::SamePages::same_ram))]
 pub(crate) fn lend(kept: &mut Kept, ram: &mut Slot) -> u32
     ensures lends { LendsKept kept.old.state ram.old result ram.new kept.new.state }
     ensures kind { kept.new ≡ record kept.old { state = kept.new.state } }
@@ -73,17 +76,20 @@ fn slot_refusal(stopped: bool, ram: &mut Slot) -> Option<u32>
 fn lent(old: Held, ram: &mut Slot) -> (Held, u32)
     requires { lend_refusal_of (held_state old) (length ram.old.content) ≡ None }
     ensures lends { LendsIfOver (held_state old) ram.old result.1 ram.new (held_state result.0) }
+    ensures ram { (places : ℕ) → ram_in places (held_state result.0) ≡ ram_in places (held_state old) }
     ensures kind { are_mapped result.0 ≡ are_mapped old }
 {
     turned!(old; contents => lent_in(contents, ram))
 }
 
+#[tactic(auto, using(crate::proofs::SamePages::lent_still, crate::proofs::SamePages::lent_moving))]
 fn lent_in<D: Disk>(old: Contents<D>, ram: &mut Slot) -> (Contents<D>, u32)
     requires { lend_refusal_of (state_in old) (length ram.old.content) ≡ None }
-    ensures { LendsIfOver (state_in old) ram.old result.1 ram.new (state_in result.0) }
+    ensures lends { LendsIfOver (state_in old) ram.old result.1 ram.new (state_in result.0) }
+    ensures ram { (places : ℕ) → ram_in places (state_in result.0) ≡ ram_in places (state_in old) }
 {
     match old {
-        Contents::Still(machine) => match machine.lend() {
+        Contents::Still(machine) => match lent_still(machine) {
             Ok((region, parked)) => (lent_as(Loan::Still(parked), region, ram), DONE),
             Err(machine) => (Contents::Still(machine), NOT_YOURS),
         },
@@ -93,6 +99,17 @@ fn lent_in<D: Disk>(old: Contents<D>, ram: &mut Slot) -> (Contents<D>, u32)
         },
         Contents::Lent(loan) => (Contents::Lent(loan), LENT),
     }
+}
+
+/// Lends the RAM of a machine that is not being migrated.
+fn lent_still<D: Disk>(machine: Machine<D>) -> Result<(Region, Parked<D>), Machine<D>>
+    ensures lent { IfOk result (λ r. IsParked machine r.0 r.1) }
+    ensures sound { IfOk result (λ r. IsMemory machine.memory) }
+    ensures own { IfErr result (λ m. machine.memory.place ≡ None) }
+    ensures same { IfErr result (λ m. m ≡ machine) }
+{
+    machine.ram().recall();
+    machine.lend()
 }
 
 /// Lends the RAM of a machine that is being migrated.
@@ -185,6 +202,7 @@ fn pages_out(kept: &Kept) -> usize
 }
 
 /// The machine takes its RAM back.
+#[tactic(auto, using(crate::proofs::SamePages::came_back))]
 fn come_back(kept: &mut Kept, ram: &mut Slot, pages: &[u32])
     requires { IsReturnable kept.old.state (length ram.old.content) pages.now }
     ensures back { HasComeBack kept.old.state ram.old pages.now 0 ram.new kept.new.state }

@@ -37,7 +37,10 @@
 //! - `vmig_mark` names pages later than RAM came back: each is taken for written whole, with the bytes that lie there (`specs/Late`). By which
 //!   pages a machine that is being migrated is behind its history the laws say; a round and a stop want none (`specs/Sent`).
 //! - Where its struct asks for a log, a step, a write of RAM and a push are told to it, each page that they wrote into and no other, and
-//!   `vmig_written` hands these out from the least on, each once (`specs/HandedOut`). No other call changes it.
+//!   `vmig_written` hands these out from the least on, each once (`specs/HandedOut`). No other call changes it. It has a place for each
+//!   page from the first, of a machine that arrives for each that is allowed: that is an invariant of what a handle has (`kept`).
+//! - With the flag LARGE a machine may be as large as its stream can tell. Without it the limits are the usual ones, made or arriving: a
+//!   machine beyond them is refused at the same place of its struct, or at the same byte of its stream.
 //! - The caller's part is C's: pointers and counts name memory as the header says.
 //!
 //! # Why it is so

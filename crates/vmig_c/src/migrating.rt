@@ -41,6 +41,7 @@ pub struct SendLeft {
 }
 
 /// Begins the migration of a machine that is not being migrated.
+#[tactic(auto, using(crate::proofs::SamePages::begun))]
 pub(crate) fn begin(alloc: Global, kept: &mut Kept) -> u32
     ensures begins { BeginsKept kept.old.state result kept.new.state }
     ensures kind { kept.new ≡ record kept.old { state = kept.new.state } }
@@ -113,7 +114,7 @@ fn begun_again<D: Disk>(live: Moving<D>) -> (Moving<D>, u32)
 }
 
 /// Sends at most `most` items that are due.
-#[tactic(auto, using(crate::proofs::OnHandle::by_still, crate::proofs::OnHandle::by_moving))]
+#[tactic(auto, using(crate::proofs::OnHandle::by_still, crate::proofs::OnHandle::by_moving, crate::proofs::SamePages::sent))]
 pub(crate) fn send_some(kept: &mut Kept, most: u32) -> u32
     ensures sends { SendsKept kept.old.state most result kept.new.state }
     ensures kind { kept.new ≡ record kept.old { state = kept.new.state } }
@@ -169,7 +170,7 @@ fn send_refusal(phase: Phase) -> Option<u32>
 }
 
 /// Ends a round.
-#[tactic(auto, using(crate::proofs::OnHandle::by_still, crate::proofs::OnHandle::by_moving))]
+#[tactic(auto, using(crate::proofs::OnHandle::by_still, crate::proofs::OnHandle::by_moving, crate::proofs::SamePages::ended))]
 pub(crate) fn send_round(kept: &mut Kept) -> u32
     ensures ends { EndsKept kept.old.state result kept.new.state }
     ensures kind { kept.new ≡ record kept.old { state = kept.new.state } }
@@ -193,7 +194,7 @@ fn round_status<D: Disk>(live: &mut Moving<D>) -> u32
 }
 
 /// Sends what is left, and closes the stream.
-#[tactic(auto, using(crate::proofs::OnHandle::by_still, crate::proofs::OnHandle::by_moving))]
+#[tactic(auto, using(crate::proofs::OnHandle::by_still, crate::proofs::OnHandle::by_moving, crate::proofs::SamePages::stopped))]
 pub(crate) fn stop(kept: &mut Kept, pages: &mut u64, sectors: &mut u64) -> u32
     ensures stops { StopsKept kept.old.state result pages.new pages.old sectors.new sectors.old kept.new.state }
     ensures kind { kept.new ≡ record kept.old { state = kept.new.state } }
@@ -225,6 +226,7 @@ fn stop_status<D: Disk>(live: &mut Moving<D>, pages: &mut u64, sectors: &mut u64
 }
 
 /// Ends the migration of a machine.
+#[tactic(auto, using(crate::proofs::SamePages::aborted))]
 pub(crate) fn abort(kept: &mut Kept) -> u32
     ensures aborts { AbortsKept kept.old.state result kept.new.state }
     ensures kind { kept.new ≡ record kept.old { state = kept.new.state } }
@@ -293,7 +295,7 @@ fn left_status(items: Left, stop_bytes: u64, left: &mut SendLeft) -> u32
 }
 
 /// Takes the first of the bytes that wait into the front of the buffer.
-#[tactic(auto, using(crate::proofs::Migration::still_takes, crate::proofs::Migration::moving_takes))]
+#[tactic(auto, using(crate::proofs::Migration::still_takes, crate::proofs::Migration::moving_takes, crate::proofs::SamePages::taken, crate::proofs::SamePages::taken_lent))]
 pub(crate) fn take(kept: &mut Kept, buf: &mut [u8], got: &mut usize) -> u32
     ensures takes { TakesKept kept.old.state result got.new got.old buf.old buf.new kept.new.state }
     ensures kind { kept.new ≡ record kept.old { state = kept.new.state } }

@@ -19,7 +19,7 @@ use std::alloc::Global;
 use wire::WriteSink;
 
 /// Saves the contents of a handle, if they are a machine that is not being sent.
-#[tactic(auto, using(crate::proofs::OnHandle::by_still, crate::proofs::OnHandle::by_moving))]
+#[tactic(auto, using(crate::proofs::OnHandle::by_still, crate::proofs::OnHandle::by_moving, crate::proofs::SamePages::saved))]
 pub(crate) fn save_kept(alloc: Global, kept: &mut Kept, buf: &mut [u8], len: &mut usize) -> u32
     ensures saves { SavesKept kept.old.state result len.new len.old buf.old buf.new kept.new.state }
     ensures kind { kept.new ≡ record kept.old { state = kept.new.state } }

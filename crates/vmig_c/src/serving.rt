@@ -19,7 +19,7 @@ use machine::{Disk, Machine, PageLog};
 const NO_BYTE: u32 = 256;
 
 /// The driver reads a register.
-#[tactic(auto, using(crate::proofs::OnHandle::each_still, crate::proofs::OnHandle::each_moving, crate::proofs::OnHandle::each_still_lent, crate::proofs::OnHandle::each_moving_lent, crate::proofs::ByKept::told, crate::proofs::ByKept::served, crate::proofs::ByKept::few_told, crate::proofs::ByParked::told, crate::proofs::ByParked::served, crate::proofs::ByParked::few_told))]
+#[tactic(auto, using(crate::proofs::OnHandle::each_still, crate::proofs::OnHandle::each_moving, crate::proofs::OnHandle::each_still_lent, crate::proofs::OnHandle::each_moving_lent, crate::proofs::ByKept::told, crate::proofs::ByKept::served, crate::proofs::ByKept::few_told, crate::proofs::ByParked::told, crate::proofs::ByParked::served, crate::proofs::ByParked::few_told, crate::proofs::SamePages::applied, crate::proofs::SamePages::served, crate::proofs::SamePages::applied_lent, crate::proofs::SamePages::served_lent))]
 pub(crate) fn read_register(kept: &mut Kept, dev: u8, off: u32, width: u8, value: &mut u32) -> u32
     ensures told { Tells kept.old.state (events.RegRead dev off width) result value.new value.old kept.new.state }
     ensures kind { kept.new ≡ record kept.old { state = kept.new.state } }
@@ -59,7 +59,7 @@ pub(crate) fn write_register(
 }
 
 /// As above; `out` becomes the byte, and stays where none comes out.
-#[tactic(auto, using(crate::proofs::OnHandle::each_still, crate::proofs::OnHandle::each_moving, crate::proofs::OnHandle::each_still_lent, crate::proofs::OnHandle::each_moving_lent, crate::proofs::ByKept::told, crate::proofs::ByKept::served, crate::proofs::ByKept::few_told, crate::proofs::ByParked::told, crate::proofs::ByParked::served, crate::proofs::ByParked::few_told))]
+#[tactic(auto, using(crate::proofs::OnHandle::each_still, crate::proofs::OnHandle::each_moving, crate::proofs::OnHandle::each_still_lent, crate::proofs::OnHandle::each_moving_lent, crate::proofs::ByKept::told, crate::proofs::ByKept::served, crate::proofs::ByKept::few_told, crate::proofs::ByParked::told, crate::proofs::ByParked::served, crate::proofs::ByParked::few_told, crate::proofs::SamePages::applied, crate::proofs::SamePages::served, crate::proofs::SamePages::applied_lent, crate::proofs::SamePages::served_lent))]
 pub(crate) fn written(
     kept: &mut Kept,
     dev: u8,
@@ -163,7 +163,7 @@ pub(crate) fn input(kept: &mut Kept, dev: u8, bytes: &[u8], count: &mut usize) -
     status
 }
 
-#[tactic(auto, using(crate::proofs::OnHandle::each_still, crate::proofs::OnHandle::each_moving, crate::proofs::OnHandle::each_still_lent, crate::proofs::OnHandle::each_moving_lent, crate::proofs::ByKept::told, crate::proofs::ByKept::served, crate::proofs::ByKept::few_told, crate::proofs::ByParked::told, crate::proofs::ByParked::served, crate::proofs::ByParked::few_told))]
+#[tactic(auto, using(crate::proofs::OnHandle::each_still, crate::proofs::OnHandle::each_moving, crate::proofs::OnHandle::each_still_lent, crate::proofs::OnHandle::each_moving_lent, crate::proofs::ByKept::told, crate::proofs::ByKept::served, crate::proofs::ByKept::few_told, crate::proofs::ByParked::told, crate::proofs::ByParked::served, crate::proofs::ByParked::few_told, crate::proofs::SamePages::applied, crate::proofs::SamePages::served, crate::proofs::SamePages::applied_lent, crate::proofs::SamePages::served_lent))]
 fn put_in(kept: &mut Kept, dev: u8, bytes: &[u8], accepted: &mut u32) -> u32
     ensures told { Tells kept.old.state (events.Input dev bytes.now) result accepted.new accepted.old kept.new.state }
     ensures kind { kept.new ≡ record kept.old { state = kept.new.state } }
@@ -183,7 +183,7 @@ fn put_in(kept: &mut Kept, dev: u8, bytes: &[u8], accepted: &mut u32) -> u32
 }
 
 /// The host sets the size of a console.
-#[tactic(auto, using(crate::proofs::OnHandle::each_still, crate::proofs::OnHandle::each_moving, crate::proofs::OnHandle::each_still_lent, crate::proofs::OnHandle::each_moving_lent, crate::proofs::ByKept::told_so, crate::proofs::ByKept::resized, crate::proofs::ByKept::few_told, crate::proofs::ByParked::told_so, crate::proofs::ByParked::resized, crate::proofs::ByParked::few_told))]
+#[tactic(auto, using(crate::proofs::OnHandle::each_still, crate::proofs::OnHandle::each_moving, crate::proofs::OnHandle::each_still_lent, crate::proofs::OnHandle::each_moving_lent, crate::proofs::ByKept::told_so, crate::proofs::ByKept::resized, crate::proofs::ByKept::few_told, crate::proofs::ByParked::told_so, crate::proofs::ByParked::resized, crate::proofs::ByParked::few_told, crate::proofs::SamePages::applied, crate::proofs::SamePages::served, crate::proofs::SamePages::applied_lent, crate::proofs::SamePages::served_lent))]
 pub(crate) fn resize(kept: &mut Kept, dev: u8, cols: u16, rows: u16) -> u32
     ensures told { TellsSo kept.old.state (events.Resize dev cols rows) result kept.new.state }
     ensures kind { kept.new ≡ record kept.old { state = kept.new.state } }
@@ -203,7 +203,7 @@ pub(crate) fn resize(kept: &mut Kept, dev: u8, cols: u16, rows: u16) -> u32
 }
 
 /// The host drops what it put in and the guest has not taken.
-#[tactic(auto, using(crate::proofs::OnHandle::each_still, crate::proofs::OnHandle::each_moving, crate::proofs::OnHandle::each_still_lent, crate::proofs::OnHandle::each_moving_lent, crate::proofs::ByKept::told_so, crate::proofs::ByKept::dropped, crate::proofs::ByKept::few_told, crate::proofs::ByParked::told_so, crate::proofs::ByParked::dropped, crate::proofs::ByParked::few_told))]
+#[tactic(auto, using(crate::proofs::OnHandle::each_still, crate::proofs::OnHandle::each_moving, crate::proofs::OnHandle::each_still_lent, crate::proofs::OnHandle::each_moving_lent, crate::proofs::ByKept::told_so, crate::proofs::ByKept::dropped, crate::proofs::ByKept::few_told, crate::proofs::ByParked::told_so, crate::proofs::ByParked::dropped, crate::proofs::ByParked::few_told, crate::proofs::SamePages::applied, crate::proofs::SamePages::served, crate::proofs::SamePages::applied_lent, crate::proofs::SamePages::served_lent))]
 pub(crate) fn drop_input(kept: &mut Kept, dev: u8) -> u32
     ensures told { TellsSo kept.old.state (events.Drop dev) result kept.new.state }
     ensures kind { kept.new ≡ record kept.old { state = kept.new.state } }

@@ -103,7 +103,7 @@ fn kind_refusal(kind: &Kind) -> Option<u32>
 }
 
 /// In place of a step that makes a flush, of the machine of a handle: makes it as a step whose disk failed.
-#[tactic(auto, using(crate::proofs::OnHandle::by_still, crate::proofs::OnHandle::by_moving))]
+#[tactic(auto, using(crate::proofs::OnHandle::by_still, crate::proofs::OnHandle::by_moving, crate::proofs::SamePages::failed, crate::proofs::SamePages::failed_moving))]
 pub(crate) fn fail_kept(kept: &mut Kept, dev: u8, pick: u8) -> u32
     ensures fails { FailsKept kept.old.state dev pick result kept.new.state }
     ensures kind { kept.new ≡ record kept.old { state = kept.new.state } }

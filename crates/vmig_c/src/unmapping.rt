@@ -101,6 +101,8 @@ pub(crate) fn held_of(kept: &mut Kept) -> Held
     ensures state { held_state result ≡ kept.old.state }
     ensures kind { are_mapped result ≡ kept.old.is_mapped }
 {
+    // Its log goes with it.
+    kept.output.written = None;
     taken_out(&mut kept.held)
 }
 

@@ -10,5 +10,5 @@ invariant-loop-n g l = record {
   bytes : length l.live.machine.memory.bytes ≡ length l.fn.live.machine.memory.bytes;
   versions : length l.live.machine.memory.versions ≡ length l.fn.live.machine.memory.versions;
   going : is_closed l.live.phase ≡ false;
-  fits : FitsLog l.log;
+  fits : FitsLog l.log (length l.live.machine.memory.bytes);
 }

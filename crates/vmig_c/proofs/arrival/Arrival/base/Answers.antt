@@ -5,4 +5,4 @@ use Rattle.vmig_c.proofs.Awaited.{based_at}
 use Rattle.vmig_c.proofs.arrival.Arrival.base.Goals as goal
 
 pub returns-in-Head : goal.returns-in-Head
-returns-in-Head c = subst (λ (a : ArrivalSeen). c.in-Head.base ≡ awaited_base a) (sym (ap awaited_by c.in-Head.is) ∙ c.self.view_is) (based_at c.in-Head.base c.in-Head.field-1)
+returns-in-Head c = subst (λ (a : ArrivalSeen). c.in-Head.terms.base ≡ awaited_base a) (sym (ap awaited_by c.in-Head.is) ∙ c.self.view_is) (based_at c.in-Head.terms c.in-Head.field-1)

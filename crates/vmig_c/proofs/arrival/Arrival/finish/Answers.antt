@@ -1,7 +1,9 @@
 use Rattle.std.proofs.Common.{◌≡◌, ap, sym, subst, ◌∙◌}
 use Rattle.receiver.specs.declared.recv_error.RecvError.TheVariants.{Truncated}
+use Rattle.receiver.specs.Opened.{told_by}
+use Rattle.receiver.specs.Receiving.{place_aside}
 use Rattle.vmig_c.specs.ArrivalSeen.{ArrivalSeen, AtBody, Over}
-use Rattle.vmig_c.specs.Awaited.{AreSteady, HasArrived, IsClosed, IsComing, TellsEnd, awaited_by, place_for, terms_for}
+use Rattle.vmig_c.specs.Awaited.{AreSteady, HasArrived, IsClosed, IsComing, TellsEnd, awaited_by}
 use Rattle.vmig_c.specs.Headed.{HasNoHeader}
 use Rattle.vmig_c.proofs.Awaited.{arrived, head_ends}
 use Rattle.vmig_c.proofs.Landings.{arrived_over}
@@ -13,7 +15,7 @@ returns-in-Head-clause-refused c =
     let none : HasNoHeader c.in-Head.field-2.items = rw c.in-Head.is at coming in
     let view : awaited_by c.self.inside.progress ≡ c.args.self = c.self.view_is in
     let seen = sym (ap awaited_by c.in-Head.is) ∙ view in
-    subst (λ (a : ArrivalSeen). TellsEnd a Truncated × IsClosed a c.failed.result) seen (head_ends (terms_for c.in-Head.field-0 c.in-Head.field-1) (place_for c.in-Head.field-1) c.in-Head.field-2.items none, c.failed.ensures)
+    subst (λ (a : ArrivalSeen). TellsEnd a Truncated × IsClosed a c.failed.result) seen (head_ends (told_by c.in-Head.field-0 c.in-Head.field-1) (place_aside c.in-Head.field-1) c.in-Head.field-2.items none, c.failed.ensures)
 
 pub returns-in-Ok-clause-arrived : goal.returns-in-Ok-clause-arrived
 returns-in-Ok-clause-arrived c =
