@@ -76,8 +76,8 @@ static inline uint64_t resident_pages(void)
     return resident;
 }
 
-/* Whether pages that are read, and never written, take memory, as in some sandboxes: seen of some MiB, by more than a process may have
- * come by otherwise. */
+/* Whether pages that are read, and never written, take memory, as in some sandboxes, or the system does not say so: seen of some MiB, by more
+ * than a process may have come by otherwise. */
 static inline int takes_by_reading(void)
 {
     enum { PAGES_READ = 4096 };
@@ -92,12 +92,12 @@ static inline int takes_by_reading(void)
     return after - before > PAGES_READ / 2 && after > before;
 }
 
-/* Whether so many bytes of such memory may be read: reading them takes none, or there is as much. */
+/* Whether so many bytes of such memory may be read: reading them takes none, or the machine has twice as much. */
 static inline int may_be_read(uint64_t len)
 {
-    long pages = sysconf(_SC_AVPHYS_PAGES);
+    long pages = sysconf(_SC_PHYS_PAGES);
 
-    return !takes_by_reading() || (pages > 0 && (uint64_t)pages > len / PAGE + len / PAGE / 4);
+    return !takes_by_reading() || (pages > 0 && (uint64_t)pages >= 2 * len / PAGE);
 }
 
 #endif
