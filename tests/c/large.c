@@ -605,6 +605,7 @@ static void makes_and_serves(struct host *h, uint8_t *from)
 {
     h->room = from;
     make_one(h);
+    if (failures != 0) return;
     accesses(h);
     lay_out_all(h);
     across_the_edges(h);
@@ -637,8 +638,8 @@ int main(void)
     if (from == NULL || to == NULL) printf("large: not run: the system maps no 5 GiB without reserve\n");
     else {
         makes_and_serves(&host, from);
-        if (may_be_read(2 * RAM)) moves(&host, from, to);
-        else printf("large: the move is not run: pages that are only read may take memory here, which would be 10 GiB\n");
+        if (!may_be_read(2 * RAM)) printf("large: the move is not run: pages that are only read may take memory here, which would be 10 GiB\n");
+        else if (failures == 0) moves(&host, from, to);
         vmig_free(&host.machine);
     }
     unmap_unreserved(from, RAM);
