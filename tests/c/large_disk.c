@@ -179,6 +179,19 @@ static vmig_status let_arrive(uint8_t *image, uint32_t flags, vmig_machine *m)
     return vmig_arrive(&arrival, m);
 }
 
+/* An arrival that was fed the header, of which a mark and a bit for each sector are taken. Returns whether there was memory for them. */
+static int begins(uint8_t *image, vmig_machine *m)
+{
+    uint8_t header[64];
+    vmig_status status = let_arrive(image, VMIG_LARGE, m);
+
+    if (status == VMIG_OK) status = vmig_feed(m, header, write_header(header));
+    if (status == VMIG_NO_MEMORY || status == VMIG_STREAM_NO_MEMORY) return 0;
+    expect("its header", status, VMIG_OK);
+    expect("its sectors", description_of(m).shapes[0].sectors, SECTORS);
+    return 1;
+}
+
 /* Each sector's record comes, and is written to its place; then this record, or the end, which shows what did not come. */
 static void arrives(uint8_t *image, const uint8_t *last, size_t len, vmig_status wanted)
 {
@@ -187,9 +200,11 @@ static void arrives(uint8_t *image, const uint8_t *last, size_t len, vmig_status
     vmig_image back = VMIG_NO_IMAGE;
     size_t part;
 
-    expect("arrive", let_arrive(image, VMIG_LARGE, &m), VMIG_OK);
-    expect("its header", vmig_feed(&m, bytes, write_header(bytes)), VMIG_OK);
-    expect("its sectors", description_of(&m).shapes[0].sectors, SECTORS);
+    if (!begins(image, &m)) {
+        printf("large_disk: an arrival is not run: no memory for a bit and a mark for each sector\n");
+        vmig_free(&m);
+        return;
+    }
     for (size_t i = 0; i < COUNT; i++) {
         memset(image + NUMBERS[i] * SECTOR, 0xee, SECTOR);
         part = write_sector(bytes, NUMBERS[i]);

@@ -6,6 +6,7 @@
 #include <stdint.h>
 #include <stdio.h>
 #include <sys/mman.h>
+#include <unistd.h>
 
 /* The bytes of a page, and what is told where the system does not say how much was taken. */
 enum { PAGE = 4096 };
@@ -62,6 +63,41 @@ static inline uint64_t taken_pages(const uint8_t *at, size_t len)
     written = listed_pages(few, FEW);
     unmap_unreserved(few, FEW);
     return read == 0 && written == 1 ? listed_pages(at, len) : NOT_MEASURED;
+}
+
+/* How many pages of all its memory this process has, or NOT_MEASURED. */
+static inline uint64_t resident_pages(void)
+{
+    FILE *list = fopen("/proc/self/statm", "r");
+    uint64_t resident = NOT_MEASURED;
+
+    if (list != NULL && fscanf(list, "%*u %" SCNu64, &resident) != 1) resident = NOT_MEASURED;
+    if (list != NULL) fclose(list);
+    return resident;
+}
+
+/* Whether pages that are read, and never written, take memory, as in some sandboxes, or the system does not say so: seen of some MiB, by more
+ * than a process may have come by otherwise. */
+static inline int takes_by_reading(void)
+{
+    enum { PAGES_READ = 4096 };
+    size_t len = (size_t)PAGES_READ * PAGE;
+    volatile uint8_t *some = map_unreserved(len);
+    uint64_t before = resident_pages(), after;
+
+    if (some == NULL || before == NOT_MEASURED) return 1;
+    for (size_t i = 0; i < len; i += PAGE) (void)some[i];
+    after = resident_pages();
+    unmap_unreserved((uint8_t *)some, len);
+    return after - before > PAGES_READ / 2 && after > before;
+}
+
+/* Whether so many bytes of such memory may be read: reading them takes none, or the machine has twice as much. */
+static inline int may_be_read(uint64_t len)
+{
+    long pages = sysconf(_SC_PHYS_PAGES);
+
+    return !takes_by_reading() || (pages > 0 && (uint64_t)pages >= 2 * len / PAGE);
 }
 
 #endif
