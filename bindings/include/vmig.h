@@ -270,8 +270,8 @@ enum {
     /* Refused: what arrives. The arrival is over, and the handle waits for vmig_free or vmig_release. */
     VMIG_STREAM_BAD_MAGIC = 33,         /* it does not begin with "VMIG" */
     VMIG_STREAM_BAD_VERSION = 34,       /* a stream whose version is neither 1 nor 2 */
-    VMIG_STREAM_BAD_SHAPE = 35,         /* the machine that it announces is larger than any can be, or, where it arrives without
-                                         * VMIG_LARGE, than one without this flag */
+    VMIG_STREAM_BAD_SHAPE = 35,         /* it announces what no machine can be, or, to an arrival without VMIG_LARGE, what none
+                                         * without this flag can be */
     VMIG_STREAM_MISMATCH = 36,          /* at the header: not the shapes, images or pages of RAM that the arrival names; or RAM
                                          * from its base on would pass the last address */
     VMIG_STREAM_BAD_TAG = 37,           /* a tag that may not come there */
