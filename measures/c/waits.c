@@ -1,16 +1,16 @@
 /* What a guest waits for outside: the copies of a machine that is sent, and the turns of its devices. `waits CASE` does these, and prints how many
  * pages, sectors or turns they were; `count` counts the instructions of the calls. `waits times` prints the nanoseconds of processor time
- * of each. Without words it goes through all cases, and checks what each did, and that a copy digests nothing: the bytes of a page are
- * digested as they are taken, which takes twenty times as long as their copy. Measure with `CFLAGS=-O2`. */
+ * of each. Without words it goes through all cases, and checks what each did. It asserts nothing of time: `count` tells by instructions
+ * that a copy digests nothing. Measure with `CFLAGS=-O2`. */
 #define _DEFAULT_SOURCE
 #include <time.h>
 #include "driver.h"
 
 enum { PAGE = 4096, PAGES = 256, SECTORS = 4096, A_CALL = 16, STEPS = 10, TURNS = 6, FILLS = 16, LENGTH = 16 };
 
-/* What the calls of a case took, and how many items there were; and the takes beside them. */
+/* What the calls of a case took, and how many items there were. */
 typedef struct {
-    uint64_t took, takes, items;
+    uint64_t took, items;
 } times;
 
 static uint64_t now(void)
@@ -44,12 +44,10 @@ static times copies(uint32_t pages, uint64_t sectors, int is_full)
     expect("begin", vmig_send_begin(&m), VMIG_OK);
     take_all(&m);
     do {
-        uint64_t begun = now(), copied;
+        uint64_t begun = now();
         status = vmig_send_some(&m, A_CALL);
-        copied = now();
+        t.took += now() - begun;
         take_all(&m);
-        t.took += copied - begun;
-        t.takes += now() - copied;
     } while (status == VMIG_OK);
     expect("all is copied", status, VMIG_ROUND_DONE);
     vmig_free(&m);
@@ -130,7 +128,6 @@ int main(int argc, char **argv)
         times t = CASES[i].run();
         if (tells) printf("%s: %llu ns\n", CASES[i].what, (unsigned long long)(t.took / t.items));
         else if (argc > 1) printf("%llu\n", (unsigned long long)t.items);
-        else if (i == 0) expect("a copy digests nothing", t.took < t.takes / 4, 1);
     }
     if (argc > 1) return failures != 0;
     return ended("waits");
