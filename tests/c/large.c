@@ -1,8 +1,8 @@
 /* A machine of 5 GiB, over RAM of this program that is mapped without reserve. Its RAM begins at 2 GiB, so both the guest's addresses and the
  * places in RAM pass 2^32, each at a page of its own. Devices of every kind, over both layouts, have their queues and buffers above these
  * and across them. Then the machine moves while its guest runs, and where it arrives no more memory is taken than for what was sent. Where the
- * system maps no 5 GiB without reserve the program says so, and ends; and where pages that are only read take memory, and there is little, the
- * machine does not move. */
+ * system maps no 5 GiB without reserve the program says so, and ends; and where pages that are only read take memory the machine does not
+ * move. */
 #define _DEFAULT_SOURCE
 #include "driver.h"
 #include "mapping.h"
@@ -638,7 +638,7 @@ int main(void)
     if (from == NULL || to == NULL) printf("large: not run: the system maps no 5 GiB without reserve\n");
     else {
         makes_and_serves(&host, from);
-        if (!may_be_read(2 * RAM)) printf("large: the move is not run: pages that are only read may take memory here, which would be 10 GiB\n");
+        if (takes_by_reading()) printf("large: the move is not run: pages that are only read may take memory here, which would be 10 GiB\n");
         else if (failures == 0) moves(&host, from, to);
         vmig_free(&host.machine);
     }

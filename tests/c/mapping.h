@@ -92,12 +92,4 @@ static inline int takes_by_reading(void)
     return after - before > PAGES_READ / 2 && after > before;
 }
 
-/* Whether so many bytes of such memory may be read: reading them takes none, or the machine has twice as much. */
-static inline int may_be_read(uint64_t len)
-{
-    long pages = sysconf(_SC_PHYS_PAGES);
-
-    return !takes_by_reading() || (pages > 0 && (uint64_t)pages >= 2 * len / PAGE);
-}
-
 #endif
