@@ -4,29 +4,6 @@
 #include "options.h"
 #include "say.h"
 
-static const char HELP[] =
-    "hypervisor: runs a RISC-V guest, and moves it while it runs\n"
-    "\n"
-    "  hypervisor --kernel IMAGE [--initrd FILE] [--append TEXT] [--connect HOST:PORT] [OPTION..]\n"
-    "  hypervisor --listen [HOST:]PORT [--connect HOST:PORT] [OPTION..]\n"
-    "\n"
-    "  --kernel IMAGE     begins with this image, at RAM + 0x200000\n"
-    "  --initrd FILE      an initial RAM disk for it\n"
-    "  --append TEXT      the arguments of the kernel\n"
-    "  --listen [HOST:]PORT  begins with a guest that is moved here. HOST is 127.0.0.1 unless it is given; port 0 is any free one.\n"
-    "                     --mem, --disk and --net are as where the guest comes from; the disks' files are overwritten\n"
-    "  --connect HOST:PORT  where the guest moves to, at SIGUSR1 or Ctrl-A m. The line is not encrypted\n"
-    "  --disk FILE        a disk, up to five times: the file has whole sectors of 512 bytes, at most 1 GiB\n"
-    "  --net OWN,PEER     a network device between two unix datagram sockets: frames come to OWN, and go out to PEER\n"
-    "  --mem MIB          RAM, 1 to 64 MiB: 32 unless it is given\n"
-    "  --rounds N         a move sends at most N rounds before it pauses the guest: 30 unless it is given\n"
-    "  --few N            and pauses it earlier where at most N pages and sectors are left: 256 unless it is given\n"
-    "  --stats            prints what the guest did, and the time in the library, at the end\n"
-    "  --help             prints this\n"
-    "\n"
-    "On a terminal Ctrl-A m moves the guest, Ctrl-A c continues one that was kept after a broken move, Ctrl-A x ends the program,\n"
-    "and Ctrl-A a types Ctrl-A. The signals SIGUSR1, SIGUSR2 and SIGTERM do the first three.\n";
-
 __attribute__((noreturn)) static void misused(const char *what, const char *word)
 {
     fprintf(stderr, "hypervisor: %s%s%s; --help says more\n", word, *word ? ": " : "", what);
@@ -83,14 +60,14 @@ static void compare(const struct options *o)
 
 void options_read(struct options *o, int count, char **words)
 {
-    *o = (struct options){.mib = 32, .rounds = 30, .few = 256};
+    *o = (struct options){.mib = RAM_MIB, .rounds = 30, .few = 256};
     for (int i = 1; i < count; i++) {
         if (strcmp(words[i], "--help") == 0) {
             fputs(HELP, stdout);
             exit(0);
         }
-        if (strcmp(words[i], "--stats") == 0) {
-            o->stats = 1;
+        if (strcmp(words[i], "--stats") == 0 || strcmp(words[i], "--no-reboot") == 0) {
+            *(words[i][2] == 's' ? &o->stats : &o->no_reboot) = 1;
             continue;
         }
         if (strncmp(words[i], "--", 2) != 0) misused("this is no option", words[i]);

@@ -4,7 +4,6 @@
 #include <string.h>
 #include "clock.h"
 #include "host.h"
-#include "memory.h"
 #include "say.h"
 #include "terminal.h"
 
@@ -16,11 +15,6 @@ enum { PAGES_A_TURN = 64, SECTORS_A_TURN = 512, PIECE = 16384 };
 enum { STALLS_MAX = 3 };
 
 static const char BROKEN[] = "the line is broken", OUT_OF_MEMORY[] = "out of memory";
-
-static int is_between_slices(const struct host *h)
-{
-    return h->left == SLICE;
-}
 
 int move_is_due(const struct host *h)
 {
@@ -43,6 +37,7 @@ static void *carry(void *of)
         must(vmig_send_take(&h->machine, bytes, sizeof bytes, &got), "vmig_send_take");
         m->is_carried = got == 0;
         if (got == 0) {
+            call_out(h);
             pthread_cond_wait(&h->copied, &h->library);
             continue;
         }
@@ -51,6 +46,7 @@ static void *carry(void *of)
         lock_library(h);
     }
     m->is_broken = !goes_on;
+    call_out(h);
     unlock_library(h);
     return NULL;
 }
@@ -67,18 +63,26 @@ static void end_carrier(struct host *h)
     h->move.has_carrier = 0;
 }
 
-void leave_line(struct host *h)
+void leave_line(struct host *h, const char *why)
 {
-    if (h->move.has_carrier) line_cut(&h->move.line);
+    struct move *m = &h->move;
+
+    if (!m->is_on) return;
     end_carrier(h);
+    if (!m->is_broken && line_send(&m->line, ENDED, why, strlen(why))) say("move: %s: %s was told so", why, h->options.connect);
+    else say("move: %s, and the line is broken", why);
+    line_close(&m->line);
+    m->is_on = 0;
 }
 
 /* The move is over, and the guest continues here. */
 static int give_up(struct host *h, const char *why)
 {
     if (h->move.is_on) {
-        leave_line(h);
+        if (h->move.has_carrier) line_cut(&h->move.line);
+        end_carrier(h);
         line_close(&h->move.line);
+        log_ends(h);
         take_ram(h);
         must(vmig_send_abort(&h->machine), "vmig_send_abort");
     }
@@ -90,15 +94,7 @@ static int give_up(struct host *h, const char *why)
 /* What the last frame says in place of what was awaited. */
 static const char *what_it_says(struct line *l)
 {
-    static char reason[REASON_MAX + 40];
-    static const char BEGIN[] = "the target refuses: ";
-    char *end = reason + sizeof BEGIN - 1;
-
-    if (l->type != REFUSED) return BROKEN;
-    memcpy(reason, BEGIN, sizeof BEGIN);
-    for (uint32_t i = 0; i < l->length; i++) end[i] = l->body[i] >= ' ' && l->body[i] < 127 ? (char)l->body[i] : '?';
-    end[l->length] = '\0';
-    return reason;
+    return l->type == REFUSED ? line_reason(l, "the target refuses: ") : BROKEN;
 }
 
 /* Why the line takes nothing, or what came while nothing is awaited. */
@@ -107,40 +103,48 @@ static const char *what_came(struct line *l)
     return line_has_come(l) && line_receive(l) ? what_it_says(l) : BROKEN;
 }
 
+static void begin_hello(struct host *h)
+{
+    static uint8_t bytes[BODY_MAX];
+    struct hello hello = {.version = LINE_VERSION, .kind = GUEST_KIND, .mib = h->options.mib, .base = RAM_BASE};
+
+    hello_write(bytes, &hello);
+    line_begin(&h->move.line, HELLO, bytes, HELLO_LENGTH + facts_write(h, bytes + HELLO_LENGTH));
+}
+
 /* Begins a move. Returns why there is none, or NULL. */
 static const char *begin_move(struct host *h)
 {
-    uint8_t hello[HELLO_LENGTH] = "VMIGMOVE";
+    struct move *m = &h->move;
     const char *why = NULL;
 
     operator_words.moves = 0;
     if (h->options.connect == NULL) return "there is no --connect to move to";
-    if (!line_connect(&h->move.line, h->options.connect, &why)) {
+    if (!line_connect(&m->line, h->options.connect, &why)) {
         say("move: there is no line to %s", h->options.connect);
         return why;
     }
     take_ram(h);
     if (vmig_send_begin(&h->machine) != VMIG_OK) {
-        line_close(&h->move.line);
+        line_close(&m->line);
         return OUT_OF_MEMORY;
     }
-    memory_empty_log(&h->processor.memory);
-    line_be_patient(&h->move.line);
-    h->move.is_on = 1;
-    h->move.stops = 0;
-    h->move.is_carried = 0;
-    h->move.is_broken = 0;
-    h->move.round = 1;
-    h->move.round_is_sent = 0;
-    h->move.pages = h->move.sectors = 0;
-    h->move.least = UINT64_MAX;
-    h->move.stalls = 0;
+    m->is_on = 1;
+    m->has_carrier = m->stops = 0;
+    m->is_carried = m->is_broken = 0;
+    m->round = 1;
+    m->round_is_sent = 0;
+    m->pages = m->sectors = 0;
+    m->least = UINT64_MAX;
+    m->stalls = 0;
     say("move: to %s begins", h->options.connect);
-    hello[8] = LINE_VERSION;
-    hello[12] = (uint8_t)h->options.mib;
-    line_begin(&h->move.line, HELLO, hello, sizeof hello);
-    h->move.has_carrier = pthread_create(&h->move.carrier, NULL, carry, h) == 0;
-    return h->move.has_carrier ? NULL : "there is no thread for the line";
+    why = log_begins(h);
+    if (why == NULL) why = state_prepare(h);
+    if (why != NULL) return why;
+    line_be_patient(&m->line);
+    begin_hello(h);
+    m->has_carrier = begin_thread(&m->carrier, carry, h);
+    return m->has_carrier ? NULL : "there is no thread for the line";
 }
 
 /* Fills the frame that goes next with what waits in the machine. False where nothing does. */
@@ -174,17 +178,13 @@ static const char *copy_some(struct host *h)
     return NULL;
 }
 
-/* Names the pages that the guest wrote, or was loaded into, since the log was last read. The guest finds its pages anew after it, so the log
- * is read at the end of a round and not before. */
+/* Names the pages that were written since the log was last read. */
 static void name_pages(struct host *h)
 {
-    struct memory *log = &h->processor.memory;
     vmig_pages written = VMIG_NO_PAGES;
 
-    written.list = log->written;
-    written.count = log->count_written;
+    log_read(h, &written);
     must(vmig_mark(&h->machine, &written), "vmig_mark");
-    memory_empty_log(log);
 }
 
 /* Whether the rounds are to end: few items are left, or it was the last round, or rounds shrink no more. One round says little about that, as
@@ -198,19 +198,42 @@ static int is_enough(struct host *h, uint64_t left)
     return left <= h->options.few || m->round >= h->options.rounds || m->stalls == STALLS_MAX;
 }
 
+/* All that waits in the machine goes over the line. */
+static const char *send_waiting(struct host *h)
+{
+    do
+        if (!line_finish(&h->move.line)) return what_came(&h->move.line);
+    while (begin_stream(h));
+    return NULL;
+}
+
+/* The guest is outside for good: its registers are read, and then the log once more, as reading them may write RAM. */
+static const char *read_state(struct host *h, uint8_t state[BODY_MAX], size_t *length)
+{
+    const char *why;
+
+    lend_ram(h);
+    why = state_write(h, state, length);
+    take_ram(h);
+    name_pages(h);
+    return why;
+}
+
 /* The machine's stream ends, and its rest goes over the line, with all that is not in it. */
 static const char *send_rest(struct host *h)
 {
+    static uint8_t state[BODY_MAX];
     struct line *l = &h->move.line;
-    uint8_t state[STATE_MAX];
     uint64_t pages = 0, sectors = 0;
+    size_t length = 0;
+    const char *why = read_state(h, state, &length);
 
+    if (why != NULL) return why;
     if (vmig_send_stop(&h->machine, &pages, &sectors) != VMIG_OK) return OUT_OF_MEMORY;
     say("move: the guest is paused: %llu pages and %llu sectors are left", (unsigned long long)pages, (unsigned long long)sectors);
-    do
-        if (!line_finish(l)) return what_came(l);
-    while (begin_stream(h));
-    if (!line_send(l, STATE, state, state_write(h, state)) || !line_send(l, END, NULL, 0)) return what_came(l);
+    why = send_waiting(h);
+    if (why != NULL) return why;
+    if (!line_send(l, STATE, state, length) || !line_send(l, END, NULL, 0)) return what_came(l);
     if (!line_receive(l)) return BROKEN;
     return l->type == READY ? NULL : what_it_says(l);
 }
@@ -227,7 +250,8 @@ static int keep(struct host *h)
 {
     say("move: the line broke after the last word was sent: the guest is paused here, and perhaps runs at %s", h->options.connect);
     say("move: if it does not run there, SIGUSR2 or Ctrl-A c continues it here; else end this program");
-    if (!wait_for_word()) return 0;
+    h->move.is_on = wait_for_word();
+    if (!h->move.is_on) return 0;
     open_wire(h);
     announce(h);
     return continue_here(h, "by the word of the operator");
@@ -247,6 +271,7 @@ static int finish_move(struct host *h)
     line_hurry(l);
     if (!line_send(l, GO, NULL, 0) || !line_receive(l) || l->type != RUNS) return keep(h);
     line_close(l);
+    h->move.is_on = 0;
     h->is_gone = 1;
     say("move: the guest runs at %s; it was paused for %.1f ms", h->options.connect, (double)(clock_nanoseconds() - paused) / 1e6);
     return 0;

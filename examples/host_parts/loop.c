@@ -1,40 +1,23 @@
 /* The loop: the guest runs on RAM that is lent to it, and what it comes out for is done, with RAM lent or taken back. docs/host-loop.md
  * quotes it. */
 #include "host.h"
-#include "memory.h"
 #include "say.h"
 #include "terminal.h"
 
 /* The steps of one turn: a guest can give its devices work without end. */
 enum { STEPS_A_TURN = 1000 };
 
-/* The guest runs until it comes out, and looks around where its slice is over or it waits. Whether the board answered what it came out
- * for; else it came out for a register of a virtio device. */
-static int run_guest(struct host *h)
-{
-    struct processor *p = &h->processor;
-    uint64_t before = p->count;
-    int is_answered;
-
-    processor_run(p, h->left);
-    h->left -= p->count - before;
-    is_answered = board_answers(h);
-    if (h->left == 0 || p->exit.kind == EXIT_WAIT) look_around(h);
-    return is_answered;
-}
-
 /* A driver's access to a register of its device, while RAM is lent. A window without a device reads 0. */
 static void access_register(struct host *h)
 {
-    struct guest_exit *exit = &h->processor.exit;
-    uint64_t at = exit->address - WINDOWS_AT;
-    uint8_t dev = (uint8_t)(at / WINDOW_SIZE), printed;
-    uint32_t off = (uint32_t)(at % WINDOW_SIZE), value = 0, byte = VMIG_NO_BYTE;
+    const struct touched *a = &h->touched;
+    uint8_t dev = (uint8_t)(a->at / WINDOW_SIZE), printed;
+    uint32_t off = (uint32_t)(a->at % WINDOW_SIZE), value = 0, byte = VMIG_NO_BYTE;
 
-    if (exit->kind == EXIT_READ) {
-        vmig_status status = vmig_reg_read(&h->machine, dev, off, exit->width, &value);
-        processor_loads(&h->processor, status == VMIG_OK ? value : 0);
-    } else if (vmig_reg_write(&h->machine, dev, off, exit->width, (uint32_t)exit->value, &byte) == VMIG_OK) {
+    if (!a->is_write) {
+        vmig_status status = vmig_reg_read(&h->machine, dev, off, a->width, &value);
+        finish_read(h, status == VMIG_OK ? value : 0);
+    } else if (vmig_reg_write(&h->machine, dev, off, a->width, a->value, &byte) == VMIG_OK) {
         printed = (uint8_t)byte;
         if (byte != VMIG_NO_BYTE) hand_on(h, dev, &printed, 1);
         h->steps_wait = 1;
@@ -47,12 +30,14 @@ static void access_register(struct host *h)
 static int load_again(struct host *h)
 {
     vmig_description found;
+    const char *why;
 
     enter_library(h);
     vmig_describe(&h->machine, &found);
     leave_library(h);
-    h->has_ended = h->options.kernel == NULL || found.lost != 0;
-    if (h->has_ended) say("the guest asks for a reboot, and ends: %s", found.lost != 0 ? "a disk is lost" : "there is no --kernel here");
+    why = found.lost != 0 ? "a disk is lost" : h->options.kernel == NULL ? "there is no --kernel here" : "--no-reboot";
+    h->has_ended = h->options.kernel == NULL || found.lost != 0 || h->options.no_reboot;
+    if (h->has_ended) say("the guest asks for a reboot, and ends: %s", why);
     else load_guest(h);
     return !h->has_ended;
 }
@@ -89,9 +74,15 @@ void take_ram(struct host *h)
     h->statistics.loans++;
 }
 
-static void lend_ram(struct host *h)
+void lend_ram(struct host *h)
 {
     if (h->ram.at == NULL) must(vmig_lend(&h->machine, &h->ram), "vmig_lend");
+}
+
+static void read_lines(struct host *h)
+{
+    h->lines = vmig_lines(&h->machine);
+    set_lines(h);
 }
 
 /* Whether a step has something to do, which needs no byte of RAM to be told. */
@@ -156,10 +147,9 @@ void host_run(struct host *h)
     lend_ram(h);
     leave_library(h);
     if (h->options.listen != NULL) announce(h);
-    h->left = SLICE;
     while (!h->has_ended && !h->is_gone && !operator_words.ends) turn(h);
     enter_library(h);
-    leave_line(h);
+    leave_line(h, h->has_ended ? "the guest ended" : "its operator ended the guest");
     leave_library(h);
     if (operator_words.ends) say("ended by its operator");
 }

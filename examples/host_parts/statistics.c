@@ -8,7 +8,6 @@
 void begin_statistics(struct host *h)
 {
     h->statistics.began = clock_nanoseconds();
-    h->statistics.count_before = h->processor.count;
 }
 
 /* The clock is read only for who asks for it. */
@@ -28,12 +27,11 @@ void print_statistics(const struct host *h)
 {
     const struct statistics *s = &h->statistics;
     double all = (double)(clock_nanoseconds() - s->began) / 1e9, waited = (double)s->waited / 1e9;
-    uint64_t count = h->processor.count - s->count_before;
     double works = all - waited > 0 ? all - waited : 1e-9, library = (double)s->in_library / 1e9;
 
     if (!h->options.stats) return;
     say("%.3f s, of which the guest waited %.3f", all, waited);
-    say("%llu instructions, %.1f million a second", (unsigned long long)count, (double)count / works / 1e6);
+    print_guest_statistics(h, works);
     say("%llu accesses to registers, %llu steps of devices, %llu loans of RAM", (unsigned long long)s->accesses, (unsigned long long)s->steps,
         (unsigned long long)s->loans);
     say("%.3f s in the library with the bytes that it moves: %.1f percent", library, 100 * library / works);

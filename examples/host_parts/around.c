@@ -9,8 +9,8 @@
 #include "say.h"
 #include "terminal.h"
 
-/* A guest that waits looks around this often, for a signal may have come before the wait; and while it is moved. */
-enum { FRAMES_A_TURN = 64, WAIT_MS_MAX = 20, MOVE_MS_MAX = 1, STATUS_REGISTER = 0x070, DRIVER_OK = 4 };
+/* Who waits for the operator looks this often, for a signal may have come before the wait. */
+enum { FRAMES_A_TURN = 64, WAIT_MS_MAX = 20, STATUS_REGISTER = 0x070, DRIVER_OK = 4 };
 
 /* All that the pool of the entropy device could hold. */
 enum { POOL_MAX = 4096 };
@@ -21,15 +21,6 @@ static int is_driven(struct host *h, unsigned device)
     uint32_t status = 0;
 
     return vmig_reg_read(&h->machine, (uint8_t)device, STATUS_REGISTER, 4, &status) == VMIG_OK && (status & DRIVER_OK);
-}
-
-/* How long the guest may wait: until its timer is due, and not at all where there is something to do. */
-static int milliseconds(const struct host *h)
-{
-    uint64_t left = processor_ticks_left(&h->processor) / (TICKS_A_SECOND / 1000), most = h->move.is_on ? MOVE_MS_MAX : WAIT_MS_MAX;
-
-    if (h->processor.exit.kind != EXIT_WAIT || due_interrupts(&h->processor) != 0 || h->steps_wait || move_is_due(h)) return 0;
-    return (int)(left < most ? left : most);
 }
 
 /* On a terminal the keys for the program are read also while the guest takes none; what it does not take is lost. */
@@ -43,18 +34,25 @@ static void read_typed(struct host *h)
     h->typed.count += (uint32_t)got;
 }
 
-void look_around(struct host *h)
+void list_files(const struct host *h, int files[SOURCES_OF_INPUT])
 {
     int hears = !terminal_has_ended() && (h->typed.count < TYPED_MAX || terminal_is_taken());
-    struct pollfd sockets[] = {{.fd = hears ? 0 : -1, .events = POLLIN},
-                               {.fd = h->frame_length == 0 ? h->wire : -1, .events = POLLIN}};
-    uint64_t before = clock_nanoseconds();
-    int count = poll(sockets, 2, milliseconds(h));
 
+    files[0] = hears ? STDIN_FILENO : -1;
+    files[1] = h->frame_length == 0 ? h->wire : -1;
+}
+
+void look_around(struct host *h)
+{
+    int files[SOURCES_OF_INPUT], count;
+    uint64_t before = clock_nanoseconds();
+
+    list_files(h, files);
+    struct pollfd sources[] = {{.fd = files[0], .events = POLLIN}, {.fd = files[1], .events = POLLIN}};
+    count = poll(sources, SOURCES_OF_INPUT, milliseconds_to_wait(h));
     h->statistics.waited += clock_nanoseconds() - before;
-    h->left = SLICE;
     h->input_waits = count > 0 || operator_words.has_new_size;
-    if (count > 0 && sockets[0].revents != 0) read_typed(h);
+    if (count > 0 && sources[0].revents != 0) read_typed(h);
     set_lines(h);
 }
 

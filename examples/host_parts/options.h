@@ -11,8 +11,11 @@ struct options {
     const char *kernel, *initrd, *append, *listen, *connect, *net;
     const char *disks[DISKS_MAX];
     unsigned count_disks, mib, rounds, few;
-    int stats;
+    int stats, no_reboot;
 };
+
+/* What --help prints, which each hypervisor has of its own. */
+extern const char HELP[];
 
 /* Reads the words of the command line. What is wrong with them is printed, and ends the program; so does --help. */
 void options_read(struct options *o, int count, char **words);

@@ -1,7 +1,7 @@
 /* A line that breaks: `cut PORT WHERE` accepts one connection at a free port of 127.0.0.1, which it prints, connects it to PORT there,
  * and hands on what comes, frame by frame. WHERE is the type of the frame before which it breaks, or `bytes=N`: after N bytes of the
- * source. Both ends are closed then. Or WHERE is `spoil=TYPE:N`: byte N of each frame of this type is changed, and the line stays
- * whole. */
+ * source. Both ends are closed then. Or the line stays whole: WHERE is `spoil=TYPE:N`, and byte N of each frame of this type is changed, or it
+ * is `slow`, and each frame of the source waits for some time. */
 #define _DEFAULT_SOURCE
 #include <arpa/inet.h>
 #include <poll.h>
@@ -14,11 +14,13 @@
 #include "../line.h"
 
 /* The names of the frames, in the order of their types. */
-static const char *const NAMES[] = {"", "hello", "stream", "state", "end", "ready", "go", "runs", "refused"};
+static const char *const NAMES[] = {"", "hello", "stream", "state", "end", "ready", "go", "runs", "refused", "ended"};
 
 static const char *where;
 static unsigned long bytes_left = (unsigned long)-1, spoiled;
 static const char *spoils = "";
+
+enum { WAIT_US = 5000 };
 
 static struct sockaddr_in address_of(int port)
 {
@@ -79,6 +81,7 @@ static void hand_on(int from, int to, int is_source)
     read_all(from, frame + FRAME_HEAD, length);
     if (strcmp(NAMES[frame[0]], spoils) == 0 && spoiled < length) frame[FRAME_HEAD + spoiled] ^= 0x80;
     length += FRAME_HEAD;
+    if (is_source && strcmp(where, "slow") == 0) usleep(WAIT_US);
     if (is_source && length > bytes_left) {
         write_all(to, frame, bytes_left);
         exit(0);

@@ -12,6 +12,7 @@
 enum { PREFIX = 'A' - '@' };
 
 struct operator_words operator_words;
+void (*operator_speaks)(void);
 
 static struct termios before;
 static volatile sig_atomic_t is_raw;
@@ -32,6 +33,7 @@ static void take_word(int signal_number)
     case SIGWINCH: operator_words.has_new_size = 1; break;
     default: operator_words.ends = 1; break;
     }
+    if (operator_speaks != NULL) operator_speaks();
 }
 
 /* The program is about to be killed, as where a disk's file was cut off. */
@@ -57,6 +59,18 @@ void terminal_begin(void)
     for (size_t i = 0; i < sizeof WORDS / sizeof *WORDS; i++) handle(WORDS[i], take_word, 0);
     for (size_t i = 0; i < sizeof DEATHS / sizeof *DEATHS; i++) handle(DEATHS[i], die, (int)SA_RESETHAND);
     handle(SIGPIPE, SIG_IGN, 0);
+}
+
+int begin_thread(pthread_t *thread, void *(*does)(void *), void *of)
+{
+    sigset_t all, before_it;
+    int error;
+
+    sigfillset(&all);
+    pthread_sigmask(SIG_SETMASK, &all, &before_it);
+    error = pthread_create(thread, NULL, does, of);
+    pthread_sigmask(SIG_SETMASK, &before_it, NULL);
+    return error == 0;
 }
 
 void terminal_take(void)

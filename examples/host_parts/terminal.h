@@ -2,6 +2,7 @@
 #ifndef TERMINAL_H
 #define TERMINAL_H
 
+#include <pthread.h>
 #include <signal.h>
 #include <stddef.h>
 #include <stdint.h>
@@ -13,8 +14,14 @@ struct operator_words {
 
 extern struct operator_words operator_words;
 
-/* Takes the signals. */
+/* Called in the signal's handler after each of these words, if it is not NULL. */
+extern void (*operator_speaks)(void);
+
+/* Takes the signals, which come to the thread that calls. */
 void terminal_begin(void);
+
+/* Begins a thread, to which no signal comes. False where there is none. */
+int begin_thread(pthread_t *thread, void *(*does)(void *), void *of);
 
 /* Takes the terminal over, if standard input is one. At each end of the program it is set back. */
 void terminal_take(void);

@@ -1,9 +1,7 @@
 /* A guest that is moved here. What comes is not trusted: each frame has its place, the machine is compared with the options before
  * memory is taken, and the registers are looked at. Until the source has let go, the guest does not run here. */
 #include <string.h>
-#include "clock.h"
 #include "host.h"
-#include "memory.h"
 #include "say.h"
 
 /* The first bytes of a stream, which tell what machine it is. */
@@ -15,14 +13,21 @@ struct arrival {
     uint64_t length;     /* of RAM */
     int is_known;        /* the machine was compared, and memory is there */
     int has_state;
+    uint8_t state[BODY_MAX];  /* of the processor and the board, once it has come */
+    size_t state_length;
     uint32_t rounds;
 };
 
-static const char *check_hello(const struct host *h, const struct line *l)
+static const char *check_hello(struct host *h, const struct line *l)
 {
-    if (l->type != HELLO || memcmp(l->body, "VMIGMOVE", 8) != 0) return "what connects is no hypervisor of this kind";
-    if (l->body[8] != LINE_VERSION || l->body[9] != 0 || l->body[10] != 0 || l->body[11] != 0) return "it is of another version";
-    return l->body[12] == h->options.mib ? NULL : "it has another size of RAM than --mem";
+    struct hello hello;
+
+    if (l->type != HELLO || !hello_read(l->body, &hello)) return "what connects is no hypervisor of this kind";
+    if (hello.version != LINE_VERSION) return "it is of another version";
+    if (hello.kind != GUEST_KIND) return "it is a hypervisor for another processor";
+    if (hello.base != RAM_BASE) return "its RAM begins at another address";
+    if (hello.mib != h->options.mib) return "it has another size of RAM than --mem";
+    return facts_check(h, l->body + HELLO_LENGTH, l->length - HELLO_LENGTH);
 }
 
 static const char *feed(struct host *h, struct arrival *a, const uint8_t *bytes, size_t length)
@@ -46,16 +51,17 @@ static const char *take_head(struct host *h, struct arrival *a, const uint8_t *b
 {
     size_t part = length < HEAD_MAX - a->head_length ? length : HEAD_MAX - a->head_length;
     const char *why;
-    uint8_t *ram;
     int more;
 
     memcpy(a->head + a->head_length, bytes, part);
     a->head_length += part;
     why = devices_compare(&h->devices, a->length, a->head, a->head_length, &more);
     if (why != NULL || more) return why;
-    ram = devices_take_ram(a->length);
-    if (!memory_begin(&h->processor.memory, ram, a->length)) return "there is no memory for the log";
-    devices_let_arrive(&h->devices, ram, a->length, &h->machine);
+    h->memory_length = a->length;
+    h->memory = devices_take_ram(a->length);
+    why = h->memory == NULL ? "there is no memory for RAM" : give_ram(h, h->memory, a->length);
+    if (why != NULL) return why;
+    devices_let_arrive(&h->devices, h->memory, a->length, &h->machine);
     a->is_known = 1;
     why = feed(h, a, a->head, a->head_length);
     return why != NULL ? why : feed(h, a, bytes + part, length - part);
@@ -69,8 +75,11 @@ static const char *take_frame(struct host *h, struct arrival *a)
         return a->is_known ? feed(h, a, l->body, l->length) : take_head(h, a, l->body, l->length);
     if (l->type == STATE && a->is_known && !a->has_state) {
         a->has_state = 1;
-        return state_read(h, l->body, l->length) ? NULL : "the registers of the processor or the board have values that none can have";
+        a->state_length = l->length;
+        memcpy(a->state, l->body, l->length);
+        return NULL;
     }
+    if (l->type == ENDED) return line_reason(l, "the source says: ");
     return l->type == END && a->has_state ? NULL : "a frame is out of its place";
 }
 
@@ -78,21 +87,25 @@ static const char *take_frame(struct host *h, struct arrival *a)
 static const char *take_all(struct host *h, struct arrival *a)
 {
     struct line *l = &h->move.line;
+    const char *why;
     vmig_status status;
 
     line_be_patient(l);
     do {
-        const char *why = line_receive(l) ? take_frame(h, a) : "the line is broken";
-
+        why = line_receive(l) ? take_frame(h, a) : "the line is broken";
         if (why != NULL) return why;
     } while (l->type != END);
     status = vmig_finish(&h->machine);
     if (status != VMIG_OK) return vmig_status_name(status);
+    lend_ram(h);
+    why = state_read(h, a->state, a->state_length);
+    if (why != NULL) return why;
     return devices_bring(&h->devices) ? NULL : "a disk cannot be written";
 }
 
 __attribute__((noreturn)) static void refuse(struct host *h, const char *why)
 {
+    if (h->move.line.type == ENDED) fail("move: %s: no guest is here", why);
     line_refuse(&h->move.line, why);
     fail("move: %s: no guest is here, and the source has it", why);
 }
@@ -109,10 +122,10 @@ static void keep(void)
 void host_receive(struct host *h)
 {
     struct line *l = &h->move.line;
-    struct arrival a = {.length = (uint64_t)h->options.mib * MIB};
+    static struct arrival a;
     const char *why;
 
-    h->processor.memory.length = a.length;
+    a.length = (uint64_t)h->options.mib * MIB;
     for (unsigned i = 0; i < h->devices.count_disks; i++) say("%s will be overwritten", h->devices.disks[i].name);
     line_accept(l, h->options.listen);
     why = line_receive(l) ? check_hello(h, l) : "the line is broken";
