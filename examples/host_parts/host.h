@@ -71,7 +71,7 @@ struct host {
 /* ---- The seam: what each hypervisor has of its own ---- */
 
 /* Before anything else. It ends the program where no guest can run. */
-void prepare_guests(void);
+void prepare_guests(struct host *h);
 /* This memory becomes the RAM of a guest that begins or arrives. Returns why it cannot, or NULL. */
 const char *give_ram(struct host *h, uint8_t *ram, uint64_t length);
 /* Puts what the guest boots from into RAM, and its processor to the beginning: at first, and for a reboot, while RAM is lent. */

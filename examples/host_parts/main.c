@@ -34,7 +34,7 @@ int main(int count, char **words)
 
     options_read(&h.options, count, words);
     terminal_begin();
-    prepare_guests();
+    prepare_guests(&h);
     devices_plan(&h.devices, &h.options);
     if (h.options.listen != NULL) host_receive(&h);
     else begin_guest(&h);

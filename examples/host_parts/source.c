@@ -178,13 +178,13 @@ static const char *copy_some(struct host *h)
     return NULL;
 }
 
-/* Names the pages that were written since the log was last read. */
-static void name_pages(struct host *h)
+/* Names the pages that were written since the log was last read. What the log had is lost where they cannot be named: the move is over then. */
+static const char *name_pages(struct host *h)
 {
     vmig_pages written = VMIG_NO_PAGES;
 
     log_read(h, &written);
-    must(vmig_mark(&h->machine, &written), "vmig_mark");
+    return vmig_mark(&h->machine, &written) == VMIG_OK ? NULL : OUT_OF_MEMORY;
 }
 
 /* Whether the rounds are to end: few items are left, or it was the last round, or rounds shrink no more. One round says little about that, as
@@ -215,8 +215,7 @@ static const char *read_state(struct host *h, uint8_t state[BODY_MAX], size_t *l
     lend_ram(h);
     why = state_write(h, state, length);
     take_ram(h);
-    name_pages(h);
-    return why;
+    return why == NULL ? name_pages(h) : why;
 }
 
 /* The machine's stream ends, and its rest goes over the line, with all that is not in it. */
@@ -283,15 +282,17 @@ static int end_round(struct host *h)
 {
     vmig_left found;
     uint64_t left;
+    const char *why;
 
     take_ram(h);
-    name_pages(h);
+    why = name_pages(h);
+    if (why != NULL) return give_up(h, why);
     must(vmig_send_left(&h->machine, &found), "vmig_send_left");
     left = found.dirty_pages + found.dirty_sectors;
     say("move: round %u sent %llu pages and %llu sectors; %llu are left", h->move.round, (unsigned long long)h->move.pages,
         (unsigned long long)h->move.sectors, (unsigned long long)left);
     if (is_enough(h, left)) return finish_move(h);
-    must(vmig_send_round(&h->machine), "vmig_send_round");
+    if (vmig_send_round(&h->machine) != VMIG_OK) return give_up(h, OUT_OF_MEMORY);
     h->move.round++;
     h->move.round_is_sent = 0;
     h->move.pages = h->move.sectors = 0;

@@ -34,8 +34,9 @@ static uint64_t pages_of(const char *name)
     return ((uint64_t)length + PAGE - 1) / PAGE * PAGE;
 }
 
-void prepare_guests(void)
+void prepare_guests(struct host *h)
 {
+    (void)h;
     processor_prepare();
 }
 
