@@ -8,8 +8,9 @@
 #include "terminal.h"
 
 /* What is copied between two slices of the guest, once the carrier has carried what was copied before: pages, or sectors once no page is due.
- * The guest is outside for some 0.1 ms. And what the carrier takes at once, for whose digest the library is its own: as long. */
-enum { PAGES_A_TURN = 64, SECTORS_A_TURN = 512, PIECE = 16384 };
+ * The guest is outside for some 0.1 ms. And what the carrier takes at once, for whose digest the library is its own: as long. And what goes at
+ * once of the last round. */
+enum { PAGES_A_TURN = 64, SECTORS_A_TURN = 512, PIECE = 16384, ITEMS = 16 };
 
 /* The rounds, one after another, that leave hardly less than one before, until the guest is paused. */
 enum { STALLS_MAX = 3 };
@@ -207,6 +208,19 @@ static const char *send_waiting(struct host *h)
     return NULL;
 }
 
+/* What is left goes as one round more, and the stop has nothing to send: so the target digests a piece while the next one is digested here. */
+static const char *send_last_round(struct host *h)
+{
+    vmig_status status = vmig_send_round(&h->machine);
+    const char *why = NULL;
+
+    while (why == NULL && !vmig_refused(status) && status != VMIG_ROUND_DONE) {
+        status = vmig_send_some(&h->machine, ITEMS);
+        why = send_waiting(h);
+    }
+    return vmig_refused(status) ? OUT_OF_MEMORY : why;
+}
+
 /* The guest is outside for good: its registers are read, and then the log once more, as reading them may write RAM. */
 static const char *read_state(struct host *h, uint8_t state[BODY_MAX], size_t *length)
 {
@@ -223,13 +237,18 @@ static const char *send_rest(struct host *h)
 {
     static uint8_t state[BODY_MAX];
     struct line *l = &h->move.line;
+    vmig_left left;
     uint64_t pages = 0, sectors = 0;
     size_t length = 0;
     const char *why = read_state(h, state, &length);
 
     if (why != NULL) return why;
+    must(vmig_send_left(&h->machine, &left), "vmig_send_left");
+    say("move: the guest is paused: %llu pages and %llu sectors are left", (unsigned long long)left.dirty_pages,
+        (unsigned long long)left.dirty_sectors);
+    why = send_last_round(h);
+    if (why != NULL) return why;
     if (vmig_send_stop(&h->machine, &pages, &sectors) != VMIG_OK) return OUT_OF_MEMORY;
-    say("move: the guest is paused: %llu pages and %llu sectors are left", (unsigned long long)pages, (unsigned long long)sectors);
     why = send_waiting(h);
     if (why != NULL) return why;
     if (!line_send(l, STATE, state, length) || !line_send(l, END, NULL, 0)) return what_came(l);
