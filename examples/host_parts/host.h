@@ -32,7 +32,7 @@ struct move {
     atomic_int is_broken;        /* it found the line broken, and has ended */
     int is_on, round_is_sent;
     uint32_t round;
-    uint64_t pages, sectors;     /* that the round sent so far */
+    uint64_t pages, sectors;     /* that the round sends */
     uint64_t least;              /* the least that a round left */
     int stalls;                  /* how many rounds left hardly less than that, one after another */
 };

@@ -7,10 +7,10 @@
 #include "say.h"
 #include "terminal.h"
 
-/* What is copied between two slices of the guest, once the carrier has carried what was copied before: pages, or sectors once no page is due.
- * The guest is outside for some 0.1 ms. And what the carrier takes at once, for whose digest the library is its own: as long. And what goes at
- * once of the last round. */
-enum { PAGES_A_TURN = 64, SECTORS_A_TURN = 512, PIECE = 16384, ITEMS = 16 };
+/* What is copied at once between two slices of the guest, once the carrier has carried what was copied before: pages, then sectors. That is done
+ * again until the guest was outside for this time, as pages of zeros are copied fast: some 700 KB at most. And what the carrier takes at once, for
+ * whose digest the library is its own, 0.1 ms; and what goes at once of the last round. */
+enum { ITEMS_A_COPY = 64, COPY_NANOSECONDS = 300000, PIECE = 16384, ITEMS_A_PIECE = 16 };
 
 /* The rounds, one after another, that leave hardly less than one before, until the guest is paused. */
 enum { STALLS_MAX = 3 };
@@ -113,6 +113,18 @@ static void begin_hello(struct host *h)
     line_begin(&h->move.line, HELLO, bytes, HELLO_LENGTH + facts_write(h, bytes + HELLO_LENGTH));
 }
 
+/* A round begins: it sends what is due. That is asked once a round, as it takes the longer the more RAM there is. */
+static void begin_round(struct host *h, uint32_t number)
+{
+    vmig_left left;
+
+    must(vmig_send_left(&h->machine, &left), "vmig_send_left");
+    h->move.round = number;
+    h->move.round_is_sent = 0;
+    h->move.pages = left.due_pages;
+    h->move.sectors = left.due_sectors;
+}
+
 /* Begins a move. Returns why there is none, or NULL. */
 static const char *begin_move(struct host *h)
 {
@@ -133,12 +145,10 @@ static const char *begin_move(struct host *h)
     m->is_on = 1;
     m->has_carrier = m->stops = 0;
     m->is_carried = m->is_broken = 0;
-    m->round = 1;
-    m->round_is_sent = 0;
-    m->pages = m->sectors = 0;
     m->least = UINT64_MAX;
     m->stalls = 0;
     say("move: to %s begins", h->options.connect);
+    begin_round(h, 1);
     why = log_begins(h);
     if (why == NULL) why = state_prepare(h);
     if (why != NULL) return why;
@@ -163,16 +173,13 @@ static int begin_stream(struct host *h)
 static const char *copy_some(struct host *h)
 {
     struct move *m = &h->move;
-    vmig_left before, after;
+    uint64_t end = clock_nanoseconds() + COPY_NANOSECONDS;
     vmig_status status;
 
-    must(vmig_send_left(&h->machine, &before), "vmig_send_left");
     take_ram(h);
-    status = vmig_send_some(&h->machine, before.due_pages > 0 ? PAGES_A_TURN : SECTORS_A_TURN);
+    do status = vmig_send_some(&h->machine, ITEMS_A_COPY);
+    while (status == VMIG_OK && clock_nanoseconds() < end);
     if (vmig_refused(status)) return OUT_OF_MEMORY;
-    must(vmig_send_left(&h->machine, &after), "vmig_send_left");
-    m->pages += before.due_pages - after.due_pages;
-    m->sectors += before.due_sectors - after.due_sectors;
     m->round_is_sent = status == VMIG_ROUND_DONE;
     m->is_carried = 0;
     pthread_cond_signal(&h->copied);
@@ -215,7 +222,7 @@ static const char *send_last_round(struct host *h)
     const char *why = NULL;
 
     while (why == NULL && !vmig_refused(status) && status != VMIG_ROUND_DONE) {
-        status = vmig_send_some(&h->machine, ITEMS);
+        status = vmig_send_some(&h->machine, ITEMS_A_PIECE);
         why = send_waiting(h);
     }
     return vmig_refused(status) ? OUT_OF_MEMORY : why;
@@ -237,15 +244,11 @@ static const char *send_rest(struct host *h)
 {
     static uint8_t state[BODY_MAX];
     struct line *l = &h->move.line;
-    vmig_left left;
     uint64_t pages = 0, sectors = 0;
     size_t length = 0;
     const char *why = read_state(h, state, &length);
 
     if (why != NULL) return why;
-    must(vmig_send_left(&h->machine, &left), "vmig_send_left");
-    say("move: the guest is paused: %llu pages and %llu sectors are left", (unsigned long long)left.dirty_pages,
-        (unsigned long long)left.dirty_sectors);
     why = send_last_round(h);
     if (why != NULL) return why;
     if (vmig_send_stop(&h->machine, &pages, &sectors) != VMIG_OK) return OUT_OF_MEMORY;
@@ -310,11 +313,13 @@ static int end_round(struct host *h)
     left = found.dirty_pages + found.dirty_sectors;
     say("move: round %u sent %llu pages and %llu sectors; %llu are left", h->move.round, (unsigned long long)h->move.pages,
         (unsigned long long)h->move.sectors, (unsigned long long)left);
-    if (is_enough(h, left)) return finish_move(h);
+    if (is_enough(h, left)) {
+        say("move: the guest is paused: %llu pages and %llu sectors are left", (unsigned long long)found.dirty_pages,
+            (unsigned long long)found.dirty_sectors);
+        return finish_move(h);
+    }
     if (vmig_send_round(&h->machine) != VMIG_OK) return give_up(h, OUT_OF_MEMORY);
-    h->move.round++;
-    h->move.round_is_sent = 0;
-    h->move.pages = h->move.sectors = 0;
+    begin_round(h, h->move.round + 1);
     return 1;
 }
 
