@@ -138,9 +138,9 @@ int run_guest(struct host *h)
     struct guest *g = &h->guest;
     int is_answered;
 
-    await_input(h);
     if (move_is_due(h)) g->kvm.run->immediate_exit = 1;
     do {
+        await_input(h);
         g->is_between = !kvm_run_guest(&g->kvm);
         g->exits++;
         is_answered = g->is_between || board_answers(h);
