@@ -13,7 +13,7 @@ static void print(uint64_t byte)
 static uint32_t read_device(struct host *h, uint64_t address, unsigned width)
 {
     if (lies_in(address, UART_AT, UART_SIZE)) return uart_read(&h->uart, &h->typed, address - UART_AT);
-    if (lies_in(address, PLIC_AT, PLIC_SIZE) && width == 4) return interrupts_read(&h->interrupts, address - PLIC_AT);
+    if (lies_in(address, PLIC_AT, PLIC_SIZE) && width == 4) return interrupts_read(&h->guest.interrupts, address - PLIC_AT);
     return 0;
 }
 
@@ -30,7 +30,7 @@ static void write_device(struct host *h, uint64_t address, unsigned width, uint3
 
         if (sent >= 0) print((uint64_t)sent);
     } else if (lies_in(address, PLIC_AT, PLIC_SIZE)) {
-        if (width == 4) interrupts_write(&h->interrupts, address - PLIC_AT, value);
+        if (width == 4) interrupts_write(&h->guest.interrupts, address - PLIC_AT, value);
     } else if (address == POWER_AT) {
         uint32_t word = value & 0xffff;
 
@@ -42,15 +42,17 @@ static void write_device(struct host *h, uint64_t address, unsigned width, uint3
 
 int board_answers(struct host *h)
 {
-    struct guest_exit *exit = &h->processor.exit;
+    struct guest_exit *exit = &h->guest.processor.exit;
 
-    if (exit->kind == EXIT_READ || exit->kind == EXIT_WRITE)
-        if (lies_in(exit->address, WINDOWS_AT, WINDOWS * WINDOW_SIZE)) return 0;
+    if ((exit->kind == EXIT_READ || exit->kind == EXIT_WRITE) && lies_in(exit->address, WINDOWS_AT, WINDOWS * WINDOW_SIZE)) {
+        h->touched = (struct touched){exit->address - WINDOWS_AT, (uint32_t)exit->value, exit->width, exit->kind == EXIT_WRITE};
+        return 0;
+    }
     switch (exit->kind) {
-    case EXIT_READ: processor_loads(&h->processor, read_device(h, exit->address, exit->width)); break;
+    case EXIT_READ: processor_loads(&h->guest.processor, read_device(h, exit->address, exit->width)); break;
     case EXIT_WRITE: write_device(h, exit->address, exit->width, (uint32_t)exit->value); break;
     case EXIT_PRINT: print(exit->value); break;
-    case EXIT_TYPED: processor_loads(&h->processor, (uint64_t)(int64_t)typed_take(&h->typed)); break;
+    case EXIT_TYPED: processor_loads(&h->guest.processor, (uint64_t)(int64_t)typed_take(&h->typed)); break;
     case EXIT_OFF: power_off(h, exit->value); break;
     case EXIT_REBOOT: h->reboots = 1; break;
     default: return 1;
@@ -61,20 +63,6 @@ int board_answers(struct host *h)
 
 void board_reset(struct host *h)
 {
-    h->interrupts = (struct interrupts){0};
+    h->guest.interrupts = (struct interrupts){0};
     h->uart = (struct uart){0};
-}
-
-void set_lines(struct host *h)
-{
-    uint32_t uart = uart_interrupts(&h->uart, &h->typed) ? UINT32_C(1) << UART_INTERRUPT : 0;
-
-    h->interrupts.lines = h->lines << FIRST_INTERRUPT | uart;
-    h->processor.external_pending = interrupts_are_due(&h->interrupts) ? EXTERNAL_BIT : 0;
-}
-
-void read_lines(struct host *h)
-{
-    h->lines = vmig_lines(&h->machine);
-    set_lines(h);
 }

@@ -10,7 +10,8 @@
 /* An image is loaded this far into RAM, and begins to run there. */
 #define LOAD_OFFSET UINT64_C(0x200000)
 
-enum { PAGE = 4096, MIB = 1 << 20, RAM_MIB_MAX = 64 };
+/* RAM, unless --mem says how much, and at most. */
+enum { PAGE = 4096, MIB = 1 << 20, RAM_MIB = 32, RAM_MIB_MAX = 64 };
 
 /* The word that powers the board off. */
 #define POWER_AT UINT64_C(0x00100000)

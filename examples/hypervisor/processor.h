@@ -6,6 +6,7 @@
 #include <stddef.h>
 #include <stdint.h>
 #include "board.h"
+#include "clock.h"
 
 enum mode { USER, SUPERVISOR };
 enum access { FETCH, READ, WRITE, ACCESSES };
@@ -100,6 +101,12 @@ void processor_run(struct processor *p, uint64_t instructions);
 
 /* A read for which the guest came out gives this value. */
 void processor_loads(struct processor *p, uint64_t value);
+
+/* The host's time in ticks of the guest's clock. */
+static inline uint64_t clock_ticks(void)
+{
+    return clock_nanoseconds() / (1000000000 / TICKS_A_SECOND);
+}
 
 /* The guest's time, and how many of its ticks there are until its timer is due. */
 uint64_t processor_time(const struct processor *p);

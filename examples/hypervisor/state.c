@@ -1,10 +1,9 @@
 /* The processor and the board as bytes, for a move. One list of fields serves both to write them and to read them. */
 #include <string.h>
-#include "clock.h"
 #include "host.h"
 #include "memory.h"
 
-enum { STATE_VERSION = 3 };
+enum { STATE_VERSION = 4 };
 
 /* Where the next field is, and which way it goes. */
 struct coder {
@@ -43,10 +42,10 @@ static void code_processor(struct coder *c, struct processor *p)
 
 static void code_board(struct coder *c, struct host *h)
 {
-    for (int i = 0; i < SOURCES; i++) code(c, &h->interrupts.priority[i], sizeof h->interrupts.priority[i]);
-    code(c, &h->interrupts.enabled, sizeof h->interrupts.enabled);
-    code(c, &h->interrupts.claimed, sizeof h->interrupts.claimed);
-    code(c, &h->interrupts.threshold, sizeof h->interrupts.threshold);
+    for (int i = 0; i < SOURCES; i++) code(c, &h->guest.interrupts.priority[i], sizeof h->guest.interrupts.priority[i]);
+    code(c, &h->guest.interrupts.enabled, sizeof h->guest.interrupts.enabled);
+    code(c, &h->guest.interrupts.claimed, sizeof h->guest.interrupts.claimed);
+    code(c, &h->guest.interrupts.threshold, sizeof h->guest.interrupts.threshold);
     code(c, &h->uart.enabled, 1);
     code(c, &h->uart.line, 1);
     code(c, &h->uart.modem, 1);
@@ -59,10 +58,9 @@ static void code_board(struct coder *c, struct host *h)
 static void code_all(struct coder *c, struct host *h)
 {
     code_same(c, STATE_VERSION);
-    code_same(c, RAM_BASE);
-    code_same(c, h->processor.memory.length);
-    code(c, &h->stopped_at, sizeof h->stopped_at);
-    code_processor(c, &h->processor);
+    code_same(c, h->guest.processor.memory.length);
+    code(c, &h->guest.stopped_at, sizeof h->guest.stopped_at);
+    code_processor(c, &h->guest.processor);
     code_board(c, h);
 }
 
@@ -79,7 +77,7 @@ static int is_processor(const struct processor *p)
 
 static int is_board(const struct host *h)
 {
-    const struct interrupts *c = &h->interrupts;
+    const struct interrupts *c = &h->guest.interrupts;
     uint32_t sources = (UINT32_C(1) << SOURCES) - 2;
 
     for (int i = 0; i < SOURCES; i++)
@@ -88,33 +86,54 @@ static int is_board(const struct host *h)
     return h->uart.enabled < 16 && h->typed.count <= TYPED_MAX;
 }
 
-size_t state_write(struct host *h, uint8_t bytes[STATE_MAX])
+/* The first frame has what is to be compared before memory is taken: that is said of each hypervisor. */
+size_t facts_write(struct host *h, uint8_t bytes[FACTS_MAX])
 {
-    struct coder c = {.at = bytes, .end = bytes + STATE_MAX, .writes = 1};
-
-    code_all(&c, h);
-    return c.is_short ? 0 : (size_t)(c.at - bytes);
+    (void)h, (void)bytes;
+    return 0;
 }
 
-int state_read(struct host *h, const uint8_t *bytes, size_t length)
+const char *facts_check(struct host *h, const uint8_t *bytes, size_t length)
 {
-    uint8_t copy[STATE_MAX];
+    (void)h, (void)bytes;
+    return length == 0 ? NULL : "its first frame is too long";
+}
+
+const char *state_prepare(struct host *h)
+{
+    (void)h;
+    return NULL;
+}
+
+const char *state_write(struct host *h, uint8_t bytes[BODY_MAX], size_t *length)
+{
+    struct coder c = {.at = bytes, .end = bytes + BODY_MAX, .writes = 1};
+
+    code_all(&c, h);
+    *length = (size_t)(c.at - bytes);
+    return NULL;
+}
+
+const char *state_read(struct host *h, const uint8_t *bytes, size_t length)
+{
+    static uint8_t copy[BODY_MAX];
     struct coder c = {.at = copy, .end = copy + length};
 
-    if (length > sizeof copy) return 0;
     memcpy(copy, bytes, length);
     code_all(&c, h);
-    if (c.is_short || c.at != c.end || !is_processor(&h->processor) || !is_board(h)) return 0;
-    set_context(&h->processor);
-    return 1;
+    if (c.is_short || c.at != c.end || !is_processor(&h->guest.processor) || !is_board(h))
+        return "the registers of the processor or the board have values that none can have";
+    set_context(&h->guest.processor);
+    h->guest.count_before = h->guest.processor.count;
+    return NULL;
 }
 
 void stop_clock(struct host *h)
 {
-    h->stopped_at = processor_time(&h->processor);
+    h->guest.stopped_at = processor_time(&h->guest.processor);
 }
 
 void start_clock(struct host *h)
 {
-    h->processor.time_offset = h->stopped_at - clock_ticks();
+    h->guest.processor.time_offset = h->guest.stopped_at - clock_ticks();
 }

@@ -58,9 +58,14 @@ struct queue {
     uint32_t next, wrap, parts;          /* packed: where the next chain goes, the wrap counter, and the parts of the last one */
 };
 
+/* The instruction that orders accesses to memory. */
+#ifndef ORDER
+#define ORDER "fence"
+#endif
+
 static inline void order(void)
 {
-    __asm__ volatile("fence" ::: "memory");
+    __asm__ volatile(ORDER ::: "memory");
 }
 
 static inline void queue_clear(struct queue *q, uint32_t number, uint32_t is_packed)

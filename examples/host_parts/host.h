@@ -1,0 +1,180 @@
+/* The host of a guest: its machine of the library, what is around it, and moves. Nothing here knows a processor. What each hypervisor has of its
+ * own is a `struct guest`, in its guest.h, its board.h, and the functions under 'the seam'. */
+#ifndef HOST_H
+#define HOST_H
+
+#include <pthread.h>
+#include <stdatomic.h>
+#include "devices.h"
+#include "guest.h"
+#include "line.h"
+#include "network.h"
+#include "options.h"
+#include "uart.h"
+
+/* The random bytes that wait for the guest. */
+enum { POOL = 64 };
+
+/* An access of the guest to the window of a device, for which it came out. */
+struct touched {
+    uint64_t at;    /* from the first window on */
+    uint32_t value; /* that is written */
+    uint8_t width;
+    int is_write;
+};
+
+/* A move that is on its way. */
+struct move {
+    struct line line;
+    pthread_t carrier;           /* the thread of the line */
+    int has_carrier, stops;      /* it is there; it is to end */
+    atomic_int is_carried;       /* it has nothing to take */
+    atomic_int is_broken;        /* it found the line broken, and has ended */
+    int is_on, round_is_sent;
+    uint32_t round;
+    uint64_t pages, sectors;     /* that the round sends */
+    uint64_t least;              /* the least that a round left */
+    int stalls;                  /* how many rounds left hardly less than that, one after another */
+};
+
+struct statistics {
+    uint64_t began, accesses, loans, steps, waited, in_library, entered;
+};
+
+struct host {
+    struct options options;
+    struct devices devices;
+    pthread_mutex_t next, library;   /* who calls the library has the second one, and who waits for it the first */
+    pthread_cond_t copied;           /* the carrier of a move has something to take, or is to end */
+    vmig_machine machine;
+    uint8_t *memory;             /* that is RAM, lent or not */
+    uint64_t memory_length;
+    vmig_ram ram;                /* RAM, while it is lent */
+    struct guest guest;
+    struct touched touched;
+    struct uart uart;
+    struct typed typed;
+    vmig_turn work;              /* the devices' turn */
+    uint32_t lines;              /* of the devices, as they were read last */
+    int steps_wait;              /* perhaps a step has something to do: after a write, an input and a turn that did not do all */
+    int input_waits;
+    int wire;                    /* of the network device, or -1 */
+    uint8_t frame[FRAME_MAX];
+    size_t frame_length;         /* a frame that the device did not take yet */
+    int has_ended, is_gone;      /* the guest powered off; it was moved away */
+    int reboots;                 /* the guest asked for a reboot */
+    uint64_t outcome;            /* what it said when it powered off: 0 if all is well */
+    struct move move;
+    struct statistics statistics;
+};
+
+/* ---- The seam: what each hypervisor has of its own ---- */
+
+/* Before anything else. It ends the program where no guest can run. */
+void prepare_guests(struct host *h);
+/* This memory becomes the RAM of a guest that begins or arrives. Returns why it cannot, or NULL. */
+const char *give_ram(struct host *h, uint8_t *ram, uint64_t length);
+/* Puts what the guest boots from into RAM, and its processor to the beginning: at first, and for a reboot, while RAM is lent. */
+void load_guest(struct host *h);
+/* The guest is gone, and what was taken for it is given back. RAM is not lent. */
+void end_guest(struct host *h);
+
+/* The guest runs until it comes out. Whether that is done with; else it came out for h->touched. */
+int run_guest(struct host *h);
+/* The access was a read, and gives this. */
+void finish_read(struct host *h, uint32_t value);
+/* Whether the guest came out of itself, or as it was called: no access is half done, and a move may read its registers. */
+int is_between_slices(const struct host *h);
+/* The guest comes out soon, if it does not so of itself. Any thread may call this. */
+void call_out(struct host *h);
+/* How long look_around may wait for bytes. */
+int milliseconds_to_wait(const struct host *h);
+
+/* The lines of the UART, and of the devices as they were read last, reach the interrupt controller. */
+void set_lines(struct host *h);
+/* All of the board but the machine becomes as it is when it is switched on. */
+void board_reset(struct host *h);
+
+/* From here on each page that the guest, or load_guest, writes is in the log. Returns why there is none, or NULL. */
+const char *log_begins(struct host *h);
+void log_ends(struct host *h);
+/* Names what the log has, and empties it. The guest is outside, and what is named lasts until it runs. */
+void log_read(struct host *h, vmig_pages *written);
+
+/* The guest's clock stops, and continues from where it stopped. */
+void stop_clock(struct host *h);
+void start_clock(struct host *h);
+
+/* What the first frame of a move says of this hypervisor, behind what each says: the length. And what is wrong where it came, or NULL. */
+enum { FACTS_MAX = BODY_MAX - HELLO_LENGTH };
+size_t facts_write(struct host *h, uint8_t bytes[FACTS_MAX]);
+const char *facts_check(struct host *h, const uint8_t *bytes, size_t length);
+
+/* The processor and the board as bytes. The first one is called while a move begins, for what takes time. All return what is wrong, or NULL. For
+ * state_read, and before state_write is called, RAM is lent: setting registers may write there, as the guest does. */
+const char *state_prepare(struct host *h);
+const char *state_write(struct host *h, uint8_t bytes[BODY_MAX], size_t *length);
+const char *state_read(struct host *h, const uint8_t *bytes, size_t length);
+
+void print_guest_statistics(const struct host *h, double seconds);
+
+/* ---- What the files of this folder have ---- */
+
+/* loop.c: the guest runs, from here on, until it powers off, is moved away, or the operator ends the program. */
+void host_run(struct host *h);
+/* RAM is taken back, if it is lent: for steps, for what a move reads of RAM, and at the end. All processors of the guest are outside from
+ * then on, until RAM is lent anew. No page is named. */
+void take_ram(struct host *h);
+/* RAM is lent, if it is not. */
+void lend_ram(struct host *h);
+
+/* around.c: looks at the terminal and the wire, and waits for them if the guest waits. */
+void look_around(struct host *h);
+/* The files on which bytes can come that are wanted now, or -1: the terminal, and the wire. */
+enum { SOURCES_OF_INPUT = 2 };
+void list_files(const struct host *h, int files[SOURCES_OF_INPUT]);
+/* Opens the wire of the network device, if there is one. */
+void open_wire(struct host *h);
+/* Hands in what came. */
+void take_input(struct host *h);
+/* What the guest took from the entropy device's pool is put in anew. It is never empty, since a request would wait there, and it holds
+ * few bytes: a machine that is saved and continued twice gives both guests the same. */
+void fill_pool(struct host *h);
+/* Tells the network where the guest's card is now. */
+void announce(struct host *h);
+/* A message that a device sent. */
+void hand_on(struct host *h, unsigned device, const uint8_t *bytes, size_t length);
+/* The operator's word: to continue a guest that was kept. False where the program is to end. */
+int wait_for_word(void);
+
+/* source.c: a part of a move, which takes RAM back where it needs to. False where the guest does not run here any more. */
+int move_further(struct host *h);
+/* Whether a part of a move may be made now, or a move is asked for. */
+int move_is_due(const struct host *h);
+/* No move goes on: the thread of the line ends, and the other end is told why. */
+void leave_line(struct host *h, const char *why);
+
+/* target.c: waits for a guest that is moved here, and returns when it is to run. */
+void host_receive(struct host *h);
+
+/* The machine takes one call at a time: a thread that calls has the lock. One that waits for it comes next, so none that calls again and
+ * again keeps the others out. */
+static inline void lock_library(struct host *h)
+{
+    pthread_mutex_lock(&h->next);
+    pthread_mutex_lock(&h->library);
+    pthread_mutex_unlock(&h->next);
+}
+
+static inline void unlock_library(struct host *h)
+{
+    pthread_mutex_unlock(&h->library);
+}
+
+/* statistics.c: the lock, and the time in the library of the guest's thread; and all numbers at the end. */
+void begin_statistics(struct host *h);
+void enter_library(struct host *h);
+void leave_library(struct host *h);
+void print_statistics(const struct host *h);
+
+#endif

@@ -1,0 +1,79 @@
+#include <stdio.h>
+#include <stdlib.h>
+#include <string.h>
+#include "options.h"
+#include "say.h"
+
+__attribute__((noreturn)) static void misused(const char *what, const char *word)
+{
+    fprintf(stderr, "hypervisor: %s%s%s; --help says more\n", word, *word ? ": " : "", what);
+    exit(2);
+}
+
+static unsigned number_of(const char *option, const char *word, unsigned least, unsigned most)
+{
+    char *end, range[64];
+    unsigned long number = strtoul(word, &end, 10);
+
+    if (*word >= '0' && *word <= '9' && *end == '\0' && number >= least && number <= most) return (unsigned)number;
+    snprintf(range, sizeof range, "it is not a number from %u to %u", least, most);
+    misused(range, option);
+}
+
+static void add_disk(struct options *o, const char *word)
+{
+    if (o->count_disks == DISKS_MAX) misused("there are more than five", "--disk");
+    o->disks[o->count_disks++] = word;
+}
+
+/* An option that has a word of text. NULL where it is none of them. */
+static const char **text_of(struct options *o, const char *option)
+{
+    if (strcmp(option, "--kernel") == 0) return &o->kernel;
+    if (strcmp(option, "--initrd") == 0) return &o->initrd;
+    if (strcmp(option, "--append") == 0) return &o->append;
+    if (strcmp(option, "--listen") == 0) return &o->listen;
+    if (strcmp(option, "--connect") == 0) return &o->connect;
+    return strcmp(option, "--net") == 0 ? &o->net : NULL;
+}
+
+static void take_word(struct options *o, const char *option, const char *word)
+{
+    const char **text = text_of(o, option);
+
+    if (text != NULL && *text != NULL) misused("it is given twice", option);
+    if (text != NULL) *text = word;
+    else if (strcmp(option, "--disk") == 0) add_disk(o, word);
+    else if (strcmp(option, "--mem") == 0) o->mib = number_of(option, word, 1, RAM_MIB_MAX);
+    else if (strcmp(option, "--rounds") == 0) o->rounds = number_of(option, word, 1, 1000000);
+    else if (strcmp(option, "--few") == 0) o->few = number_of(option, word, 0, 1000000);
+    else misused("there is no such option", option);
+}
+
+static void compare(const struct options *o)
+{
+    if (o->kernel == NULL && o->listen == NULL) misused("either --kernel or --listen is needed", "");
+    if (o->kernel != NULL && o->listen != NULL) misused("a guest that is moved here has its kernel already", "--kernel");
+    if (o->listen != NULL && (o->initrd != NULL || o->append != NULL)) misused("--initrd and --append belong to --kernel", "--listen");
+    if (o->net != NULL && strchr(o->net, ',') == NULL) misused("it is OWN,PEER: two sockets", "--net");
+}
+
+void options_read(struct options *o, int count, char **words)
+{
+    *o = (struct options){.mib = RAM_MIB, .rounds = 30, .few = 256};
+    for (int i = 1; i < count; i++) {
+        if (strcmp(words[i], "--help") == 0) {
+            fputs(HELP, stdout);
+            exit(0);
+        }
+        if (strcmp(words[i], "--stats") == 0 || strcmp(words[i], "--no-reboot") == 0) {
+            *(words[i][2] == 's' ? &o->stats : &o->no_reboot) = 1;
+            continue;
+        }
+        if (strncmp(words[i], "--", 2) != 0) misused("this is no option", words[i]);
+        if (i + 1 == count) misused("there is no such option, or it lacks its word", words[i]);
+        take_word(o, words[i], words[i + 1]);
+        i++;
+    }
+    compare(o);
+}

@@ -1,0 +1,141 @@
+/* A guest that is moved here. What comes is not trusted: each frame has its place, the machine is compared with the options before
+ * memory is taken, and the registers are looked at. Until the source has let go, the guest does not run here. */
+#include <string.h>
+#include "host.h"
+#include "say.h"
+
+/* The first bytes of a stream, which tell what machine it is. */
+enum { HEAD_MAX = 496 };
+
+struct arrival {
+    uint8_t head[HEAD_MAX];
+    size_t head_length;
+    uint64_t length;     /* of RAM */
+    int is_known;        /* the machine was compared, and memory is there */
+    int has_state;
+    uint8_t state[BODY_MAX];  /* of the processor and the board, once it has come */
+    size_t state_length;
+    uint32_t rounds;
+};
+
+static const char *check_hello(struct host *h, const struct line *l)
+{
+    struct hello hello;
+
+    if (l->type != HELLO || !hello_read(l->body, &hello)) return "what connects is no hypervisor of this kind";
+    if (hello.version != LINE_VERSION) return "it is of another version";
+    if (hello.kind != GUEST_KIND) return "it is a hypervisor for another processor";
+    if (hello.base != RAM_BASE) return "its RAM begins at another address";
+    if (hello.mib != h->options.mib) return "it has another size of RAM than --mem";
+    return facts_check(h, l->body + HELLO_LENGTH, l->length - HELLO_LENGTH);
+}
+
+static const char *feed(struct host *h, struct arrival *a, const uint8_t *bytes, size_t length)
+{
+    vmig_status status = vmig_feed(&h->machine, bytes, length);
+    vmig_description found;
+
+    if (vmig_refused(status)) return vmig_status_name(status);
+    vmig_describe(&h->machine, &found);
+    if (found.rounds > a->rounds) {
+        say("move: round %u is here", found.rounds);
+        a->rounds = found.rounds;
+        /* The guest runs elsewhere now: what is brought to the files here needs not be brought in its pause. */
+        if (!devices_bring(&h->devices)) return "a disk cannot be written";
+    }
+    return NULL;
+}
+
+/* The first bytes are kept until they tell the machine. It is compared, and only then memory is taken for it. */
+static const char *take_head(struct host *h, struct arrival *a, const uint8_t *bytes, size_t length)
+{
+    size_t part = length < HEAD_MAX - a->head_length ? length : HEAD_MAX - a->head_length;
+    const char *why;
+    int more;
+
+    memcpy(a->head + a->head_length, bytes, part);
+    a->head_length += part;
+    why = devices_compare(&h->devices, a->length, a->head, a->head_length, &more);
+    if (why != NULL || more) return why;
+    h->memory_length = a->length;
+    h->memory = devices_take_ram(a->length);
+    why = h->memory == NULL ? "there is no memory for RAM" : give_ram(h, h->memory, a->length);
+    if (why != NULL) return why;
+    devices_let_arrive(&h->devices, h->memory, a->length, &h->machine);
+    a->is_known = 1;
+    why = feed(h, a, a->head, a->head_length);
+    return why != NULL ? why : feed(h, a, bytes + part, length - part);
+}
+
+static const char *take_frame(struct host *h, struct arrival *a)
+{
+    struct line *l = &h->move.line;
+
+    if (l->type == STREAM && !a->has_state)
+        return a->is_known ? feed(h, a, l->body, l->length) : take_head(h, a, l->body, l->length);
+    if (l->type == STATE && a->is_known && !a->has_state) {
+        a->has_state = 1;
+        a->state_length = l->length;
+        memcpy(a->state, l->body, l->length);
+        return NULL;
+    }
+    if (l->type == ENDED) return line_reason(l, "the source says: ");
+    return l->type == END && a->has_state ? NULL : "a frame is out of its place";
+}
+
+/* Takes all frames to the last. Returns what is wrong, or NULL. */
+static const char *take_all(struct host *h, struct arrival *a)
+{
+    struct line *l = &h->move.line;
+    const char *why;
+    vmig_status status;
+
+    line_be_patient(l);
+    do {
+        why = line_receive(l) ? take_frame(h, a) : "the line is broken";
+        if (why != NULL) return why;
+    } while (l->type != END);
+    status = vmig_finish(&h->machine);
+    if (status != VMIG_OK) return vmig_status_name(status);
+    lend_ram(h);
+    why = state_read(h, a->state, a->state_length);
+    if (why != NULL) return why;
+    return devices_bring(&h->devices) ? NULL : "a disk cannot be written";
+}
+
+__attribute__((noreturn)) static void refuse(struct host *h, const char *why)
+{
+    if (h->move.line.type == ENDED) fail("move: %s: no guest is here", why);
+    line_refuse(&h->move.line, why);
+    fail("move: %s: no guest is here, and the source has it", why);
+}
+
+/* The source did not say that it has let go. Perhaps it did, and perhaps it runs the guest. */
+static void keep(void)
+{
+    say("move: the line broke before the source's last word: the guest is whole here, but does not run");
+    say("move: if it does not run at the source either, SIGUSR2 or Ctrl-A c starts it here; else end this program");
+    if (!wait_for_word()) fail("ended by its operator: the guest does not run here");
+    say("move: by the word of the operator the guest runs here");
+}
+
+void host_receive(struct host *h)
+{
+    struct line *l = &h->move.line;
+    static struct arrival a;
+    const char *why;
+
+    a.length = (uint64_t)h->options.mib * MIB;
+    for (unsigned i = 0; i < h->devices.count_disks; i++) say("%s will be overwritten", h->devices.disks[i].name);
+    line_accept(l, h->options.listen);
+    why = line_receive(l) ? check_hello(h, l) : "the line is broken";
+    if (why == NULL) why = take_all(h, &a);
+    if (why != NULL) refuse(h, why);
+    say("move: all is here");
+    line_hurry(l);
+    if (!line_send(l, READY, NULL, 0) || !line_receive(l) || l->type != GO) keep();
+    else if (line_send(l, RUNS, NULL, 0)) say("move: the guest runs here");
+    else say("move: the guest runs here; the source did not hear so");
+    line_close(l);
+    start_clock(h);
+}

@@ -1,0 +1,116 @@
+/* A line that breaks: `cut PORT WHERE` accepts one connection at a free port of 127.0.0.1, which it prints, connects it to PORT there,
+ * and hands on what comes, frame by frame. WHERE is the type of the frame before which it breaks, or `bytes=N`: after N bytes of the
+ * source. Both ends are closed then. Or the line stays whole: WHERE is `spoil=TYPE:N`, and byte N of each frame of this type is changed, or it
+ * is `slow`, and each frame of the source waits for some time. */
+#define _DEFAULT_SOURCE
+#include <arpa/inet.h>
+#include <poll.h>
+#include <stdint.h>
+#include <stdio.h>
+#include <stdlib.h>
+#include <string.h>
+#include <sys/socket.h>
+#include <unistd.h>
+#include "../line.h"
+
+/* The names of the frames, in the order of their types. */
+static const char *const NAMES[] = {"", "hello", "stream", "state", "end", "ready", "go", "runs", "refused", "ended"};
+
+static const char *where;
+static unsigned long bytes_left = (unsigned long)-1, spoiled;
+static const char *spoils = "";
+
+enum { WAIT_US = 5000 };
+
+static struct sockaddr_in address_of(int port)
+{
+    struct sockaddr_in a = {.sin_family = AF_INET, .sin_port = htons((uint16_t)port)};
+
+    a.sin_addr.s_addr = htonl(INADDR_LOOPBACK);
+    return a;
+}
+
+static int accept_one(void)
+{
+    struct sockaddr_in own = address_of(0);
+    socklen_t length = sizeof own;
+    int listener = socket(AF_INET, SOCK_STREAM, 0), one;
+
+    if (bind(listener, (struct sockaddr *)&own, sizeof own) != 0 || listen(listener, 1) != 0) exit(1);
+    getsockname(listener, (struct sockaddr *)&own, &length);
+    printf("%d\n", ntohs(own.sin_port));
+    fflush(stdout);
+    one = accept(listener, NULL, NULL);
+    close(listener);
+    return one;
+}
+
+/* Reads `length` bytes, or ends the program, and both lines with it. */
+static void read_all(int from, uint8_t *bytes, size_t length)
+{
+    while (length > 0) {
+        ssize_t got = read(from, bytes, length);
+
+        if (got <= 0) exit(0);
+        bytes += got;
+        length -= (size_t)got;
+    }
+}
+
+static void write_all(int to, const uint8_t *bytes, size_t length)
+{
+    while (length > 0) {
+        ssize_t put = write(to, bytes, length);
+
+        if (put <= 0) exit(0);
+        bytes += put;
+        length -= (size_t)put;
+    }
+}
+
+/* Hands one frame on, or breaks the line. */
+static void hand_on(int from, int to, int is_source)
+{
+    static uint8_t frame[FRAME_HEAD + BODY_MAX];
+    size_t length;
+
+    read_all(from, frame, FRAME_HEAD);
+    length = frame[4] | (size_t)frame[5] << 8 | (size_t)frame[6] << 16;
+    if (frame[0] >= sizeof NAMES / sizeof *NAMES || length > BODY_MAX) exit(1);
+    if (strcmp(NAMES[frame[0]], where) == 0) exit(0);
+    read_all(from, frame + FRAME_HEAD, length);
+    if (strcmp(NAMES[frame[0]], spoils) == 0 && spoiled < length) frame[FRAME_HEAD + spoiled] ^= 0x80;
+    length += FRAME_HEAD;
+    if (is_source && strcmp(where, "slow") == 0) usleep(WAIT_US);
+    if (is_source && length > bytes_left) {
+        write_all(to, frame, bytes_left);
+        exit(0);
+    }
+    if (is_source) bytes_left -= length;
+    write_all(to, frame, length);
+}
+
+int main(int count, char **words)
+{
+    struct sockaddr_in target;
+    int source, other;
+
+    if (count != 3) return 2;
+    where = words[2];
+    if (strncmp(where, "spoil=", 6) == 0 && strtok(words[2], "=") != NULL) {
+        spoils = strtok(NULL, ":");
+        spoiled = strtoul(strtok(NULL, ":"), NULL, 10);
+    }
+    if (strncmp(where, "bytes=", 6) == 0) bytes_left = strtoul(where + 6, NULL, 10);
+    target = address_of(atoi(words[1]));
+    source = accept_one();
+    other = socket(AF_INET, SOCK_STREAM, 0);
+    if (connect(other, (struct sockaddr *)&target, sizeof target) != 0) return 1;
+    for (;;) {
+        struct pollfd ends[] = {{.fd = source, .events = POLLIN}, {.fd = other, .events = POLLIN}};
+
+        poll(ends, 2, -1);
+        if (ends[0].revents != 0) hand_on(source, other, 1);
+        if (ends[1].revents != 0) hand_on(other, source, 0);
+    }
+}

@@ -1,0 +1,24 @@
+/* The guest as this hypervisor has it: the processor and the board. */
+#ifndef GUEST_H
+#define GUEST_H
+
+#include "interrupts.h"
+#include "processor.h"
+
+/* What the first frame of a move says of the hypervisor: another one than RISC-V on an interpreter is refused. */
+enum { GUEST_KIND = 1 };
+
+struct guest {
+    struct processor processor;
+    struct interrupts interrupts;
+    uint64_t left;          /* instructions that are left of the slice */
+    uint64_t stopped_at;    /* the guest's time when it was paused */
+    uint64_t count_before;  /* instructions before it was moved here */
+};
+
+struct host;
+
+/* board.c: what the board answers without the machine. False where the guest came out for the window of a virtio device: h->touched. */
+int board_answers(struct host *h);
+
+#endif

@@ -1,0 +1,19 @@
+/* The guest as this hypervisor has it: a virtual machine of KVM, and the thread that calls it out. */
+#ifndef GUEST_H
+#define GUEST_H
+
+#include "kvm.h"
+#include "watch.h"
+
+/* What the first frame of a move says of the hypervisor: another one than x86-64 under KVM is refused. */
+enum { GUEST_KIND = 2 };
+
+struct guest {
+    struct kvm kvm;
+    struct watch watch;
+    int is_between;         /* it came out as it was called: no access of its is half done */
+    int is_loaded;          /* the host wrote what it boots from, of which KVM's log knows nothing */
+    uint64_t exits, called, ports;
+};
+
+#endif

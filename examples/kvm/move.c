@@ -1,0 +1,110 @@
+/* What a move asks of a guest under KVM: the facts of the first frame, and the state of the last one. */
+#include <stdlib.h>
+#include <string.h>
+#include "cpuid.h"
+#include "host.h"
+#include "msrs.h"
+#include "state.h"
+
+/* KVM takes frequencies that differ by so many millionths for the same one. */
+enum { TOLERANCE = 250, MILLION = 1000000 };
+
+/* The facts: the frequency of the TSC in kHz, the number of entries of CPUID, and these as KVM has them. */
+struct facts {
+    uint32_t khz, count;
+};
+
+size_t facts_write(struct host *h, uint8_t bytes[FACTS_MAX])
+{
+    const struct kvm *k = &h->guest.kvm;
+    struct facts facts = {k->khz, k->cpuid->nent};
+    size_t length = facts.count * sizeof *k->cpuid->entries;
+
+    memcpy(bytes, &facts, sizeof facts);
+    memcpy(bytes + sizeof facts, k->cpuid->entries, length);
+    return sizeof facts + length;
+}
+
+static int is_same_frequency(uint64_t one, uint64_t other)
+{
+    uint64_t difference = one > other ? one - other : other - one;
+
+    return difference * MILLION <= other * TOLERANCE;
+}
+
+/* Makes a virtual machine without RAM, and a processor as the guest's, to see what KVM says of it. */
+static const char *try_processor(const struct kvm *k, struct kvm_cpuid2 *cpuid, uint32_t khz)
+{
+    struct kvm own = *k;
+    const char *why;
+
+    own.cpuid = cpuid;
+    own.khz = 0;
+    own.log = NULL;
+    why = kvm_make(&own, NULL, 0);
+    if (why == NULL) why = kvm_make_cpu(&own);
+    if (why == NULL && !own.sets_frequency && !is_same_frequency(khz, own.khz)) why = "the TSC of this host has another frequency";
+    kvm_end(&own);
+    free(own.log);
+    return why;
+}
+
+const char *facts_check(struct host *h, const uint8_t *bytes, size_t length)
+{
+    struct kvm *k = &h->guest.kvm;
+    struct facts facts;
+    struct kvm_cpuid2 *cpuid;
+    const char *why;
+
+    if (length < sizeof facts) return "its first frame is too short";
+    memcpy(&facts, bytes, sizeof facts);
+    if (facts.count > CPUID_MOST || length != sizeof facts + facts.count * sizeof *cpuid->entries || facts.khz == 0)
+        return "its first frame has no CPUID";
+    cpuid = calloc(1, sizeof *cpuid + facts.count * sizeof *cpuid->entries);
+    if (cpuid == NULL) return "there is no memory for its CPUID";
+    cpuid->nent = facts.count;
+    memcpy(cpuid->entries, bytes + sizeof facts, facts.count * sizeof *cpuid->entries);
+    why = cpuid_compare(cpuid, k->cpuid);
+    if (why == NULL) why = try_processor(k, cpuid, facts.khz);
+    free(why == NULL ? k->cpuid : cpuid);
+    if (why != NULL) return why;
+    k->cpuid = cpuid;
+    k->khz = facts.khz;
+    return NULL;
+}
+
+const char *state_prepare(struct host *h)
+{
+    return msrs_prepare(&h->guest.kvm);
+}
+
+const char *state_write(struct host *h, uint8_t bytes[BODY_MAX], size_t *length)
+{
+    static struct whole_state all;
+    const char *why;
+
+    memset(&all, 0, sizeof all);
+    all.state.uart = h->uart;
+    all.state.typed = h->typed;
+    why = parts_read(&h->guest.kvm, &all);
+    if (why == NULL) why = state_pack(&all, bytes, BODY_MAX, length);
+    state_free(&all);
+    return why;
+}
+
+/* The processor is made only here: see kvm_make_cpu. */
+const char *state_read(struct host *h, const uint8_t *bytes, size_t length)
+{
+    static struct whole_state all;
+    struct kvm *k = &h->guest.kvm;
+    const char *why = state_unpack(k, &all, bytes, length);
+
+    if (why == NULL) why = kvm_make_cpu(k);
+    if (why == NULL) why = parts_set(k, &all, STATE_PARTS, PARTS);
+    state_free(&all);
+    if (why != NULL) return why;
+    h->uart = all.state.uart;
+    h->typed = all.state.typed;
+    watch_guest(k->run);
+    return NULL;
+}

@@ -1,0 +1,270 @@
+/* The state of a guest, whose every part has values that those of a new processor are not, is set in a second virtual machine and read there again.
+ * Each part that is left out, and MSRs that come before the LAPIC, have to be seen by that. Then states and first frames of a move are changed
+ * at random: they are taken or refused, and nothing worse. */
+#define _DEFAULT_SOURCE
+#include <stdarg.h>
+#include <stdio.h>
+#include <stdlib.h>
+#include <string.h>
+#include <sys/mman.h>
+#include "cpuid.h"
+#include "host.h"
+#include "msrs.h"
+#include "say.h"
+#include "state.h"
+
+enum { LENGTH = 2 * MIB, CHANGED = 100, DEADLINE = 0x6e0, TSC = 0x10, KERNEL_GS = 0xc0000102, A_CLOCK_S = 5, WRONG_MAX = 20 };
+enum { XMM0 = 160, XSTATE_BV = 512, LVT_TIMER = 0x320, SPURIOUS = 0xf0, REQUESTS = 0x200, VECTOR = 0x61 };
+#define CLOCK UINT64_C(1000000000000000)
+
+static struct host host;
+static uint8_t *ram;
+static int count_wrong;
+
+void watch_guest(struct kvm_run *run)
+{
+    (void)run;
+}
+
+void fail(const char *format, ...)
+{
+    va_list values;
+
+    va_start(values, format);
+    vfprintf(stderr, format, values);
+    va_end(values);
+    fprintf(stderr, "\n");
+    exit(1);
+}
+
+static void wrong(const char *what, const char *why)
+{
+    if (count_wrong++ < WRONG_MAX) fprintf(stderr, "state: %s: %s\n", what, why);
+}
+
+static void expect(int is_right, const char *what)
+{
+    if (!is_right) fail("state: %s", what);
+}
+
+static struct kvm *kvm(void)
+{
+    return &host.guest.kvm;
+}
+
+static void make(int with_cpu)
+{
+    kvm_end(kvm());
+    expect(kvm_make(kvm(), ram, LENGTH) == NULL, "no virtual machine");
+    if (with_cpu) expect(kvm_make_cpu(kvm()) == NULL, "no processor");
+}
+
+/* The area of XSAVE has the register XMM0, and says that it has it. The LAPIC's timer waits for a deadline, and an interrupt is requested. */
+static void change_arrays(struct whole_state *all)
+{
+    struct state *s = &all->state;
+    uint32_t timer = 0x40000 | VECTOR, enabled = 0x1ff, requested = 1 << (VECTOR % 32);
+    uint64_t has = 3;
+
+    memset(all->xsave + XMM0, 0x5a, 16);
+    memcpy(all->xsave + XSTATE_BV, &has, sizeof has);
+    memcpy(s->lapic.regs + LVT_TIMER, &timer, sizeof timer);
+    memcpy(s->lapic.regs + SPURIOUS, &enabled, sizeof enabled);
+    memcpy(s->lapic.regs + REQUESTS + VECTOR / 32 * 16, &requested, sizeof requested);
+    for (uint32_t i = 0; i < s->count_msrs; i++) {
+        if (all->msrs[i].index == DEADLINE) all->msrs[i].data = UINT64_C(1) << 60;
+        if (all->msrs[i].index == KERNEL_GS) all->msrs[i].data = 0x123456789000;
+    }
+}
+
+static void change(struct whole_state *all)
+{
+    struct state *s = &all->state;
+
+    change_arrays(all);
+    s->regs.rax = UINT64_C(0x123456789abcdef0);
+    s->regs.rip = 0x1234;
+    s->sregs.cr2 = 0x7654321;
+    s->sregs.gdt.limit = 0x77;
+    s->xcrs.xcrs[0].value = 3;
+    s->chips[0].chip.pic.imr = 0xa5;
+    s->chips[1].chip.pic.imr = 0x5a;
+    s->chips[2].chip.ioapic.redirtbl[5].fields.vector = VECTOR;
+    s->chips[2].chip.ioapic.redirtbl[5].fields.trig_mode = 1;
+    s->pit.channels[0].count = 0x4321;
+    s->pit.channels[0].mode = 2;
+    s->clock.clock = CLOCK;
+    s->has_tsc = 0;
+    s->debugregs.db[0] = 0x1000;
+    s->debugregs.db[3] = 0x3000;
+    s->events.nmi.masked = 1;
+    s->mp_state.mp_state = KVM_MP_STATE_HALTED;
+}
+
+static void read_all(struct whole_state *all)
+{
+    const char *why;
+
+    memset(all, 0, sizeof *all);
+    why = parts_read(kvm(), all);
+    if (why != NULL) fail("state: %s", why);
+}
+
+/* What goes on by itself, and is left out of the comparison. The clock has to be near. */
+static void level(struct whole_state *all)
+{
+    struct state *s = &all->state;
+
+    for (int i = 0; i < 3; i++) s->pit.channels[i].count_load_time = 0;
+    s->clock = (struct kvm_clock_data){.clock = s->clock.clock / 1000000000 / A_CLOCK_S};
+    s->tsc = 0;
+    for (uint32_t i = 0; i < s->count_msrs; i++)
+        if (all->msrs[i].index == TSC) all->msrs[i].data = 0;
+}
+
+/* The first part in which two states differ, or NULL. */
+static const char *difference(const struct whole_state *one, const struct whole_state *other)
+{
+    const uint8_t *a = (const uint8_t *)&one->state, *b = (const uint8_t *)&other->state;
+
+    if (memcmp(one->xsave, other->xsave, one->state.xsave_size) != 0) return "KVM_SET_XSAVE";
+    if (memcmp(one->msrs, other->msrs, one->state.count_msrs * sizeof *one->msrs) != 0) return "KVM_SET_MSRS";
+    for (int i = 0; i < PARTS; i++) {
+        size_t end = sizeof(struct state);
+
+        if (STATE_PARTS[i].at == 0) continue;
+        for (int k = 0; k < PARTS; k++)
+            if (STATE_PARTS[k].at > STATE_PARTS[i].at && STATE_PARTS[k].at < end) end = STATE_PARTS[k].at;
+        if (memcmp(a + STATE_PARTS[i].at, b + STATE_PARTS[i].at, end - STATE_PARTS[i].at) != 0) return STATE_PARTS[i].name;
+    }
+    return NULL;
+}
+
+static void copy(const struct whole_state *from, struct whole_state *to)
+{
+    uint8_t bytes[BODY_MAX];
+    size_t length = 0;
+
+    expect(state_pack(from, bytes, sizeof bytes, &length) == NULL, "a state does not fit");
+    expect(state_unpack(kvm(), to, bytes, length) == NULL, "a state is not what was written");
+}
+
+/* Sets the state with these parts in a new machine, and says in which part it differs when it is read there. */
+static const char *set_elsewhere(const struct whole_state *state, const struct part *parts, int count)
+{
+    struct whole_state set, got, wanted;
+    const char *why;
+
+    make(1);
+    copy(state, &set);
+    copy(state, &wanted);
+    why = parts_set(kvm(), &set, parts, count);
+    if (why != NULL) fail("state: %s", why);
+    read_all(&got);
+    level(&got);
+    level(&wanted);
+    why = difference(&got, &wanted);
+    state_free(&set);
+    state_free(&got);
+    state_free(&wanted);
+    return why;
+}
+
+/* All parts but the one of this number. */
+static int without(int left_out, struct part parts[PARTS])
+{
+    int count = 0;
+
+    for (int i = 0; i < PARTS; i++)
+        if (i != left_out) parts[count++] = STATE_PARTS[i];
+    return count;
+}
+
+static void try_orders(const struct whole_state *state)
+{
+    struct part parts[PARTS];
+    const char *why = set_elsewhere(state, STATE_PARTS, PARTS);
+    int lapic = 0, count = 0;
+
+    if (why != NULL) wrong("all parts", why);
+    for (int i = 0; i < PARTS; i++) {
+        if (STATE_PARTS[i].set == KVM_SET_LAPIC) lapic = i;
+        if (STATE_PARTS[i].set == KVM_SET_DEVICE_ATTR) continue;
+        if (set_elsewhere(state, parts, without(i, parts)) == NULL) wrong(STATE_PARTS[i].name, "it is left out, and nothing shows it");
+    }
+    count = without(lapic, parts);
+    parts[count] = STATE_PARTS[lapic];
+    if (set_elsewhere(state, parts, PARTS) == NULL) wrong("MSRs before the LAPIC", "nothing shows it");
+}
+
+static uint64_t draw(void)
+{
+    static uint64_t state = 88172645463325252;
+
+    state ^= state << 13;
+    state ^= state >> 7;
+    return state ^= state << 17;
+}
+
+static size_t spoil(uint8_t *bytes, size_t length)
+{
+    for (int n = (int)(draw() % 8); n >= 0; n--) bytes[draw() % length] = (uint8_t)draw();
+    return draw() % 16 == 0 ? draw() % length : length;
+}
+
+static void change_states(const struct whole_state *state)
+{
+    static uint8_t bytes[BODY_MAX];
+    size_t length = 0;
+    int taken = 0;
+
+    for (int i = 0; i < CHANGED; i++) {
+        expect(state_pack(state, bytes, sizeof bytes, &length) == NULL, "a state does not fit");
+        length = spoil(bytes, length);
+        make(0);
+        taken += state_read(&host, bytes, length) == NULL;
+    }
+    printf("state: of %d changed states %d were taken\n", CHANGED, taken);
+}
+
+static void change_facts(void)
+{
+    static uint8_t bytes[BODY_MAX];
+    size_t length;
+    int taken = 0;
+
+    for (int i = 0; i < CHANGED; i++) {
+        length = spoil(bytes, facts_write(&host, bytes));
+        taken += facts_check(&host, bytes, length) == NULL;
+    }
+    printf("state: of %d changed first frames %d were taken\n", CHANGED, taken);
+}
+
+int main(void)
+{
+    struct whole_state state, first;
+    const char *why = kvm_open(kvm());
+
+    ram = mmap(NULL, LENGTH, PROT_READ | PROT_WRITE, MAP_PRIVATE | MAP_ANONYMOUS, -1, 0);
+    if (why != NULL) fail("state: %s", why);
+    kvm()->cpuid = cpuid_offer(kvm());
+    expect(ram != MAP_FAILED && kvm()->cpuid != NULL, "no memory");
+    make(1);
+    expect(state_prepare(&host) == NULL, "no list of MSRs");
+    read_all(&first);
+    change(&first);
+    why = parts_set(kvm(), &first, STATE_PARTS, PARTS);
+    if (why != NULL) fail("state: %s", why);
+    read_all(&state);
+    printf("state: %zu bytes, %u of them MSRs\n", sizeof state.state + state.state.xsave_size + state.state.count_msrs * sizeof *state.msrs,
+           (unsigned)(state.state.count_msrs * sizeof *state.msrs));
+    try_orders(&state);
+    change_states(&state);
+    change_facts();
+    kvm_end(kvm());
+    free(kvm()->cpuid);
+    free(kvm()->log);
+    state_free(&first);
+    state_free(&state);
+    return count_wrong != 0;
+}
