@@ -1,5 +1,5 @@
 -- A disk outside of the machine: what a request asks of it, and what its answer changes (VIRTIO 1.2, 5.2.6).
-use Rattle.std.specs.Prelude.{◌≡◌, ℕ, ◌+◌, ◌-◌, ◌*◌, ◌/◌, ◌%◌, ◌==◌, ◌&&◌, nat_le, nat_lt, not, All, Bool, true, false, List, [], length, take, drop, slice_get, slice_set, Option, Some, None, if◌then◌else◌}
+use Rattle.std.specs.Prelude.{ℕ, ◌+◌, ◌-◌, ◌*◌, ◌/◌, ◌%◌, ◌==◌, ◌&&◌, nat_le, nat_lt, not, All, Bool, true, false, List, [], length, take, drop, slice_get, slice_set, Option, Some, None, if◌then◌else◌}
 use Rattle.guestmem.specs.Writes.{Write}
 use Rattle.chains.specs.Places.{places, place_writes, read_places}
 use Rattle.blk.specs.Move.{failed}

@@ -1,4 +1,4 @@
--- The calls of a device that are out.
+-- The calls of disks that are out.
 use Rattle.std.specs.Prelude.{◌≡◌, ◌≢◌, ℕ, ◌+◌, ◌-◌, ◌≤◌, ◌<◌, ◌^◌, nat_lt, All, Bool, false, List, [], ◌∷◌, ◌++◌, length, slice_get, slice_set, slice_index_or, Option, Some, None, if◌then◌else◌}
 use Rattle.std.specs.List.{list_any, remove}
 use Rattle.blk.specs.declared.outside.DiskCall.{DiskCall}
@@ -17,7 +17,7 @@ pub record IsWithin (call : DiskCall) : Type 0 where
 abbrev pub AreApart : ℕ → List Out → Type 0
 AreApart size outs = (i j : ℕ) (a b : Out) → slice_get outs i ≡ Some a → slice_get outs j ≡ Some b → i ≢ j → overlap size a.call b.call ≡ false
 
--- The calls that are out, in the order of handing out, in blocks of `size` sectors.
+-- The calls of a device that are out, in the order of handing out, over storage with blocks of `size` sectors.
 pub record CallsState : Type 0 where
   pub size : ℕ
   pub outs : List Out
@@ -36,12 +36,11 @@ abbrev pub call_of : ℕ → Option CallsState → List Request → ℕ → Opti
 call_of most None requests k = None
 call_of most (Some s) requests k = call_at s.size most s.outs requests k
 
--- The call of the k-th request of a device, both from 0, of so many sectors at most, if it may be handed out. The lists are the requests of each
--- device.
+-- The call of the k-th request of a device, both from 0, cut to `most` sectors, if it may be handed out. `asked` are the requests of each device.
 abbrev pub call_of_device : ℕ → AllCalls → List (List Request) → ℕ → ℕ → Option DiskCall
 call_of_device most calls asked dev k = call_of most (slice_get calls.devices dev) (slice_index_or asked dev []) k
 
--- The device so many steps after another, in a turn over so many devices.
+-- The device `steps` steps after another, in a turn over `devices` devices.
 abbrev pub in_turn : ℕ → ℕ → ℕ → ℕ
 in_turn from devices steps = if nat_lt (from + steps) devices then from + steps else from + steps - devices
 
@@ -93,7 +92,7 @@ is_out_of calls dev = has_out_in (slice_get calls.devices dev)
 abbrev pub is_any_out : AllCalls → Bool
 is_any_out calls = list_any has_out calls.devices
 
--- The calls when one of a device, at this place, is not out any more.
+-- The calls without the one of a device at this place.
 abbrev pub without_at : AllCalls → ℕ → ℕ → Option CallsState → AllCalls
 without_at calls dev i None = calls
 without_at calls dev i (Some s) = record calls { devices = slice_set calls.devices dev (record s { outs = remove s.outs i }) }

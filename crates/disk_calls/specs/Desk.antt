@@ -33,7 +33,7 @@ pub data Turn : Type 0 where
   Pass : ℕ → Request → Turn
   -- the k-th request, which asks nothing of the disk, ends
   End : ℕ → Turn
-  -- the call of the k-th request is handed out under a number, so many sectors at most
+  -- the call of the k-th request is handed out, cut to a number of sectors, under a number
   Hand : ℕ → ℕ → ℕ → Turn
   -- the disk answers the i-th call that is out, whole or in part
   Reply : ℕ → Answer → Turn
@@ -42,7 +42,7 @@ pub data Turn : Type 0 where
   -- all requests are dropped, by a reset or as the queue is not ready any more
   Drop : Turn
 
--- The answer goes to the request that asks now for what begins as the call does. It was not looked up whom the call was handed out for.
+-- The answer goes to the first request that asks for what begins as the call does, whoever the call was handed out for.
 abbrev pub reply_to : ℕ → Desk → ℕ → Answer → Placed → Option ℕ → Desk → Type 0
 reply_to base d i answer p None new = new ≡ record { requests = d.requests; placed = remove d.placed i }
 reply_to base d i answer p (Some k) new = new ≡ record { requests = (answer_step base d.requests k answer).requests; placed = remove d.placed i }

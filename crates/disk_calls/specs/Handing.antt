@@ -22,7 +22,7 @@ abbrev pub may_hand_out : ℕ → List Out → List Request → DiskCall → Boo
 may_hand_out size outs earlier call =
     nat_lt (length outs) CALLS_MAX && not (list_any (λ out. overlap size out.call call) outs) && not (list_any (λ r. left_overlaps size call (disk_call r)) earlier)
 
--- The first sectors of a call, so many at most.
+-- The first sectors of a call, `most` at most.
 abbrev pub cut : ℕ → DiskCall → DiskCall
 cut most call = record call { count = min call.count most }
 
@@ -30,7 +30,7 @@ abbrev pub handed_out : ℕ → ℕ → List Out → List Request → Option Dis
 handed_out size most outs earlier None = None
 handed_out size most outs earlier (Some call) = if may_hand_out size outs earlier (cut most call) then Some (cut most call) else None
 
--- The call of the k-th request, from 0, of so many sectors at most, if it may be handed out.
+-- The call of the k-th request, from 0, cut to `most` sectors, if it may be handed out.
 abbrev pub call_at : ℕ → ℕ → List Out → List Request → ℕ → Option DiskCall
 call_at size most outs requests k = handed_out size most outs (take k requests) (disk_call_at requests k)
 
@@ -45,7 +45,7 @@ abbrev pub begins_as : DiskCall → Option DiskCall → Bool
 begins_as call None = false
 begins_as call (Some asked) = (code_of asked.what == code_of call.what) && (asked.first == call.first)
 
--- The request that the answer of a call is for, by its number from 0: the first one whose call begins as that does.
+-- The request that the answer of a call is for, by its place from 0: the first one whose call begins as that does.
 abbrev pub asker : List Request → DiskCall → Option ℕ
 asker [] call = None
 asker (r ∷ requests) call = if begins_as call (disk_call r) then Some 0 else option_map (λ k. k + 1) (asker requests call)

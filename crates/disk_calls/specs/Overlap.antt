@@ -10,7 +10,7 @@ is_flush to.Write = false
 is_flush to.Clear = false
 is_flush to.Flush = true
 
--- The block of the host's storage, of so many sectors each, in which a call begins.
+-- The block of the host's storage, which has blocks of `size` sectors, in which a call begins.
 abbrev pub first_block : ℕ → DiskCall → ℕ
 first_block size call = call.first / size
 
@@ -18,7 +18,8 @@ first_block size call = call.first / size
 abbrev pub last_block : ℕ → DiskCall → ℕ
 last_block size call = (call.first + call.count - 1) / size
 
--- Two calls overlap where some block of the host's storage has sectors of both. A flush overlaps flushes alone.
+-- Two calls overlap where a block of the host's storage has sectors of both: a host that writes whole blocks would lose one of two writes into one.
+-- A flush overlaps flushes alone.
 abbrev pub overlap : ℕ → DiskCall → DiskCall → Bool
 overlap size a b =
     if is_flush a.what then is_flush b.what

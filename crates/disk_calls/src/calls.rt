@@ -1,6 +1,6 @@
 //! The calls of all devices that are out.
 
-ghost use Rattle.std.specs.Prelude.{ℕ, ◌≡◌, ◌≢◌, ◌<◌, ◌≤◌, ◌^◌, ◌+◌, ◌-◌, ◌*◌, [], List, None, Some, IfOk, IfSome, length, replicate, slice_get, slice_index_or};
+ghost use Rattle.std.specs.Prelude.{ℕ, ◌≡◌, ◌≢◌, ◌<◌, ◌≤◌, ◌^◌, ◌+◌, ◌-◌, ◌*◌, [], List, None, Some, IfOk, IfSome, length, replicate, slice_index_or};
 ghost use Rattle.blk.specs.declared.request.Request.{Request};
 ghost use Rattle.disk_calls.specs.Calls.{AreWithin, IsAt, IsHandedOut, IsNext, call_of_device, in_turn, is_any_out, is_out_of, without};
 ghost use Rattle.disk_calls.specs.Handing.{asker};
@@ -13,7 +13,7 @@ use guestmem::NoMemory;
 use std::alloc::Global;
 use std::marker::Model;
 
-/// A machine, as the calls of its disks see it.
+/// A machine as the calls of its disks outside see it: one that is idle, one that is sent, or one whose RAM is lent.
 pub trait Asks {
     /// The outstanding requests of each device, in the order of taking: none of one that has no disk outside, or does not run.
     ghost asked: { Self → List (List Request) };
@@ -32,7 +32,7 @@ pub trait Asks {
 /// A call that is handed out.
 #[derive(Clone, Copy, Debug, PartialEq, Eq)]
 pub struct Handed {
-    /// What names it.
+    /// Its number, which no other call ever has.
     pub number: u64,
 
     /// The number of its device.
@@ -45,7 +45,7 @@ pub struct Handed {
     pub call: DiskCall,
 }
 
-/// Where a call is that is out.
+/// Where a call that is out is kept.
 #[derive(Clone, Copy, Debug, PartialEq, Eq)]
 pub struct Place {
     /// The number of its device.
@@ -77,13 +77,15 @@ impl Model for Calls {
     ghost invariant = { λ c. (c.turn ≤ length c.devices.items) × AreNumbered (record { devices = c.devices.items; turn = c.turn; number = c.number }) };
 }
 
+/// A device, and the call that is handed out next.
 struct Found {
     dev: usize,
     wanted: Wanted,
 }
 
 impl Calls {
-    /// No calls of so many devices, in blocks of so many sectors. Its only error is out of memory: room for all calls is taken here.
+    /// No calls out, of `devices` devices, over storage with blocks of `size` sectors. Its only error is out of memory: room for all calls
+    /// is taken here.
     pub fn new(alloc: Global, devices: usize, size: u32) -> Result<Calls, NoMemory>
         requires { 1 ≤ size }
         ensures { IfOk result (λ calls. calls ≡ record { devices = replicate devices (record { size = size; outs = [] }); turn = 0; number = 0 }) }
@@ -99,8 +101,8 @@ impl Calls {
         })
     }
 
-    /// Hands out the next call, of so many sectors at most, if there is one that may be handed out: of the first device in turn that has
-    /// one, that of its earliest request. If there is none nothing has changed. It takes no memory.
+    /// Hands out the next call, cut to `most` sectors, if there is one that may be handed out: of the first device in turn that has one,
+    /// that of its earliest request. If there is none, or the last number is used, nothing has changed. It takes no memory.
     pub fn next<T: Asks>(&mut self, machine: &T, most: u32) -> Option<Handed>
         requires some { 1 ≤ most }
         requires alike { length self.old.devices ≡ length (T.asked machine.now) }
@@ -143,8 +145,8 @@ impl Calls {
         None
     }
 
-    /// The request that the answer of a call is for, by its number from 0; `None` if nobody waits for it any more, as where its device
-    /// does not run.
+    /// The request that the answer of a call is for, by its place from 0. `None` if no request asks for it, as where its device does not
+    /// run.
     pub fn asker<T: Asks>(&self, machine: &T, place: Place) -> Option<usize>
         requires { place.dev < length (T.asked machine.now) }
         ensures { result ≡ asker (slice_index_or (T.asked machine.now) place.dev []) place.call }
@@ -152,7 +154,7 @@ impl Calls {
         asker(machine.requests(place.dev), &place.call)
     }
 
-    /// A call is answered, and not out any more.
+    /// Takes out a call that is answered.
     pub fn remove(&mut self, place: Place)
         requires { (number : ℕ) × IsAt self.old.devices place.dev place.i (record { number = number; call = place.call }) }
         ensures answered { self.new ≡ without self.old place.dev place.i }
@@ -213,7 +215,7 @@ impl Calls {
     }
 }
 
-/// The device so many steps after another, in a turn over so many devices.
+/// The device `steps` steps after another, in a turn over `devices` devices.
 fn in_turn(from: usize, devices: usize, steps: usize) -> usize
     requires from { from ≤ devices }
     requires reach { from + steps < 2 * devices }

@@ -1,6 +1,6 @@
 //! The calls of one device that are out.
 
-ghost use Rattle.std.specs.Prelude.{ℕ, ◌≡◌, ◌≢◌, ◌+◌, ◌<◌, ◌≤◌, ◌^◌, ◌++◌, ◌∷◌, [], None, Some, false, slice_get, All, IfOk, IfSome, length, vec_capacity};
+ghost use Rattle.std.specs.Prelude.{ℕ, ◌≡◌, ◌≢◌, ◌+◌, ◌<◌, ◌≤◌, ◌++◌, ◌∷◌, [], None, Some, false, slice_get, All, IfOk, IfSome, length, vec_capacity};
 ghost use Rattle.std.specs.List.{list_any, remove};
 ghost use Rattle.blk.specs.Outside.{disk_call};
 ghost use Rattle.disk_calls.specs.Calls.{AreWithin, IsWithin, has_out};
@@ -46,7 +46,7 @@ pub struct Wanted {
 }
 
 impl DeviceCalls {
-    /// No calls, in blocks of so many sectors. Its only error is out of memory.
+    /// No calls out, over storage with blocks of `size` sectors. Its only error is out of memory.
     pub fn new(alloc: Global, size: u32) -> Result<DeviceCalls, NoMemory>
         requires { 1 ≤ size }
         ensures { IfOk result (λ calls. calls ≡ record { size = size; outs = [] }) }
@@ -68,7 +68,7 @@ impl DeviceCalls {
         false
     }
 
-    /// The call of the k-th request, from 0, of so many sectors at most, if it may be handed out.
+    /// The call of the k-th request, from 0, cut to `most` sectors, if it may be handed out.
     fn call_at(&self, requests: &[Request], k: usize, most: u32) -> Option<DiskCall>
         requires there { k < length requests.now }
         requires some { 1 ≤ most }
@@ -98,7 +98,7 @@ impl DeviceCalls {
             && !overlaps_left(self.size, earlier, call)
     }
 
-    /// The first request whose call, of so many sectors at most, may be handed out, and that call.
+    /// The first request whose call, cut to `most` sectors, may be handed out, and that call.
     pub fn next(&self, requests: &[Request], most: u32) -> Option<Wanted>
         requires some { 1 ≤ most }
         requires within { AreWithin requests.now }
@@ -114,7 +114,7 @@ impl DeviceCalls {
         None
     }
 
-    /// A call that may be handed out is out, under this number. It takes no memory.
+    /// Keeps a call that may be handed out as out, under this number. It takes no memory.
     pub fn hand_out(&mut self, requests: &[Request], most: u32, next: Wanted, number: u64)
         requires some { 1 ≤ most }
         requires within { AreWithin requests.now }
@@ -127,7 +127,7 @@ impl DeviceCalls {
         });
     }
 
-    /// The i-th call, from 0, is not out any more.
+    /// Takes out the i-th call, from 0.
     pub fn remove(&mut self, i: usize)
         requires { i < length self.old.outs }
         ensures { self.new ≡ record self.old { outs = remove self.old.outs i } }

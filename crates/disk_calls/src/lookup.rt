@@ -1,4 +1,7 @@
 //! Which request the answer of a call is for.
+//!
+//! The kind and the first sector are enough: no place is kept, which would have to be followed as requests end, and no count is
+//! compared, since an answer may come in parts.
 
 ghost use Rattle.std.specs.Prelude.{◌≡◌, ◌<◌, length};
 ghost use Rattle.blk.specs.Outside.{disk_call_at};
@@ -7,7 +10,7 @@ ghost use Rattle.disk_calls.specs.Handing.{asker, begins_as, code_of};
 
 use blk::{DiskCall, Request, What};
 
-/// The request that the answer of a call is for, by its number from 0: the first one that asks for the same to be done from the same
+/// The request that the answer of a call is for, by its place from 0: the first one that asks for the same to be done from the same
 /// sector on.
 #[tactic(auto, using(crate::proofs::Asking::asker_first, crate::proofs::Asking::asker_none))]
 pub fn asker(requests: &[Request], call: &DiskCall) -> Option<usize>
@@ -41,6 +44,7 @@ fn begins_as(call: &DiskCall, asked: Option<DiskCall>) -> bool
     }
 }
 
+/// A number for each thing that a disk can be asked to do.
 fn code_of(what: What) -> u8
     ensures { result ≡ code_of what }
 {

@@ -9,13 +9,14 @@ use blk::{DiskCall, What};
 /// A call that was handed out and is not answered yet.
 #[derive(Clone, Copy, Debug, PartialEq, Eq)]
 pub struct Out {
-    /// What names it. No other call has this number.
+    /// Its number, which no other call ever has.
     pub number: u64,
 
     /// What it asks for.
     pub call: DiskCall,
 }
 
+/// Whether it is a flush.
 fn is_flush(what: What) -> bool
     ensures { result ≡ is_flush what }
 {
@@ -25,7 +26,7 @@ fn is_flush(what: What) -> bool
     }
 }
 
-/// Whether two calls overlap, in blocks of so many sectors. A flush overlaps flushes alone.
+/// Whether two calls overlap, in blocks of `size` sectors. A flush overlaps flushes alone.
 pub(crate) fn overlap(size: u32, a: &DiskCall, b: &DiskCall) -> bool
     requires size { 1 ≤ size }
     requires a { IsWithin a.now }
@@ -42,6 +43,7 @@ pub(crate) fn overlap(size: u32, a: &DiskCall, b: &DiskCall) -> bool
     a.first / size <= last_sector(b) / size && b.first / size <= last_sector(a) / size
 }
 
+/// The last sector of a call.
 fn last_sector(call: &DiskCall) -> u64
     requires { IsWithin call.now }
     ensures { result + 1 ≡ call.now.first + call.now.count }

@@ -1,6 +1,6 @@
 //! Calls of requests that are made by hand, with the answers that the rules ask for.
 
-ghost use Rattle.std.specs.Prelude.{◌≡◌, ◌+◌, ◌≤◌, ◌<◌, ◌^◌, ◌∷◌, [], length, true};
+ghost use Rattle.std.specs.Prelude.{◌+◌, ◌<◌, ◌^◌, ◌∷◌, []};
 ghost use Rattle.disk_calls.specs.Calls.{AreWithin};
 
 use super::{Asks, Calls, Handed, asker};
