@@ -13,5 +13,6 @@ pub mod Sound
 pub mod Move
 pub mod Advance
 pub mod Outside
+pub mod Writing
 pub mod Parts
 pub mod Inside

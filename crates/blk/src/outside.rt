@@ -7,7 +7,7 @@
 //! An answer names a request by its place alone, and is taken if it could be one to what that request asks. Whose answer it is the host
 //! knows.
 
-ghost use Rattle.std.specs.Prelude.{ℕ, ◌≡◌, ◌+◌, ◌*◌, ◌≤◌, ◌<◌, ◌^◌, IfSome, length};
+ghost use Rattle.std.specs.Prelude.{ℕ, ◌≡◌, ◌+◌, ◌*◌, ◌≤◌, ◌<◌, ◌^◌, ◌++◌, IfSome, Some, drop, length, slice_get};
 ghost use Rattle.guestmem.specs.Item.{MayPages};
 ghost use Rattle.guestmem.specs.Rises.{Touches};
 ghost use Rattle.guestmem.specs.Writes.{set_all, touched};
@@ -17,6 +17,7 @@ ghost use Rattle.chains.specs.State.{RingState};
 ghost use Rattle.blk.specs.Block.{with_requests};
 ghost use Rattle.blk.specs.Outside.{AreSoundIn, Did, Failed, Gave, answer_step, awaits, awaits_at, disk_call, more_done, written_bytes};
 ghost use Rattle.blk.specs.Sound.{AreSound};
+ghost use Rattle.blk.specs.Writing.{count_to_write, count_to_write_in};
 ghost use Rattle.blk.specs.declared.shape.Limits.{Limits};
 
 use crate::block::Block;
@@ -89,8 +90,21 @@ impl Request {
         }
     }
 
+    /// How many bytes it has to write, into a buffer of `len` bytes.
+    fn count_to_write(&self, len: usize) -> usize
+        ensures { result ≡ count_to_write self.now len }
+    {
+        if !self.is_open() {
+            return 0;
+        }
+        match self.kind {
+            Kind::Out => len.min(SECTOR_SIZE * (self.units - self.done) as usize),
+            Kind::In | Kind::Zero | Kind::Flush | Kind::GetId | Kind::Refused => 0,
+        }
+    }
+
     /// Fills the buffer with the bytes that it writes next, as they lie in RAM.
-    pub fn written_bytes(&self, base: u64, ram: &Ram, buf: &mut [u8])
+    fn written_bytes(&self, base: u64, ram: &Ram, buf: &mut [u8])
         requires inside { AreSegmentsInside base (length ram.now.bytes) self.now.readable }
         requires room { HEADER_SIZE + SECTOR_SIZE * self.now.done + length buf.old ≤ length (places self.now.readable) }
         ensures { buf.new ≡ written_bytes base ram.now.bytes self.now (length buf.old) }
@@ -178,6 +192,26 @@ impl Block {
         ensures { result ≡ awaits_at self.now.requests k Failed }
     {
         self.requests.waits(k)
+    }
+
+    /// Fills the front of the buffer with the bytes that the k-th outstanding request, from 0, writes next, as they lie in a RAM with this
+    /// base, and returns how many these are: all that it has left, or as many as the buffer holds. A request that writes no bytes of its
+    /// driver has none.
+    pub fn written_bytes(&self, k: usize, base: u64, ram: &Ram, buf: &mut [u8]) -> usize
+        requires sound { AreSoundIn base (length ram.now.bytes) self.now.requests }
+        ensures count { result ≡ count_to_write_in (slice_get self.now.requests k) (length buf.old) }
+        ensures bytes { (r : Request) → slice_get self.now.requests k ≡ Some r → buf.new ≡ written_bytes base ram.now.bytes r result ++ drop result buf.old }
+    {
+        if k >= self.requests.list.len() {
+            return 0;
+        }
+        let request = &self.requests.list[k];
+        let count = request.count_to_write(buf.len());
+        if count == 0 {
+            return 0;
+        }
+        request.written_bytes(base, ram, &mut buf[..count]);
+        count
     }
 
     /// The disk gave the bytes of one sector or more of those that the k-th outstanding request, from 0, reads next, in a RAM with this
