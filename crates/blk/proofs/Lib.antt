@@ -5,3 +5,5 @@ pub mod Ending
 pub mod Units
 pub mod Given
 pub mod Limits
+pub mod Runs
+pub mod Against

@@ -12,3 +12,7 @@ pub mod Take
 pub mod Sound
 pub mod Move
 pub mod Advance
+pub mod Outside
+pub mod Writing
+pub mod Parts
+pub mod Inside

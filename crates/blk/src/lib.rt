@@ -31,6 +31,10 @@
 //!   for the first, and never for the second, which is the host's part.
 //! - `Block::fail_flush(k)` makes an outstanding flush as one whose disk failed, and calls no disk (`specs/Flush`): for a host that
 //!   could not bring the bytes of the disk to the file that holds them.
+//! - A disk may be outside of the machine, where the host asks `Request::disk_call` what a request wants and answers it: `Block::disk_gave`,
+//!   `disk_did` and `disk_failed` are `answer_step` (`specs/Outside`), and say whether the request awaited the answer. They call no disk and
+//!   take no memory. `Block::written_bytes` hands out what a write will write. A run of sectors is its parts (`specs/Parts`), and outside is
+//!   inside (`specs/Inside`): laws of `src/laws.rt`.
 //! - `Block::has_sound_requests` tests what every outstanding request keeps in a RAM with this base, for requests that come from
 //!   elsewhere.
 //! - `Disk::sectors` is called where a disk comes in, and once with each write.
@@ -50,8 +54,10 @@ mod durable;
 mod fault_disk;
 mod file_disk;
 mod flushing;
+mod laws;
 mod mem_disk;
 mod moving;
+mod outside;
 mod request;
 mod requests;
 mod sectors;
@@ -66,7 +72,11 @@ pub use disk::{Disk, DiskFault, SECTOR_SIZE};
 pub use durable::SyncOwed;
 pub use fault_disk::FaultDisk;
 pub use file_disk::FileDisk;
+pub use laws::{
+    answers_leave_sound, bytes_are_their_parts, outside_is_inside, units_are_their_parts,
+};
 pub use mem_disk::MemDisk;
+pub use outside::{DiskCall, What};
 pub use request::{Kind, Request, Verdict};
 pub use requests::{REQUESTS_MAX, Requests};
 pub use sectors::{Fetched, Sectors};

@@ -1,0 +1,4 @@
+pub mod Asking
+pub mod Apart
+pub mod Numbers
+pub mod Turns

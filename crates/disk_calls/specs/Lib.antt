@@ -1,0 +1,5 @@
+pub mod Overlap
+pub mod Handing
+pub mod Desk
+pub mod Calls
+pub mod Seen

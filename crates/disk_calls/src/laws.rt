@@ -1,0 +1,20 @@
+//! Laws over the definitions alone. These functions do nothing: their contracts are the laws.
+
+ghost use Rattle.disk_calls.specs.Desk.{CallsAreMet};
+ghost use Rattle.disk_calls.specs.Seen.{AnsweringIsATurn, HandingIsATurn, HandingIsNoOther};
+
+/// No two calls of a device that are out overlap; each is asked by one request; and its answer, whole or in part, meets that one.
+pub fn calls_are_met()
+    ensures { CallsAreMet }
+{}
+
+/// A call that is handed out is a turn of its device, and none of another.
+pub fn handing_is_a_turn()
+    ensures own { HandingIsATurn }
+    ensures other { HandingIsNoOther }
+{}
+
+/// The answer of a call is a turn of its device.
+pub fn answering_is_a_turn()
+    ensures { AnsweringIsATurn }
+{}
