@@ -1,8 +1,8 @@
 -- A receiver that is fed in pieces.
 use Rattle.std.proofs.Common.{◌≡◌, ℕ, ◌<◌, List, [], ◌++◌, length, refl, ap, sym, subst, ◌∙◌, append_assoc, append-nil}
-use Rattle.std.specs.Prelude.{IfErr, Result, Ok, Err}
-use Rattle.machine.specs.Seen.{Marks}
-use Rattle.receiver.specs.Disks.{MarksRefused}
+use Rattle.std.specs.Prelude.{IfErr, IfOk, Result, Ok, Err}
+use Rattle.machine.specs.Seen.{Marks, Seen, state_of}
+use Rattle.receiver.specs.Disks.{AreHonestDisks, MarksRefused}
 use Rattle.receiver.specs.Faults.{Fault}
 use Rattle.receiver.specs.Opened.{greatest_at, terms_at}
 use Rattle.receiver.specs.Receiving.{HasBeenFed, IsFinish, NoFault, Received, RefusesSlice, TellsFault, TellsNow}
@@ -11,6 +11,7 @@ use Rattle.receiver.specs.declared.recv_error.RecvError.{RecvError}
 use Rattle.receiver.proofs.Counting.{slice_cut, slice_told}
 use Rattle.receiver.proofs.Prefixes.{stays}
 use Rattle.receiver.proofs.Working.{tells_more}
+use Rattle.wire.specs.Stream.{IsStream}
 
 -- All but the rest of the bytes was fed.
 pub record IsFed (r : Received) (bytes rest : List ℕ) : Type 0 where
@@ -43,6 +44,12 @@ no_others rest = sym (append-nil rest)
 -- The last piece.
 pub fed_all : (old new : Received) (bytes rest : List ℕ) → IsFed old bytes rest → ((b : List ℕ) → HasBeenFed old b → HasBeenFed new (b ++ rest)) → HasBeenFed new bytes
 fed_all old new bytes rest f on = let P : List ℕ → Type 0 = λ b. HasBeenFed new b in subst P (sym f.whole) (on f.so_far f.fed)
+
+-- The machine that arrived is one of all bytes.
+pub received_end : (result : Result Seen RecvError) (marks : List Marks) (old new : Received) (bytes rest : List ℕ) → old.marks ≡ marks → new.marks ≡ old.marks → IsFed old bytes rest → ((b : List ℕ) → HasBeenFed old b → HasBeenFed new (b ++ rest))
+    → IfOk result (λ m. AreHonestDisks new.marks → (b : List ℕ) → HasBeenFed new b → IsStream b (state_of m)) → IfOk result (λ m. AreHonestDisks marks → IsStream bytes (state_of m))
+received_end (Ok m) marks old new bytes rest same kept f on h = λ honest. h (subst AreHonestDisks (sym (kept ∙ same)) honest) bytes (fed_all old new bytes rest f on)
+received_end (Err e) marks old new bytes rest same kept f on h = tt
 
 pub quiet_all : (ram : RamTerms) (sizes : List ℕ) (old : Received) (bytes rest : List ℕ) → old.ram ≡ ram → old.sizes ≡ sizes → IsFed old bytes rest → ((b : List ℕ) → HasBeenFed old b → NoFault old.ram old.sizes (b ++ rest)) → NoFault ram sizes bytes
 quiet_all ram sizes old bytes rest based same f quiet =
