@@ -1,5 +1,5 @@
 -- What a network device may be made as, and its configuration.
-use Rattle.std.specs.Prelude.{◌≡◌, ℕ, ◌-◌, ◌++◌, ◌<◌, ◌≤◌, List, length, nat_lt, replicate, if◌then◌else◌}
+use Rattle.std.specs.Prelude.{◌≡◌, ℕ, ◌-◌, ◌++◌, ◌<◌, ◌≤◌, List, length, ◌==◌, replicate, if◌then◌else◌}
 use Rattle.guestmem.specs.Number.{IsBytes, little_bytes}
 use Rattle.net.specs.declared.limits.TheConstants.{FRAME_GREATEST, FRAME_MAX}
 use Rattle.net.specs.declared.shape.TheConstants.{TAGGED_HEADER}
@@ -22,4 +22,4 @@ mtu_of longest = longest - TAGGED_HEADER
 -- The configuration space (VIRTIO 1.2, 5.1.4): the MAC; and of a device for long frames `status` and `max_virtqueue_pairs`, which
 -- are 0, and the MTU.
 abbrev pub configuration_of : List ℕ → ℕ → List ℕ
-configuration_of mac longest = if nat_lt FRAME_MAX longest then mac ++ replicate 4 0 ++ little_bytes 2 (mtu_of longest) else mac
+configuration_of mac longest = if longest == FRAME_MAX then mac else mac ++ replicate 4 0 ++ little_bytes 2 (mtu_of longest)
