@@ -1,6 +1,6 @@
 -- The header of a stream: "VMIG", the version, the pages of RAM, and the devices.
-use Rattle.std.specs.Prelude.{◌≡◌, ◌≤◌, ◌==◌, ◌&&◌, nat_lt, list_any, Bool, true, false, ℕ, codes, if◌then◌else◌, List, [], ◌∷◌, ◌++◌, length, All, Option, Some, None}
-use Rattle.std.specs.List.{flat_map}
+use Rattle.std.specs.Prelude.{◌≡◌, ◌≤◌, ◌==◌, ◌&&◌, nat_lt, ◌↔◌, Bool, true, false, ℕ, codes, if◌then◌else◌, List, [], ◌∷◌, ◌++◌, length, All, Option, Some, None}
+use Rattle.std.specs.List.{flat_map, list_any}
 use Rattle.wire.specs.Numbers.{digits, flag}
 use Rattle.machine.specs.Layout.{Layout, layout_by}
 use Rattle.machine.specs.Sound.{IsSoundShape}
@@ -51,21 +51,17 @@ pub record IsVersion (version : ℕ) : Type 0 where
   pub least : 1 ≤ version
   pub most : version ≤ 3
 
--- A version has devices of this shape: those for long frames since version 3.
-abbrev pub HasShape : ℕ → Shape → Type 0
-HasShape version (LongNet mac longest) = 3 ≤ version
-HasShape version _ = Unit {0}
-
--- The version in which a machine with these devices is written.
+-- A network device for long frames, which versions have since 3.
 abbrev pub is_long : Shape → Bool
 is_long (LongNet mac longest) = true
 is_long _ = false
 
+-- The version in which a machine with these devices is written.
 abbrev pub version_of : List Shape → ℕ
 version_of shapes = if list_any is_long shapes then 3 else 2
 
 -- A header that there can be: of a version that there is, 1 to 4,294,967,295 pages, and 1 to 16 devices, each of a shape that a device
--- may have and the version has.
+-- may have; and version 3 is that of the devices that version 2 has not.
 pub record IsHeader (opening : Opening) : Type 0 where
   pub known : IsVersion opening.version
   pub some_page : 1 ≤ opening.pages
@@ -73,7 +69,7 @@ pub record IsHeader (opening : Opening) : Type 0 where
   pub some_device : 1 ≤ length opening.shapes
   pub few_devices : length opening.shapes ≤ 16
   pub sound : All IsSoundShape opening.shapes
-  pub has : All (HasShape opening.version) opening.shapes
+  pub has : (opening.version ≡ 3) ↔ (list_any is_long opening.shapes ≡ true)
 
 -- The bytes begin with this header, and `rest` follows it.
 pub record Begins (bytes : List ℕ) (opening : Opening) (rest : List ℕ) : Type 0 where

@@ -1,13 +1,14 @@
 -- The faults of a header, each with its place: the number of bytes up to and including the one at which it is found. What a machine
 -- may have is what the limits of the host that reads it allow.
-use Rattle.std.specs.Prelude.{◌≡◌, ◌≢◌, ◌<◌, ◌≤◌, ◌⊎◌, ℕ, ◌+◌, nat_lt, if◌then◌else◌, List, [], ◌∷◌, ◌++◌, length, drop, All, Some, None}
+use Rattle.std.specs.Prelude.{◌≡◌, ◌≢◌, ◌<◌, ◌≤◌, ◌⊎◌, ℕ, ◌+◌, nat_lt, if◌then◌else◌, false, List, [], ◌∷◌, ◌++◌, length, drop, All, Some, None}
+use Rattle.std.specs.List.{list_any}
 use Rattle.guestmem.specs.Number.{number_at}
 use Rattle.net.specs.declared.limits.TheConstants.{FRAME_MAX}
 use Rattle.machine.specs.Limits.{IsShapeWithin}
 use Rattle.machine.specs.Sound.{IsSoundShape}
 use Rattle.machine.specs.declared.limits.Limits.{Limits}
 use Rattle.machine.specs.declared.shape.Shape.{Shape}
-use Rattle.wire.specs.Header.{Begins, IsVersion, Opening, shape_length, spelled_shape, spelled_shapes}
+use Rattle.wire.specs.Header.{Begins, IsVersion, Opening, is_long, shape_length, spelled_shape, spelled_shapes}
 use Rattle.wire.specs.declared.header_error.HeaderError.{HeaderError}
 use Rattle.wire.specs.declared.header_error.HeaderError.TheVariants.{BadMagic, BadVersion, BadShape, NoMemory}
 
@@ -93,10 +94,23 @@ pub record IsBadShape (limits : Limits) (bytes : List ℕ) (at : ℕ) : Type 0 w
   pub never : IsNoShape (limits_in (number_at bytes 4 4) limits) bad
   pub there : at ≡ 16 + (length (spelled_shapes shapes) + length bad)
 
+-- BadVersion, found at the header's end: it is version 3, and version 2 has all of its devices.
+pub record IsPlain (limits : Limits) (bytes : List ℕ) (at : ℕ) : Type 0 where
+  pub pages : ℕ
+  pub shapes : List Shape
+  pub more : List ℕ
+  pub says : Says limits bytes pages (length shapes)
+  pub may : MayCount limits pages (length shapes)
+  pub sound : All (IsShapeFor limits) shapes
+  pub whole : drop 16 bytes ≡ spelled_shapes shapes ++ more
+  pub late : number_at bytes 4 4 ≡ 3
+  pub never : list_any is_long shapes ≡ false
+  pub there : at ≡ 16 + length (spelled_shapes shapes)
+
 -- The bytes show this fault of a header, at this byte.
 abbrev pub ShowsFault : Limits → HeaderError → List ℕ → ℕ → Type 0
 ShowsFault limits BadMagic bytes at = IsBadMagic bytes at
-ShowsFault limits BadVersion bytes at = IsBadVersion limits bytes at
+ShowsFault limits BadVersion bytes at = IsBadVersion limits bytes at ⊎ IsPlain limits bytes at
 ShowsFault limits BadShape bytes at = IsBadCount limits bytes at ⊎ IsBadShape limits bytes at
 ShowsFault limits NoMemory bytes at = ⊥
 

@@ -11,7 +11,7 @@ ghost use Rattle.wire.specs.HeaderParts.{FirstShape, ReadShapes};
 
 use crate::header_error::HeaderError;
 use crate::numbers::u32_at;
-use crate::shape_spelling::{shape_at, shape_len};
+use crate::shape_spelling::{has_long, shape_at, shape_len};
 use machine::{DEVICES_MAX, Limits, Shape};
 use net::FRAME_MAX;
 use std::alloc::{AllocError, Global};
@@ -103,6 +103,10 @@ pub fn read_header(
     let Some((shapes, rest)) = read_shapes(alloc, limits_in(version, limits), count, rest)? else {
         return Ok(None);
     };
+    // Version 3 is that of the devices which version 2 has not: so a machine has one stream of each version that has it.
+    if version == LONG_VERSION && !has_long(&shapes) {
+        return Err(HeaderError::BadVersion);
+    }
     let len = bytes.len() - rest.len();
     Ok(Some(Header {
         version,

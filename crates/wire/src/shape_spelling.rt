@@ -1,7 +1,8 @@
 //! Shapes in the header of a stream: the device ID, and what it has.
 
 ghost use Rattle.std.specs.Prelude.{◌≡◌, MatchOption, None, Some};
-ghost use Rattle.wire.specs.Header.{shape_length};
+ghost use Rattle.std.specs.List.{list_any};
+ghost use Rattle.wire.specs.Header.{is_long, shape_length};
 ghost use Rattle.wire.specs.ShapeReading.{block_shape_of, long_net_shape_of, net_shape_of, shape_of};
 
 use crate::numbers::{u8_at, u16_at, u64_at};
@@ -124,4 +125,17 @@ fn block_shape_at(bytes: &[u8]) -> Option<(Shape, &[u8])>
         },
         rest,
     ))
+}
+
+/// Whether one of these is a network device for long frames.
+pub(crate) fn has_long(shapes: &[Shape]) -> bool
+    ensures { result ≡ list_any is_long shapes.now }
+{
+    shapes.iter().any(|shape| is_long(*shape))
+}
+
+fn is_long(shape: Shape) -> bool
+    ensures { result ≡ is_long shape }
+{
+    matches!(shape, Shape::LongNet { .. })
 }

@@ -12,7 +12,7 @@
 ghost use Rattle.std.specs.Prelude.{◌≡◌, ◌∷◌, ◌++◌, take, ◌≤◌, ◌<◌, ◌^◌, ◌/◌, ◌%◌, ℕ, List, IsTrue, OnOk, length};
 ghost use Rattle.wire.specs.DeviceBody.{body, held_text, kind_text, queues_text};
 ghost use Rattle.wire.specs.Numbers.{digits};
-ghost use Rattle.wire.specs.Header.{front, header, is_long, opening_of, spelled_shape, spelled_shapes, version_of};
+ghost use Rattle.wire.specs.Header.{front, header, opening_of, spelled_shape, spelled_shapes, version_of};
 ghost use Rattle.wire.specs.Records.{commit, page, page_record, round_end, device, zero_page, spelled_record};
 ghost use Rattle.wire.specs.Sinks.{Appends, Takes};
 
@@ -25,7 +25,7 @@ use crate::record_head::{
 };
 use crate::registers_text::{COMMON_LEN, QUEUE_LEN, common_bytes, queue_bytes};
 use crate::request_writing::{requests_len, write_requests};
-use crate::shape_spelling::{BLOCK_ID, CONSOLE_ID, ENTROPY_ID, LONG_NET_ID, NET_ID};
+use crate::shape_spelling::{BLOCK_ID, CONSOLE_ID, ENTROPY_ID, LONG_NET_ID, NET_ID, has_long};
 use crate::sink::{Sink, SinkFault};
 use crate::size_text::{SIZE_LEN, size_bytes};
 use byteorder::{ByteOrder, LittleEndian};
@@ -68,17 +68,10 @@ fn front_bytes(version: u32, pages: u32, count: u32) -> [u8; FRONT_LEN]
 fn version_of(shapes: &[Shape]) -> u32
     ensures { result ≡ version_of shapes.now }
 {
-    if shapes.iter().any(|shape| is_long(*shape)) {
+    if has_long(shapes) {
         return LONG_VERSION;
     }
     VERSION
-}
-
-/// Whether this is a network device for long frames.
-fn is_long(shape: Shape) -> bool
-    ensures { result ≡ is_long shape }
-{
-    matches!(shape, Shape::LongNet { .. })
 }
 
 #[tactic(auto, using(crate::proofs::Saving::text_more))]
