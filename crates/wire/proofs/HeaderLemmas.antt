@@ -199,6 +199,18 @@ spelled-shape_of (n ∷ bytes) found are e = shape_read n bytes found (eqb n 1) 
 pub no_shape : (bytes : List ℕ) → shape_of bytes ≡ None → (s : Shape) (rest : List ℕ) → IsSoundShape s → ¬ (bytes ≡ spelled_shape s ++ rest)
 no_shape bytes none s rest good is = let read = ap shape_of is ∙ shape_of-spelled s rest good in cc
 
+-- The number of a shape is known within these limits.
+abbrev pub IsKnown : Limits → Shape → Type 0
+IsKnown limits (LongNet mac longest) = 1514 < limits.frame
+IsKnown limits _ = Unit {0}
+
+pub known_within : (limits : Limits) (s : Shape) → IsSoundShape s → IsShapeWithin limits s → IsKnown limits s
+known_within limits (Net mac) good within = tt
+known_within limits (LongNet mac longest) good within = omega (arith, within, good.longer)
+known_within limits (Block sectors read_only id) good within = tt
+known_within limits Console good within = tt
+known_within limits Entropy good within = tt
+
 -- A shape is as long as its first byte says.
 pub record HasLength (limits : Limits) (s : Shape) : Type 0 where
   pub number : ℕ
@@ -206,13 +218,13 @@ pub record HasLength (limits : Limits) (s : Shape) : Type 0 where
   pub is : spelled_shape s ≡ number ∷ others
   pub long : shape_length limits number ≡ Some (suc (length others))
 
-pub length_shape : (limits : Limits) (s : Shape) → IsSoundShape s → IsShapeWithin limits s → HasLength limits s
+pub length_shape : (limits : Limits) (s : Shape) → IsSoundShape s → IsKnown limits s → HasLength limits s
 unfolding spelled_shape
 length_shape limits (Net mac) good within = record { number = 1; others = mac; is = refl; long = ap (λ (n : ℕ). some (suc n)) (sym good.size) }
 length_shape limits (LongNet mac longest) good within =
     let others = mac ++ digits 2 longest in
     let size : suc (length others) ≡ 9 = omega (arith, length-append mac (digits 2 longest), length-digits 2 longest, good.address.size) in
-    record { number = 129; others = others; is = refl; long = rw (lt-ltb 1514 limits.frame (omega (arith, within, good.longer))) (ap some (sym size)) }
+    record { number = 129; others = others; is = refl; long = rw (lt-ltb 1514 limits.frame within) (ap some (sym size)) }
 length_shape limits (Block sectors read_only id) good within =
     let others = digits 8 sectors ++ (flag read_only ∷ id) in
     let size : suc (length others) ≡ 30 = omega (arith, length-append (digits 8 sectors) (flag read_only ∷ id), length-digits 8 sectors, good.id_size) in

@@ -1,22 +1,25 @@
 -- Headers as far as they came, and their faults.
-use Rattle.std.proofs.Common.{◌≡◌, ◌≢◌, Bool, true, false, cond, eqb, ℕ, zero, suc, ◌+◌, ◌<◌, ◌≤◌, ◌⊎◌, inl, inr, List, [], ◌∷◌, ◌++◌, length, take, drop, Option, Some, None, refl, sym, ap, subst, ◌∙◌, append_assoc, append-nil, arith}
+use Rattle.std.proofs.Common.{◌≡◌, ◌≢◌, ◌&&◌, nat_lt, Bool, true, false, cond, eqb, ℕ, zero, suc, ◌+◌, ◌<◌, ◌≤◌, ◌⊎◌, inl, inr, List, [], ◌∷◌, ◌++◌, length, take, drop, Option, Some, None, refl, sym, ap, subst, ◌∙◌, append_assoc, append-nil, arith}
 use Rattle.std.specs.Prelude.{All}
 use Rattle.std.specs.List.{AllByRecursion}
 use Rattle.std.proofs.lemmas.List.{take-append-drop, length-append, length-take, drop_at}
 use Rattle.std.proofs.lemmas.List.Elements.{All-push, recursion_from_All}
 use Rattle.guestmem.specs.Number.{IsBytes, number_at}
-use Rattle.machine.specs.Limits.{AreWithin, IsShapeWithin, usual}
+use Rattle.machine.specs.Limits.{AreWithin, IsShapeWithin, greatest, usual}
 use Rattle.machine.specs.Sound.{IsSoundShape}
 use Rattle.machine.specs.declared.limits.Limits.{Limits}
 use Rattle.machine.specs.declared.shape.Shape.{Shape}
 use Rattle.wire.specs.Header.{front, spelled_shape, spelled_shapes, Begins, Opening, IsVersion, shape_length}
+use Rattle.machine.specs.declared.shape.Shape.TheVariants.{Net, LongNet, Block, Console, Entropy}
+use Rattle.std.proofs.lemmas.Bool.{ltb-true}
+use Rattle.wire.specs.Numbers.{digits}
 use Rattle.wire.specs.HeaderFaults.{IsBeyond, IsShapeFor, IsUnknown, MayCount, IsBadMagic, IsBadVersion, Says, IsBadCount, IsNoShape, IsBadShape, IsHeaderPart, OnFault, ShowsFault}
 use Rattle.wire.specs.HeaderParts.{ShapeWaits, BadFirst, FewShapes, ShapesWait, ShapesBad, ShapesRead, OnBad}
 use Rattle.wire.specs.ShapeReading.{shape_of}
 use Rattle.wire.specs.declared.header_error.HeaderError.{HeaderError}
 use Rattle.wire.specs.declared.header_error.HeaderError.TheVariants as errors
 use Rattle.wire.proofs.Choices.{same_found}
-use Rattle.wire.proofs.HeaderLemmas.{HeadSays, head_says, head_spelled, head_written, length_shape, no_shape, shape_of-spelled}
+use Rattle.wire.proofs.HeaderLemmas.{HeadSays, IsKnown, known_within, head_says, head_spelled, head_written, length_shape, no_shape, shape_of-spelled}
 use Rattle.wire.proofs.PartLengths.{length-front}
 use Rattle.wire.proofs.Spelling.{head_same, split_same}
 
@@ -74,13 +77,13 @@ are_for l bytes opening rest w b k d below = record { sound = b.good.sound k d b
 
 unknown_spelled : (limits : Limits) (s : Shape) (bad x y : List ℕ) → IsShapeFor limits s → IsUnknown limits bad → bad ++ x ≡ spelled_shape s ++ y → ⊥
 unknown_spelled limits s bad x y good n e =
-    let l = length_shape limits s good.sound good.within in
+    let l = length_shape limits s good.sound (known_within limits s good.sound good.within) in
     let first : n.number ≡ l.number = head_same (ap (λ (z : List ℕ). z ++ x) (sym n.is) ∙ e ∙ ap (λ (z : List ℕ). z ++ y) l.is) in
     let no : (◌≡◌ {A = Option ℕ} None (Some (suc (length l.others)))) = sym n.never ∙ ap (shape_length limits) first ∙ l.long in cc
 
 beyond_spelled : (limits : Limits) (s : Shape) (bad x y : List ℕ) → IsShapeFor limits s → IsBeyond limits bad → bad ++ x ≡ spelled_shape s ++ y → ⊥
 beyond_spelled limits s bad x y good n e =
-    let l = length_shape limits s good.sound good.within in
+    let l = length_shape limits s good.sound (known_within limits s good.sound good.within) in
     let first : n.number ≡ l.number = head_same (ap (λ (z : List ℕ). z ++ x) (sym n.is) ∙ e ∙ ap (λ (z : List ℕ). z ++ y) l.is) in
     let long : (◌≡◌ {A = Option ℕ} (Some (length bad)) (Some (suc (length l.others)))) = sym n.long ∙ ap (shape_length limits) first ∙ l.long in
     let size : length bad ≡ length (spelled_shape s) = same_found (length bad) (suc (length l.others)) long ∙ sym (ap length l.is) in
@@ -157,9 +160,16 @@ few_length l number len e =
     few_by (eqb number 1) 7 _ (omega arith) (few_by (eqb number 2) 30 _ (omega arith)
     (few_by (eqb number 3) 1 _ (omega arith) (few_by (eqb number 4) 1 _ (omega arith) (few_by (eqb number 129 && nat_lt 1514 l.frame) 9 None (omega arith) (λ n none. absurd cc))))) len e
 
+known_greatest : (s : Shape) → IsKnown greatest s
+known_greatest (Net mac) = tt
+known_greatest (LongNet mac longest) = omega arith
+known_greatest (Block sectors read_only id) = tt
+known_greatest Console = tt
+known_greatest Entropy = tt
+
 pub few_spelled : (bytes rest : List ℕ) (s : Shape) → IsSoundShape s → bytes ≡ spelled_shape s ++ rest → length bytes ≤ length rest + 30
 few_spelled bytes rest s good e =
-    let l = length_shape greatest s good (sound_within s good) in
+    let l = length_shape greatest s good (known_greatest s) in
     omega (arith, few_length greatest l.number (suc (length l.others)) l.long, ap length e, length-append (spelled_shape s) rest, ap length l.is)
 
 pub beyond_shape : (l : Limits) (number len : ℕ) (bytes others : List ℕ) → shape_of bytes ≡ None → bytes ≡ number ∷ others → shape_length l number ≡ Some len → 0 < len → len ≤ length bytes → BadFirst l bytes
@@ -181,9 +191,9 @@ beyond_shape l number len bytes others none is long some le =
     }
 
 -- A sound shape that the limits do not allow.
-pub over_shape : (l : Limits) (bytes rest : List ℕ) (s : Shape) → IsSoundShape s → bytes ≡ spelled_shape s ++ rest → ¬ (IsShapeWithin l s) → BadFirst l bytes
-over_shape l bytes rest s good whole out =
-    let h = length_shape s good in
+over_known : (l : Limits) (bytes rest : List ℕ) (s : Shape) → IsSoundShape s → bytes ≡ spelled_shape s ++ rest → ¬ (IsShapeWithin l s) → IsKnown l s → BadFirst l bytes
+over_known l bytes rest s good whole out known =
+    let h = length_shape l s good known in
     record {
       bad = spelled_shape s;
       more = rest;
@@ -192,10 +202,22 @@ over_shape l bytes rest s good whole out =
         number = h.number;
         others = h.others;
         is = h.is;
-        long = subst (λ (z : List ℕ). shape_length h.number ≡ Some (length z)) (sym h.is) h.long;
+        long = subst (λ (z : List ℕ). shape_length l h.number ≡ Some (length z)) (sym h.is) h.long;
         never = λ t allowed same. out (subst (IsShapeWithin l) (sym (one_shape s t [] [] good allowed.sound (ap (λ (z : List ℕ). z ++ []) same)).0) allowed.within);
       });
     }
+
+over_long : (l : Limits) (bytes rest mac : List ℕ) (longest : ℕ) (long : Bool) → nat_lt 1514 l.frame ≡ long → IsSoundShape (LongNet mac longest) → bytes ≡ spelled_shape (LongNet mac longest) ++ rest → ¬ (IsShapeWithin l (LongNet mac longest)) → BadFirst l bytes
+unfolding spelled_shape
+over_long l bytes rest mac longest true e good whole out = over_known l bytes rest (LongNet mac longest) good whole out (ltb-true 1514 l.frame e)
+over_long l bytes rest mac longest false e good whole out = unknown_shape l 129 bytes ((mac ++ digits 2 longest) ++ rest) whole (rw e refl)
+
+pub over_shape : (l : Limits) (bytes rest : List ℕ) (s : Shape) → IsSoundShape s → bytes ≡ spelled_shape s ++ rest → ¬ (IsShapeWithin l s) → BadFirst l bytes
+over_shape l bytes rest (Net mac) good whole out = over_known l bytes rest (Net mac) good whole out tt
+over_shape l bytes rest (LongNet mac longest) good whole out = over_long l bytes rest mac longest (nat_lt 1514 l.frame) refl good whole out
+over_shape l bytes rest (Block sectors read_only id) good whole out = over_known l bytes rest (Block sectors read_only id) good whole out tt
+over_shape l bytes rest Console good whole out = over_known l bytes rest Console good whole out tt
+over_shape l bytes rest Entropy good whole out = over_known l bytes rest Entropy good whole out tt
 
 -- So many shapes.
 

@@ -8,7 +8,7 @@ ghost use Rattle.wire.specs.Sinks.{Appends, Takes};
 
 use crate::numbers::{COUNT_LEN, count_bytes};
 use crate::sink::{Sink, SinkFault};
-use net::Inbox;
+use net::{FRAME_GREATEST, Inbox};
 
 /// Writes the count of the frames, then each frame.
 pub fn write_frames<S: Sink>(inbox: &Inbox, out: &mut S) -> Result<(), SinkFault>
@@ -24,6 +24,7 @@ fn write_each<S: Sink>(inbox: &Inbox, out: &mut S) -> Result<(), SinkFault>
     ensures out { Appends (S.state out.old) (flat_map frame_text inbox.now.frames) result (S.state out.new) }
     ensures taken { OnOk result (Takes (S.sum out.old) (flat_map frame_text inbox.now.frames) (S.sum out.new)) }
 {
+    prove!(inbox.longest() <= FRAME_GREATEST);
     for i in 0..inbox.len() {
         write_frame(inbox.frame(i), out)?;
     }
@@ -45,6 +46,7 @@ fn write_frame<S: Sink>(frame: &[u8], out: &mut S) -> Result<(), SinkFault>
 pub fn frames_len(inbox: &Inbox) -> u32
     ensures { result ≡ length (frames_text inbox.now.frames) }
 {
+    prove!(inbox.longest() <= FRAME_GREATEST);
     let mut len = COUNT_LEN;
     for i in 0..inbox.len() {
         len += COUNT_LEN + inbox.frame(i).len();
