@@ -4,7 +4,7 @@ use Rattle.machine.specs.First.{are_same, is_base}
 use Rattle.machine.specs.Shapes.{disk_sizes}
 use Rattle.machine.specs.declared.limits.Limits.{Limits}
 use Rattle.machine.specs.declared.machine.TheConstants.{DEVICES_MAX}
-use Rattle.c_machine.specs.Made.{are_known, has_bytes, is_ram, limits_for}
+use Rattle.c_machine.specs.Made.{are_known, arrival_limits, has_bytes, is_known_frame, is_ram}
 use Rattle.c_machine.specs.Making.{are_plain, shapes_of}
 use Rattle.c_machine.specs.Mapping.{counts}
 use Rattle.c_machine.specs.Named.{are_zeros}
@@ -21,7 +21,7 @@ has_images e = not (length e.images.now == 0)
 
 -- The version is 1, and what no version gives a meaning yet is 0.
 abbrev pub is_known_arrival : Expected → Bool
-is_known_arrival e = e.version == 1 && (are_known e.flags && (e.frame == 0 && (e.most_outside == 0 && (e.block == 0 && (e.zero == 0 && are_zeros e.reserved)))))
+is_known_arrival e = e.version == 1 && (are_known e.flags && (is_known_frame e.flags e.frame && (e.most_outside == 0 && (e.block == 0 && (e.zero == 0 && are_zeros e.reserved)))))
 
 -- These bytes of the caller, where there are any, are no RAM, or pages are allowed beside them.
 abbrev pub is_unfit_ram : Limits → ℕ → ℕ → Bool
@@ -40,8 +40,8 @@ are_other_images e =
 abbrev pub arrival_refusal_of : Expected → Option ℕ
 arrival_refusal_of e =
     if not (is_known_arrival e) then Some not_known
-    else if is_unfit_ram (limits_for e.flags) e.most_pages (length e.ram.content) then Some bad_ram
-    else if are_unfit_shapes (limits_for e.flags) e.shapes.now then Some bad_shape
+    else if is_unfit_ram (arrival_limits e.flags e.frame) e.most_pages (length e.ram.content) then Some bad_ram
+    else if are_unfit_shapes (arrival_limits e.flags e.frame) e.shapes.now then Some bad_shape
     else if not (is_base e.base (length e.ram.content)) then Some bad_base
     else if are_other_images e then Some bad_images
     else None

@@ -51,6 +51,13 @@ are_known flags = not (nat_lt 3 flags)
 abbrev pub limits_for : ℕ → Limits
 limits_for flags = if asks_large flags then greatest else usual
 
+-- Frames as long as an arrival allows by name: 0 are the usual ones.
+abbrev pub arrival_limits : ℕ → ℕ → Limits
+arrival_limits flags frame = if frame == 0 then record (limits_for flags) { frame = 1514 } else record (limits_for flags) { frame = frame % 65536 }
+
+abbrev pub is_known_frame : ℕ → ℕ → Bool
+is_known_frame flags frame = frame == 0 || (asks_large flags && (nat_lt 1514 frame && nat_lt frame 65536))
+
 -- The version is 1, and what no version gives a meaning yet is 0.
 abbrev pub is_known_setup : Setup → Bool
 is_known_setup s = s.version == 1 && (are_known s.flags && (s.block == 0 && are_zeros s.reserved))

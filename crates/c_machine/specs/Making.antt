@@ -1,11 +1,11 @@
 -- Devices that C asks for.
-use Rattle.std.specs.Prelude.{ℕ, ◌==◌, ◌||◌, ◌&&◌, not, nat_lt, Bool, true, List, [], ◌∷◌, length, map, replicate, Some, if◌then◌else◌}
+use Rattle.std.specs.Prelude.{ℕ, ◌%◌, ◌==◌, ◌||◌, ◌&&◌, not, nat_lt, Bool, true, List, [], ◌∷◌, length, map, replicate, Some, if◌then◌else◌}
 use Rattle.blk.specs.Sectors.{Sector}
 use Rattle.machine.specs.Shapes.{is_beyond}
 use Rattle.machine.specs.declared.limits.Limits.{Limits}
 use Rattle.machine.specs.declared.machine.TheConstants.{DEVICES_MAX}
 use Rattle.machine.specs.declared.shape.Shape.{Shape}
-use Rattle.machine.specs.declared.shape.Shape.TheVariants.{Net, Block, Console, Entropy}
+use Rattle.machine.specs.declared.shape.Shape.TheVariants.{Net, LongNet, Block, Console, Entropy}
 use Rattle.c_machine.specs.Named.{are_zeros}
 use Rattle.c_machine.specs.declared.device_shape.DeviceShape.{DeviceShape}
 
@@ -15,7 +15,9 @@ abbrev pub is_known : ℕ → Bool
 is_known kind = kind == 1 || kind == 2 || kind == 3 || kind == 4
 
 abbrev pub shape_of : DeviceShape → Shape
-shape_of s = if s.kind == 1 then Net s.mac else if s.kind == 2 then Block s.sectors (not (s.read_only == 0)) s.id else if s.kind == 3 then Console else Entropy
+shape_of s =
+    if s.kind == 1 then (if s.frame == 0 then Net s.mac else LongNet s.mac (s.frame % 65536))
+    else if s.kind == 2 then Block s.sectors (not (s.read_only == 0)) s.id else if s.kind == 3 then Console else Entropy
 
 abbrev pub shapes_of : List DeviceShape → List Shape
 shapes_of shapes = map shape_of shapes
@@ -30,7 +32,7 @@ has_no_disk s = s.read_only == 0 && (s.sectors == 0 && are_zeros s.id)
 
 -- What its kind does not need is 0, and so is what no kind needs yet. Whether a disk is read-only is 1 or 0.
 abbrev pub has_only : DeviceShape → Bool
-has_only s = (s.kind == 1 || are_zeros s.mac) && ((s.kind == 2 || has_no_disk s) && (not (nat_lt 1 s.read_only) && (s.frame == 0 && are_zeros s.reserved)))
+has_only s = (s.kind == 1 || are_zeros s.mac) && ((s.kind == 2 || has_no_disk s) && (not (nat_lt 1 s.read_only) && ((s.frame == 0 || (s.kind == 1 && nat_lt s.frame 65536)) && are_zeros s.reserved)))
 
 -- A device of a known kind within these limits, of which nothing else is said.
 abbrev pub is_plain : Limits → DeviceShape → Bool

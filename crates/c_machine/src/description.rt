@@ -132,6 +132,7 @@ fn message_for(shape: Shape) -> u32
 {
     match shape {
         Shape::Net { .. } => FRAME_MAX as u32,
+        Shape::LongNet { longest, .. } => longest as u32,
         Shape::Console => SENT_MAX as u32,
         Shape::Block { .. } | Shape::Entropy => 0,
     }

@@ -7,6 +7,9 @@ ghost use Rattle.c_machine.specs.Named.{are_zeros};
 
 use machine::{Limits, Shape};
 
+/// One past the most bytes that a frame can have.
+pub(crate) const FRAME_END: u32 = 65_536;
+
 /// A device that C asks for. What its kind does not need is 0.
 #[derive(Clone, Copy)]
 #[repr(C)]
@@ -26,7 +29,7 @@ pub struct DeviceShape {
     /// Of a block device: the id that it returns to a driver that asks for it.
     pub id: [u8; 20],
 
-    /// 0, until a later version gives it a meaning.
+    /// Of a network device: how many bytes its longest frame may have, 1,515 to 65,535. 0 is 1,514.
     pub frame: u32,
 
     /// Zeros, until a later version asks for more by them.
@@ -60,6 +63,12 @@ impl DeviceShape {
                 mac,
                 ..none
             },
+            Shape::LongNet { mac, longest } => DeviceShape {
+                kind: 1,
+                mac,
+                frame: longest as u32,
+                ..none
+            },
             Shape::Block {
                 sectors,
                 read_only,
@@ -86,11 +95,16 @@ impl DeviceShape {
             mac,
             sectors,
             id,
+            frame,
             ..
         } = self;
         let read_only = read_only != 0;
         match kind {
-            1 => Shape::Net { mac },
+            1 if frame == 0 => Shape::Net { mac },
+            1 => Shape::LongNet {
+                mac,
+                longest: (frame % FRAME_END) as u16,
+            },
             2 => Shape::Block {
                 sectors,
                 read_only,
@@ -109,6 +123,7 @@ impl DeviceShape {
             return false;
         }
         match self.kind {
+            1 => self.frame == 0 || self.frame > 1_514 && self.frame <= limits.frame as u32,
             2 => self.sectors != 0 && self.sectors <= limits.sectors as u64,
             kind => is_known(kind),
         }
@@ -121,7 +136,7 @@ impl DeviceShape {
         (self.kind == 1 || are_zero_bytes(&self.mac))
             && (self.kind == 2 || self.has_no_disk())
             && self.read_only <= 1
-            && self.frame == 0
+            && (self.frame == 0 || self.kind == 1 && self.frame < FRAME_END)
             && are_zeros(&self.reserved)
     }
 

@@ -37,7 +37,7 @@ pub fn count_in(shape: Shape) -> u64
 {
     match shape {
         Shape::Block { sectors, .. } => sectors,
-        Shape::Net { .. } | Shape::Console | Shape::Entropy => 0,
+        Shape::Net { .. } | Shape::LongNet { .. } | Shape::Console | Shape::Entropy => 0,
     }
 }
 

@@ -33,6 +33,6 @@ pub use mapping::{give_back, mapped_disks};
 pub use over_ram::{put_back, taken_ram};
 pub use pages::Pages;
 pub use setup::{
-    Expected, LARGE, LOG, Setup, arrival_refusal, asks_large, asks_log, is_none, limits_for,
-    ram_bytes, setup_refusal,
+    Expected, LARGE, LOG, Setup, arrival_limits, arrival_refusal, asks_large, asks_log, is_none,
+    limits_for, ram_bytes, setup_refusal,
 };

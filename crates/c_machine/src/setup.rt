@@ -15,9 +15,10 @@
 
 ghost use Rattle.std.specs.Prelude.{◌≡◌, ◌==◌, length};
 ghost use Rattle.c_machine.specs.Expected.{are_other_images, are_unfit_shapes, arrival_refusal_of, is_known_arrival, is_unfit_ram};
-ghost use Rattle.c_machine.specs.Made.{are_known, are_other_disks, asks_large, asks_log, is_bad_ram, is_known_setup, limits_for, ram_bytes, setup_refusal_of};
+ghost use Rattle.c_machine.specs.Made.{are_known, are_other_disks, arrival_limits, asks_large, asks_log, is_bad_ram, is_known_frame, is_known_setup, limits_for, ram_bytes, setup_refusal_of};
 
-use crate::device_shape::{DeviceShape, are_zeros};
+use crate::description::FRAME_MAX;
+use crate::device_shape::{DeviceShape, FRAME_END, are_zeros};
 use crate::images::are_images;
 use crate::making::{are_bad_shapes, are_plain};
 use crate::mapping::are_counted;
@@ -182,6 +183,23 @@ pub fn limits_for(flags: u32) -> Limits
     Limits::usual()
 }
 
+/// The limits of a machine that arrives: those of its flags, and frames as long as are allowed by name.
+pub fn arrival_limits(flags: u32, frame: u32) -> Limits
+    ensures { result ≡ arrival_limits flags frame }
+{
+    let limits = limits_for(flags);
+    if frame == 0 {
+        return Limits {
+            frame: FRAME_MAX as u16,
+            ..limits
+        };
+    }
+    Limits {
+        frame: (frame % FRAME_END) as u16,
+        ..limits
+    }
+}
+
 /// Whether `pages` pages, or `bytes` bytes of the caller, where there are any, are no RAM; or both are there and differ.
 fn is_bad_ram(limits: Limits, pages: u32, bytes: usize) -> bool
     ensures { result ≡ is_bad_ram limits pages bytes }
@@ -221,7 +239,7 @@ pub fn arrival_refusal(expected: &mut Expected) -> Option<u32>
     if !is_known_arrival(expected) {
         return Some(NOT_KNOWN);
     }
-    let limits = limits_for(expected.flags);
+    let limits = arrival_limits(expected.flags, expected.frame);
     let bytes = expected.ram.len();
     if is_unfit_ram(limits, expected.most_pages, bytes) {
         return Some(BAD_RAM);
@@ -245,11 +263,18 @@ fn is_known_arrival(expected: &mut Expected) -> bool
 {
     expected.version == KNOWN
         && are_known(expected.flags)
-        && expected.frame == 0
+        && is_known_frame(expected.flags, expected.frame)
         && expected.most_outside == 0
         && expected.block == 0
         && expected.zero == 0
         && are_zeros(&expected.reserved)
+}
+
+/// Whether an arrival with these flags may allow frames of so many bytes: 0 are the usual ones, and longer ones are large.
+fn is_known_frame(flags: u32, frame: u32) -> bool
+    ensures { result ≡ is_known_frame flags frame }
+{
+    frame == 0 || asks_large(flags) && frame > FRAME_MAX as u32 && frame < FRAME_END
 }
 
 /// Whether `bytes` bytes of the caller, where there are any, are no RAM, or pages are allowed beside them.

@@ -38,7 +38,11 @@ pub fn agree(alloc: Global) -> Result<()> {
 }
 
 fn limits_of(pages: u32, sectors: u32) -> Limits {
-    Limits { pages, sectors }
+    Limits {
+        pages,
+        sectors,
+        ..Limits::usual()
+    }
 }
 
 /// A machine is made where it is within its board's limits, and no larger one is.

@@ -36,7 +36,7 @@ ready_by true requests k h below = refl
 ready_by false requests k h below = let none : length requests ≡ 0 = rw h refl in absurd (omega (arith, below, none))
 
 kind_ready : (len : ℕ) (r : Registers) (kind : Kind) (queue : Queue) (k : ℕ) → queue_at r 0 ≡ Some queue → IsSoundKind len r kind → k < length (requests_of kind) → queue.is_ready ≡ true
-kind_ready len r (Network mac frames) queue k there sound below = absurd (omega (arith, below))
+kind_ready len r (Network mac inbox) queue k there sound below = absurd (omega (arith, below))
 kind_ready len r (Block block) queue k there sound below =
     let are : AreRequestsOf r.ram_base len (is_packed_by r.common) queue (limits_of block r.common.features) block.requests = rw there at sound in
     ready_by queue.is_ready block.requests k are.where_ready below

@@ -135,7 +135,7 @@ like_advances : (d : DeviceState) (kind : kinds.Kind) (ram : List ℕ) (x y : Li
 like_advances d (Block block) ram x y pick q o h =
     let s = like_one ram q x y block (pick - 1) (disk_does o) (slice_get block.requests (pick - 1)) h in
     record { reply = rw (s.answer) refl; writes = s.writes; sets = s.sets; device = rw (s.answer, s.ring, s.block) refl }
-like_advances d (Network mac frames) ram x y pick q o h = one_answer (unmoved d Idle)
+like_advances d (Network mac inbox) ram x y pick q o h = one_answer (unmoved d Idle)
 like_advances d (Console size held) ram x y pick q o h = one_answer (unmoved d Idle)
 like_advances d (Entropy pool) ram x y pick q o h = one_answer (unmoved d Idle)
 

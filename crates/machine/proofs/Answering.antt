@@ -54,8 +54,8 @@ by_seen q state on_chain next.Malformed all = record { outcome = refl; quiet = �
 by_seen q state on_chain (next.Chain c) all = all c
 
 pub answered : (features : ℕ) (kind : Kind) (number : ℕ) (ram : List ℕ) (q : RingState) (seen : Next) → IsAnswered (serve features kind number ram q seen).answer
-answered features (Network mac frames) zero ram q seen = by_seen q frames (give_first ram q frames) seen (framed ram q frames)
-answered features (Network mac frames) (suc number) ram q seen = by_seen q (Network mac frames) (send frame_form.header ram q (Network mac frames)) seen (λ c. did _ _)
+answered features (Network mac inbox) zero ram q seen = by_seen q inbox.frames (give_first ram q inbox.frames) seen (framed ram q inbox.frames)
+answered features (Network mac inbox) (suc number) ram q seen = by_seen q (Network mac inbox) (send (frame_form inbox.longest).header ram q (Network mac inbox)) seen (λ c. did _ _)
 answered features (Block block) number ram q seen = by_seen q block (take_chain features ram q block) seen (λ c. did _ _)
 answered features (Console size held) zero ram q seen = by_seen q held (give_some ram q held) seen (λ c. given ram q _ _ c)
 answered features (Console size held) (suc number) ram q seen = by_seen q (Console size held) (send text_form.header ram q (Console size held)) seen (λ c. did _ _)

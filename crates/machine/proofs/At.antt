@@ -5,7 +5,7 @@ use Rattle.std.proofs.lemmas.List.{length-set}
 use Rattle.std.proofs.lemmas.List.Elements.{All-set}
 use Rattle.console.specs.Size.{resized}
 use Rattle.console.specs.declared.size.ConsoleSize.{ConsoleSize}
-use Rattle.net.specs.Inbox.{frames_with, is_frame_len, kept_of}
+use Rattle.net.specs.Inbox.{Inbox, frames_with, is_frame_len, kept_of}
 use Rattle.blk.specs.Move as blk
 use Rattle.blk.specs.Sectors.{AreWhole, IsGiven, Sector, is_bad}
 use Rattle.blk.proofs.Given.{given_itself}
@@ -32,6 +32,7 @@ use Rattle.machine.specs.EffectLaws.{HasItem, IsSameShape}
 use Rattle.machine.specs.Held.{IsHeld}
 use Rattle.machine.specs.Outcome.{Outcome, fine, is_failure, outcome_of}
 use Rattle.machine.specs.Seen.{DeviceSeen, Marks, Seen, state_of, all_marks, failed_at, failed_if, marks_at}
+use Rattle.machine.specs.DeviceStep.{network_with}
 use Rattle.machine.specs.Shapes.{made_as}
 use Rattle.machine.specs.Sound.{IsSound, IsSoundDevice}
 use Rattle.machine.specs.State.{DeviceState, MachineState, base_of}
@@ -117,7 +118,7 @@ size_answer m ds dev cols rows d new (Console old held) result kind_is at same s
       has = record { seen = Empty; may_see = tt; reply_is = rw (found ds dev d at, kind_is) refl; effect_is = rw (found ds dev d at, kind_is, state) refl; outcome_is = refl };
       changed = changed_at m m ds dev d new [] at (ap (λ (x : DeviceSeen). x.sectors) same) refl;
     })
-size_answer m ds dev cols rows d new (Network mac frames) result kind_is at same state_is h = size_refused m ds dev cols rows d new (Network mac frames) result kind_is at same state_is h.0 h.1 h.2 refl
+size_answer m ds dev cols rows d new (Network mac inbox) result kind_is at same state_is h = size_refused m ds dev cols rows d new (Network mac inbox) result kind_is at same state_is h.0 h.1 h.2 refl
 size_answer m ds dev cols rows d new (Block block) result kind_is at same state_is h = size_refused m ds dev cols rows d new (Block block) result kind_is at same state_is h.0 h.1 h.2 refl
 size_answer m ds dev cols rows d new (Entropy pool) result kind_is at same state_is h = size_refused m ds dev cols rows d new (Entropy pool) result kind_is at same state_is h.0 h.1 h.2 refl
 
@@ -127,12 +128,12 @@ pub size_step : (m : Memory) (ds : List DeviceSeen) (dev cols rows : ℕ) (d new
 size_step m ds dev cols rows d new result at same h = size_answer m ds dev cols rows d new d.state.kind result refl at same h.0 h.1
 
 -- Its device kept bytes of the host, or took none.
-same_frames : (mac : List ℕ) (frames : List (List ℕ)) (bytes : List ℕ) (good : Bool) (refusal : Refusal) → cond good (Ok (kept_of frames bytes)) (Err BadFrame) ≡ Err refusal → cond good (Network mac (frames_with frames bytes)) (Network mac frames) ≡ Network mac frames
-same_frames mac frames bytes true refusal h = cc
-same_frames mac frames bytes false refusal h = refl
+same_frames : (mac : List ℕ) (inbox : Inbox) (bytes : List ℕ) (good : Bool) (refusal : Refusal) → cond good (Ok (kept_of inbox bytes)) (Err BadFrame) ≡ Err refusal → cond good (network_with mac inbox (frames_with inbox bytes)) (Network mac inbox) ≡ Network mac inbox
+same_frames mac inbox bytes true refusal h = cc
+same_frames mac inbox bytes false refusal h = refl
 
 same_kind : (kind : Kind) (bytes : List ℕ) (refusal : Refusal) → input_of kind bytes ≡ Err refusal → kind_with_input kind bytes ≡ kind
-same_kind (Network mac frames) bytes refusal h = same_frames mac frames bytes (is_frame_len (length bytes)) refusal h
+same_kind (Network mac inbox) bytes refusal h = same_frames mac inbox bytes (is_frame_len inbox.longest (length bytes)) refusal h
 same_kind (Block block) bytes refusal h = refl
 same_kind (Console size held) bytes refusal h = cc
 same_kind (Entropy pool) bytes refusal h = cc
@@ -155,7 +156,7 @@ input_step m ds dev bytes d new (Err refusal) kept at is =
 
 -- Its device dropped what the host had put in, or has none of it.
 undropped_kind : (kind : Kind) (refusal : Refusal) → drop_of kind ≡ Err refusal → kind_without_input kind ≡ kind
-undropped_kind (Network mac frames) refusal h = cc
+undropped_kind (Network mac inbox) refusal h = cc
 undropped_kind (Block block) refusal h = refl
 undropped_kind (Console size held) refusal h = cc
 undropped_kind (Entropy pool) refusal h = cc

@@ -42,8 +42,8 @@ asked r drives pick = rw drives refl
 
 -- A queue that is malformed stays, with all else of its ring.
 served_malformed : (features : ℕ) (kind : Kind) (number : ℕ) (ram : List ℕ) (q : RingState) → serve features kind number ram q next.Malformed ≡ record { answer = service.Malformed; writes = []; ring = q; state = kind }
-served_malformed features (Network mac frames) zero ram q = refl
-served_malformed features (Network mac frames) (suc number) ram q = refl
+served_malformed features (Network mac inbox) zero ram q = refl
+served_malformed features (Network mac inbox) (suc number) ram q = refl
 served_malformed features (Block block) number ram q = refl
 served_malformed features (Console size held) zero ram q = refl
 served_malformed features (Console size held) (suc number) ram q = refl
@@ -55,14 +55,17 @@ unfolding give
 frame_so ram q frame rest c true h = cc
 frame_so ram q frame rest c false h = cc
 
+frames_so : (ram : List ℕ) (q : RingState) (frames : List (List ℕ)) (c : Chain) → (net.give_first ram q frames c).answer ≡ service.Malformed → ⊥
+frames_so ram q [] c h = cc
+frames_so ram q (frame ∷ rest) c h = frame_so ram q frame rest c (ltb (length (places c.writable)) (length (header ++ frame))) h
+
 seen_so : (features : ℕ) (kind : Kind) (number : ℕ) (ram : List ℕ) (q : RingState) (seen : Next) → (serve features kind number ram q seen).answer ≡ service.Malformed → seen ≡ next.Malformed
 unfolding give
 seen_so features kind number ram q next.Malformed h = refl
-seen_so features (Network mac frames) zero ram q next.Empty h = cc
-seen_so features (Network mac []) zero ram q (next.Chain c) h = cc
-seen_so features (Network mac (frame ∷ rest)) zero ram q (next.Chain c) h = absurd (frame_so ram q frame rest c (ltb (length (places c.writable)) (length (header ++ frame))) h)
-seen_so features (Network mac frames) (suc number) ram q next.Empty h = cc
-seen_so features (Network mac frames) (suc number) ram q (next.Chain c) h = cc
+seen_so features (Network mac inbox) zero ram q next.Empty h = cc
+seen_so features (Network mac inbox) zero ram q (next.Chain c) h = absurd (frames_so ram q inbox.frames c h)
+seen_so features (Network mac inbox) (suc number) ram q next.Empty h = cc
+seen_so features (Network mac inbox) (suc number) ram q (next.Chain c) h = cc
 seen_so features (Block block) number ram q next.Empty h = cc
 seen_so features (Block block) number ram q (next.Chain c) h = cc
 seen_so features (Console size held) zero ram q next.Empty h = cc
@@ -82,7 +85,7 @@ advance_quiet (advanced.Completed len due) = ((λ h. cc), (λ h. h))
 
 no_reset_on : (d : DeviceState) (kind : Kind) (ram : List ℕ) (content : List Sector) (pick : ℕ) (q : RingState) (o : Outcome) → (advance_on d kind ram content pick q o).reply ≡ NeedsReset → ⊥
 no_reset_on d (Block block) ram content pick q o h = (advance_quiet (advance_step ram q content block (pick - 1) (disk_does o)).answer).0 h
-no_reset_on d (Network mac frames) ram content pick q o h = cc
+no_reset_on d (Network mac inbox) ram content pick q o h = cc
 no_reset_on d (Console size held) ram content pick q o h = cc
 no_reset_on d (Entropy pool) ram content pick q o h = cc
 
@@ -156,7 +159,7 @@ same_record m devices is = rw is refl
 
 quiet_on : (d : DeviceState) (kind : Kind) (ram : List ℕ) (content : List Sector) (pick : ℕ) (q : RingState) (o : Outcome) → IsRefusal (advance_on d kind ram content pick q o).reply → ⊥
 quiet_on d (Block block) ram content pick q o h = (advance_quiet (advance_step ram q content block (pick - 1) (disk_does o)).answer).1 h
-quiet_on d (Network mac frames) ram content pick q o h = h
+quiet_on d (Network mac inbox) ram content pick q o h = h
 quiet_on d (Console size held) ram content pick q o h = h
 quiet_on d (Entropy pool) ram content pick q o h = h
 
@@ -207,7 +210,7 @@ quiet_put m dev None bytes h = refl
 quiet_put m dev (Some d) bytes h = quiet_put_by m dev d bytes (input_of d.kind bytes) h
 
 quiet_size_by : (m : MachineState) (dev : ℕ) (d : DeviceState) (kind : Kind) (size : ConsoleSize) → IsRefusal (size_by dev d kind size).reply → applied m (size_by dev d kind size).effect ≡ m
-quiet_size_by m dev d (Network mac frames) size h = refl
+quiet_size_by m dev d (Network mac inbox) size h = refl
 quiet_size_by m dev d (Block block) size h = refl
 quiet_size_by m dev d (Console old held) size h = absurd h
 quiet_size_by m dev d (Entropy pool) size h = refl

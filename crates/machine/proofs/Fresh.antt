@@ -3,9 +3,9 @@ use Rattle.std.proofs.Common.{◌≡◌, ℕ, zero, suc, ◌+◌, ◌*◌, ◌%�
 use Rattle.std.specs.Prelude.{◌||◌, ◌&&◌, not}
 use Rattle.std.specs.List.{All}
 use Rattle.std.proofs.lemmas.List.{length-map, length-replicate}
-use Rattle.std.proofs.lemmas.List.Elements.{All-map, All-nil}
+use Rattle.std.proofs.lemmas.List.Elements.{All-head, All-map, All-nil, All-tail}
 use Rattle.std.proofs.lemmas.Bool.{eqb-false, eqb-true, leb-true}
-use borrow.Author.Tests.{ltb-false}
+use borrow.Author.Tests.{ltb-false, ltb-true}
 use Rattle.guestmem.specs.Number.{IsBytes}
 use Rattle.blk.specs.Disk.{AreSectors, DiskState}
 use Rattle.blk.specs.Sectors.{Sector, AreWhole, IsWhole}
@@ -24,20 +24,21 @@ use Rattle.machine.specs.declared.board.RamOf.TheVariants.{Pages, Region}
 use Rattle.machine.specs.declared.limits.Limits.{Limits}
 use Rattle.machine.specs.declared.new_error.NewError.TheVariants.{BadShape, DiskMismatch}
 use Rattle.machine.specs.declared.shape.Shape.{Shape}
-use Rattle.machine.specs.declared.shape.Shape.TheVariants.{Net, Block, Console, Entropy}
+use Rattle.machine.specs.declared.shape.Shape.TheVariants.{Net, LongNet, Block, Console, Entropy}
 use Rattle.machine.proofs.Dealt.{good_are_marks, good_content}
 use Rattle.machine.proofs.Disks.{same_sizes}
-use Rattle.machine.proofs.MadeAs.{first_as}
+use Rattle.machine.proofs.MadeAs.{IsLong, first_as}
 use Rattle.machine.proofs.Numbering.{shape_counts}
 
 both_true : (a b : Bool) → (a && b) ≡ true → (a ≡ true) × (b ≡ true)
 both_true true b is = (refl, is)
 both_true false b is = cc
 
--- Limits are numbers of 32 bits.
+-- Limits are numbers of 32 bits, and of 16.
 pub record FitsLimits (l : Limits) : Type 0 where
   pub pages : l.pages ≤ 4294967295
   pub sectors : l.sectors ≤ 4294967295
+  pub frame : l.frame ≤ 65535
 
 -- RAM that may begin at its base, and has as many whole pages as the limits allow.
 based_by : (base bytes : ℕ) → is_base base bytes ≡ true → IsBase base bytes
@@ -101,6 +102,14 @@ sectors_by most sectors false false p q is = (omega (arith, eqb-false sectors 0 
 sectors_within : (l : Limits) (sectors : ℕ) (read_only : Bool) (id : List ℕ) → is_beyond l (Block sectors read_only id) ≡ false → (1 ≤ sectors) × (sectors ≤ l.sectors)
 sectors_within l sectors read_only id is = sectors_by l.sectors sectors (eqb sectors 0) (ltb l.sectors sectors) refl refl is
 
+long_by : (most longest : ℕ) (a b : Bool) → ltb 1514 longest ≡ a → ltb most longest ≡ b → (not a || b) ≡ false → (1514 < longest) × (longest ≤ most)
+long_by most longest false b p q is = cc
+long_by most longest true true p q is = cc
+long_by most longest true false p q is = (ltb-true 1514 longest p, ltb-false most longest q)
+
+long_within : (l : Limits) (mac : List ℕ) (longest : ℕ) → is_beyond l (LongNet mac longest) ≡ false → (1514 < longest) × (longest ≤ l.frame)
+long_within l mac longest is = long_by l.frame longest (ltb 1514 longest) (ltb l.frame longest) refl refl is
+
 both_false : (a b : Bool) → (a || b) ≡ false → (a ≡ false) × (b ≡ false)
 both_false true b is = cc
 both_false false b is = (refl, is)
@@ -113,6 +122,7 @@ each_within l (shape ∷ shapes) is (suc k) d below = each_within l shapes (both
 -- The limits allow it.
 shape_within : (l : Limits) (shape : Shape) → is_beyond l shape ≡ false → IsShapeWithin l shape
 shape_within l (Net mac) within = tt
+shape_within l (LongNet mac longest) within = (long_within l mac longest within).1
 shape_within l (Block sectors read_only id) within = (sectors_within l sectors read_only id within).1
 shape_within l Console within = tt
 shape_within l Entropy within = tt
@@ -120,9 +130,23 @@ shape_within l Entropy within = tt
 all_within : (l : Limits) (shapes : List Shape) → are_beyond l shapes ≡ false → All (IsShapeWithin l) shapes
 all_within l shapes is k d below = shape_within l (get_or shapes k d) (each_within l shapes is k d below)
 
+-- It is one that its kind is made as.
+shape_long : (l : Limits) (shape : Shape) → is_beyond l shape ≡ false → IsLong shape
+shape_long l (Net mac) within = tt
+shape_long l (LongNet mac longest) within = (long_within l mac longest within).0
+shape_long l (Block sectors read_only id) within = tt
+shape_long l Console within = tt
+shape_long l Entropy within = tt
+
+pub all_long : (l : Limits) (shapes : List Shape) → are_beyond l shapes ≡ false → All IsLong shapes
+all_long l shapes is k d below = shape_long l (get_or shapes k d) (each_within l shapes is k d below)
+
 -- A new device is sound.
 shape_sound : (l : Limits) (shape : Shape) → FitsLimits l → is_beyond l shape ≡ false → HasBytes shape → IsSoundShape shape
 shape_sound l (Net mac) fits within has = record { size = has.size; bytes = has.bytes }
+shape_sound l (LongNet mac longest) fits within has =
+    let long = long_within l mac longest within in
+    record { address = record { size = has.size; bytes = has.bytes }; longer = long.0; most = omega (arith, long.1, fits.frame) }
 shape_sound l (Block sectors read_only id) fits within has =
     let count = sectors_within l sectors read_only id within in
     record { some = count.0; few = omega (arith, count.1, fits.sectors); id_size = has.size; id_bytes = has.bytes }
@@ -131,6 +155,7 @@ shape_sound l Entropy fits within has = tt
 
 numbers_fit : (shape : Shape) → (device_id_of shape < 2 ^ 32) × (offered_of shape < 2 ^ 64) × (queues_of shape ≤ 2)
 numbers_fit (Net mac) = (omega arith, omega arith, omega arith)
+numbers_fit (LongNet mac longest) = (omega arith, omega arith, omega arith)
 numbers_fit (Block sectors true id) = (omega arith, omega arith, omega arith)
 numbers_fit (Block sectors false id) = (omega arith, omega arith, omega arith)
 numbers_fit Console = (omega arith, omega arith, omega arith)
@@ -142,6 +167,7 @@ have_first packed (suc count) = (record { taking_fits = omega arith; used_fits =
 
 kind_sound : (base bytes : ℕ) (shape : Shape) → IsSoundKind bytes (first_device base bytes shape).registers (first_kind shape)
 kind_sound base bytes (Net mac) = record { few = omega arith; are = All-nil _ }
+kind_sound base bytes (LongNet mac longest) = record { few = omega arith; are = All-nil _ }
 kind_sound base bytes (Block sectors read_only id) = record { few = omega arith; sound = All-nil _; where_ready = refl }
 kind_sound base bytes Console = record { columns = omega arith; rows = omega arith; text = record { few = omega arith; are = λ i. omega arith } }
 kind_sound base bytes Entropy = record { few = omega arith; are = λ i. omega arith }
@@ -149,11 +175,12 @@ kind_sound base bytes Entropy = record { few = omega arith; are = λ i. omega ar
 first_device_sound : (l : Limits) (base bytes : ℕ) (shape : Shape) → FitsLimits l → IsBase base bytes → bytes < 2 ^ 64 → base < 2 ^ 64 → is_beyond l shape ≡ false → HasBytes shape → IsSoundDevice base bytes (first_device base bytes shape)
 first_device_sound l base bytes shape numbers based fits low within has =
     let small = numbers_fit shape in
+    let as_made = first_as shape (shape_long l shape within) in
     record {
-      shape = rw (first_as shape) (shape_sound l shape numbers within has);
-      device_id = rw (first_as shape) refl;
-      offered = rw (first_as shape) refl;
-      queues = rw (first_as shape) (length-replicate (queues_of shape) first_queue);
+      shape = rw as_made (shape_sound l shape numbers within has);
+      device_id = rw as_made refl;
+      offered = rw as_made refl;
+      queues = rw as_made (length-replicate (queues_of shape) first_queue);
       based = based;
       ram_base = refl;
       ram_len = refl;
@@ -166,6 +193,7 @@ first_device_sound l base bytes shape numbers based fits low within has =
 dealt_counts : (shapes : List Shape) (disks : List (List Sector)) → disk_sizes shapes ≡ map length disks → map length (dealt_sectors shapes disks) ≡ map sector_count shapes
 dealt_counts [] disks is = refl
 dealt_counts (Net mac ∷ shapes) disks is = ap (λ xs. 0 ∷ xs) (dealt_counts shapes disks is)
+dealt_counts (LongNet mac longest ∷ shapes) disks is = ap (λ xs. 0 ∷ xs) (dealt_counts shapes disks is)
 dealt_counts (Console ∷ shapes) disks is = ap (λ xs. 0 ∷ xs) (dealt_counts shapes disks is)
 dealt_counts (Entropy ∷ shapes) disks is = ap (λ xs. 0 ∷ xs) (dealt_counts shapes disks is)
 dealt_counts (Block sectors read_only id ∷ shapes) [] is = cc
@@ -181,9 +209,11 @@ dealt_sizes states disks is = dealt_counts (map (λ (d : DeviceState). made_as d
 pub dealt_whole : (shapes : List Shape) (disks : List (List Sector)) → All AreWhole disks → All AreWhole (dealt_sectors shapes disks)
 dealt_whole [] disks whole k d below = absurd (omega (arith, below))
 dealt_whole (Net mac ∷ shapes) disks whole zero d below = All-nil IsWhole
+dealt_whole (LongNet mac longest ∷ shapes) disks whole zero d below = All-nil IsWhole
 dealt_whole (Console ∷ shapes) disks whole zero d below = All-nil IsWhole
 dealt_whole (Entropy ∷ shapes) disks whole zero d below = All-nil IsWhole
 dealt_whole (Net mac ∷ shapes) disks whole (suc k) d below = dealt_whole shapes disks whole k d (omega (arith, below))
+dealt_whole (LongNet mac longest ∷ shapes) disks whole (suc k) d below = dealt_whole shapes disks whole k d (omega (arith, below))
 dealt_whole (Console ∷ shapes) disks whole (suc k) d below = dealt_whole shapes disks whole k d (omega (arith, below))
 dealt_whole (Entropy ∷ shapes) disks whole (suc k) d below = dealt_whole shapes disks whole k d (omega (arith, below))
 dealt_whole (Block sectors read_only id ∷ shapes) [] whole zero d below = All-nil IsWhole
@@ -192,12 +222,13 @@ dealt_whole (Block sectors read_only id ∷ shapes) (disk ∷ disks) whole zero 
 dealt_whole (Block sectors read_only id ∷ shapes) (disk ∷ disks) whole (suc k) d below =
     dealt_whole shapes disks (λ j e lt. whole (suc j) e (omega (arith, lt))) k d (omega (arith, below))
 
-pub first_shapes : (base bytes : ℕ) (shapes : List Shape) → map (λ (d : DeviceState). made_as d.kind) (map (first_device base bytes) shapes) ≡ shapes
-first_shapes base bytes [] = refl
-first_shapes base bytes (shape ∷ shapes) = rw (first_as shape) (ap (λ xs. shape ∷ xs) (first_shapes base bytes shapes))
+pub first_shapes : (base bytes : ℕ) (shapes : List Shape) → All IsLong shapes → map (λ (d : DeviceState). made_as d.kind) (map (first_device base bytes) shapes) ≡ shapes
+first_shapes base bytes [] long = refl
+first_shapes base bytes (shape ∷ shapes) long =
+    rw (first_as shape (All-head IsLong shape shapes long)) (ap (λ xs. shape ∷ xs) (first_shapes base bytes shapes (All-tail IsLong shape shapes long)))
 
-first_counts : (base bytes : ℕ) (shapes : List Shape) → map (λ (d : DeviceState). sector_count (made_as d.kind)) (map (first_device base bytes) shapes) ≡ map sector_count shapes
-first_counts base bytes shapes = shape_counts (map (first_device base bytes) shapes) ∙ ap (map sector_count) (first_shapes base bytes shapes)
+first_counts : (base bytes : ℕ) (shapes : List Shape) → All IsLong shapes → map (λ (d : DeviceState). sector_count (made_as d.kind)) (map (first_device base bytes) shapes) ≡ map sector_count shapes
+first_counts base bytes shapes long = shape_counts (map (first_device base bytes) shapes) ∙ ap (map sector_count) (first_shapes base bytes shapes long)
 
 -- New devices know the base.
 first_base : (base bytes : ℕ) (shapes : List Shape) → 1 ≤ length shapes → base_of (map (first_device base bytes) shapes) ≡ base
@@ -221,7 +252,7 @@ made_sound l base bytes shapes sizes disks numbers within are ids sizes_are whol
       few_devices = rw many within.few_devices;
       devices = rw (first_base base (length bytes) shapes within.some_devices) (All-map (IsSoundDevice base (length bytes)) (first_device base (length bytes)) shapes (λ k d below. first_device_sound l base (length bytes) (get_or shapes k d) numbers within.based fits low (each k d below) (ids k d below)));
       bytes = are;
-      disks = dealt_counts shapes disks counts ∙ sym (first_counts base (length bytes) shapes);
+      disks = dealt_counts shapes disks counts ∙ sym (first_counts base (length bytes) shapes (all_long l shapes within.none_beyond));
       sectors = dealt_whole shapes disks whole;
     }
 
@@ -229,7 +260,7 @@ made_sound l base bytes shapes sizes disks numbers within are ids sizes_are whol
 made_within : (l : Limits) (base : ℕ) (bytes : List ℕ) (shapes : List Shape) (sizes : List ℕ) (disks : List (List Sector)) → HasLimits l base (length bytes) shapes sizes → IsWithinLimits l (made_machine base bytes shapes disks)
 made_within l base bytes shapes sizes disks within = record {
   few_pages = omega (arith, within.size.few);
-  few_sectors = subst (λ (xs : List Shape). All (IsShapeWithin l) xs) (sym (first_shapes base (length bytes) shapes)) (all_within l shapes within.none_beyond);
+  few_sectors = subst (λ (xs : List Shape). All (IsShapeWithin l) xs) (sym (first_shapes base (length bytes) shapes (all_long l shapes within.none_beyond))) (all_within l shapes within.none_beyond);
 }
 
 -- A machine of the same shape is within the limits too.
@@ -242,6 +273,7 @@ stays_within l m k same within = record {
 -- The greatest limits allow every sound machine.
 sound_within : (shape : Shape) → IsSoundShape shape → IsShapeWithin greatest shape
 sound_within (Net mac) sound = tt
+sound_within (LongNet mac longest) sound = sound.most
 sound_within (Block sectors read_only id) sound = sound.few
 sound_within Console sound = tt
 sound_within Entropy sound = tt
@@ -253,8 +285,8 @@ greatest_allow m sound = record {
 }
 
 -- The same machine, as it is put together.
-made_is_saved : (base : ℕ) (shapes : List Shape) (disks : List (List Sector)) (bytes : List ℕ) (states : List DeviceState) → states ≡ map (first_device base (length bytes)) shapes → saved_machine bytes states disks ≡ made_machine base bytes shapes disks
-made_is_saved base shapes disks bytes states are = rw (are, first_shapes base (length bytes) shapes) refl
+made_is_saved : (base : ℕ) (shapes : List Shape) (disks : List (List Sector)) (bytes : List ℕ) (states : List DeviceState) → All IsLong shapes → states ≡ map (first_device base (length bytes)) shapes → saved_machine bytes states disks ≡ made_machine base bytes shapes disks
+made_is_saved base shapes disks bytes states long are = rw (are, first_shapes base (length bytes) shapes long) refl
 
 -- The sectors of good disks.
 good_sizes : {A : Type 0} (state : A → DiskState) (xs : List A) → map length (map (λ x. map Some (state x).sectors) xs) ≡ map (λ x. length (state x).sectors) xs
@@ -279,12 +311,13 @@ is_put state l base bytes shapes xs states bad numbers none are ids whole states
     let disks : List (List Sector) = map (λ x. map Some (state x).sectors) xs in
     let content : marked_sectors (map state xs) bad ≡ disks = ap (marked_sectors (map state xs)) bad_are ∙ good_content state xs in
     let limited = limits l base (length bytes) shapes sizes none in
-    let made : saved_machine bytes states (marked_sectors (map state xs) bad) ≡ made_machine base bytes shapes disks = ap (saved_machine bytes states) content ∙ made_is_saved base shapes disks bytes states states_are in
+    let long = all_long l shapes limited.none_beyond in
+    let made : saved_machine bytes states (marked_sectors (map state xs) bad) ≡ made_machine base bytes shapes disks = ap (saved_machine bytes states) content ∙ made_is_saved base shapes disks bytes states long states_are in
     record {
       made = made;
       sound = rw made (made_sound l base bytes shapes sizes disks numbers limited are ids (good_sizes state xs) (good_whole state xs whole));
       within = subst (λ (m : MachineState). IsWithinLimits l m) (sym made) (made_within l base bytes shapes sizes disks limited);
-      shapes_are = sym (ap (map (λ (d : DeviceState). made_as d.kind)) states_are ∙ first_shapes base (length bytes) shapes);
+      shapes_are = sym (ap (map (λ (d : DeviceState). made_as d.kind)) states_are ∙ first_shapes base (length bytes) shapes long);
       marks = rw bad_are (good_are_marks (map state xs));
     }
 

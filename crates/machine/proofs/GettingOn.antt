@@ -84,7 +84,7 @@ busy_found ram q content b k is_fine (r ∷ rs) below =
 
 busy_on : (d : DeviceState) (kind : Kind) (ram : List ℕ) (content : List Sector) (pick : ℕ) (q : RingState) (o : Outcome) → pick - 1 < length (requests_of kind) → (advance_on d kind ram content pick q o).reply ≢ Idle
 busy_on d (Block block) ram content pick q o below = busy_reply (advance_step ram q content block (pick - 1) (disk_does o)).answer (busy_found ram q content block (pick - 1) (disk_does o) block.requests below)
-busy_on d (Network mac frames) ram content pick q o below = absurd (omega (arith, below))
+busy_on d (Network mac inbox) ram content pick q o below = absurd (omega (arith, below))
 busy_on d (Console size held) ram content pick q o below = absurd (omega (arith, below))
 busy_on d (Entropy pool) ram content pick q o below = absurd (omega (arith, below))
 

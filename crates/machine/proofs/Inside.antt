@@ -31,7 +31,7 @@ use Rattle.blk.specs.declared.block.Block as blocks
 use Rattle.mmio.specs.State.{Registers}
 use Rattle.machine.specs.DeviceStep.{serve, wanted_of}
 use Rattle.machine.specs.Sound.{IsSoundKind}
-use Rattle.net.specs.Inbox.{AreFrames}
+use Rattle.net.specs.Inbox.{IsFrame}
 use Rattle.machine.specs.declared.kind.Kind.{Kind}
 use Rattle.machine.specs.declared.kind.Kind.TheVariants.{Network, Block, Console, Entropy}
 use Rattle.console.specs.Shape.{AreHostBytes}
@@ -205,12 +205,12 @@ unfolding give
 one_framed ram q frame rest c true looked inside are = tt
 one_framed ram q frame rest c false looked inside are = filled_inside (length ram) q c (header ++ frame) looked inside (IsBytes-append header frame header_bytes are)
 
-framed_inside : (ram : List ℕ) (q : RingState) (frames : List (List ℕ)) (seen : Next) → IsLookedRing (length ram) q → IsBoundedNext (length ram) q seen → AreFrames frames → AreInsideRam (length ram) (net.receive_step ram q frames seen).writes
-framed_inside ram q frames next.Empty looked bounded are = note_inside (length ram) q looked.areas
-framed_inside ram q frames next.Malformed looked bounded are = tt
-framed_inside ram q [] (next.Chain c) looked bounded are = tt
-framed_inside ram q (frame ∷ rest) (next.Chain c) looked bounded are =
-    one_framed ram q frame rest c (ltb (length (places c.writable)) (length (header ++ frame))) looked bounded.writable (are.are 0 frame (omega arith)).are
+framed_inside : (longest : ℕ) (ram : List ℕ) (q : RingState) (frames : List (List ℕ)) (seen : Next) → IsLookedRing (length ram) q → IsBoundedNext (length ram) q seen → All (IsFrame longest) frames → AreInsideRam (length ram) (net.receive_step ram q frames seen).writes
+framed_inside longest ram q frames next.Empty looked bounded are = note_inside (length ram) q looked.areas
+framed_inside longest ram q frames next.Malformed looked bounded are = tt
+framed_inside longest ram q [] (next.Chain c) looked bounded are = tt
+framed_inside longest ram q (frame ∷ rest) (next.Chain c) looked bounded are =
+    one_framed ram q frame rest c (ltb (length (places c.writable)) (length (header ++ frame))) looked bounded.writable (are 0 frame (omega arith)).are
 
 -- What the step that takes a message writes.
 sent_inside : {S : Type 0} (ram : List ℕ) (q : RingState) (form : MessageForm) (state : S) (seen : Next) → IsLookedRing (length ram) q → AreInsideRam (length ram) (transmit_step form ram q state seen).writes
@@ -221,8 +221,8 @@ sent_inside ram q form state (next.Chain c) looked = published_inside (length ra
 -- What serving a queue writes.
 pub served_inside : (len : ℕ) (r : Registers) (kind : Kind) (number : ℕ) (ram : List ℕ) (q : RingState) (seen : Next) → IsLookedRing (length ram) q → Sees (wanted_of kind number) ram q seen → IsSoundKind len r kind → AreInsideRam (length ram) (serve r.common.features kind number ram q seen).writes
 served_inside len r (Block block) number ram q seen looked sees sound = taken_inside r.common.features ram q block seen looked
-served_inside len r (Network mac frames) zero ram q seen looked sees sound = framed_inside ram q frames seen looked (sight_bounded wanted.Room ram q seen sees) sound
-served_inside len r (Network mac frames) (suc number) ram q seen looked sees sound = sent_inside ram q frame_form (Network mac frames) seen looked
+served_inside len r (Network mac inbox) zero ram q seen looked sees sound = framed_inside inbox.longest ram q inbox.frames seen looked (sight_bounded wanted.Room ram q seen sees) sound.are
+served_inside len r (Network mac inbox) (suc number) ram q seen looked sees sound = sent_inside ram q (frame_form inbox.longest) (Network mac inbox) seen looked
 served_inside len r (Console size held) zero ram q seen looked sees sound = given_inside ram q held seen looked (sight_bounded wanted.Room ram q seen sees) sound.text
 served_inside len r (Console size held) (suc number) ram q seen looked sees sound = sent_inside ram q text_form (Console size held) seen looked
 served_inside len r (Entropy pool) number ram q seen looked sees sound = given_inside ram q pool seen looked (sight_bounded wanted.Room ram q seen sees) sound

@@ -1,7 +1,8 @@
 -- A device stays what it was made as.
-use Rattle.std.proofs.Common.{◌≡◌, ℕ, zero, suc, ◌-◌, Bool, true, false, cond, List, length, Option, Some, None, refl, ap, sym, ◌∙◌}
+use Rattle.std.proofs.Common.{◌≡◌, ℕ, zero, suc, ◌-◌, ◌<◌, arith, Bool, true, false, cond, List, length, Option, Some, None, refl, ap, sym, ◌∙◌}
 use Rattle.std.specs.Prelude.{slice_get}
-use Rattle.net.specs.Inbox.{is_frame_len, frames_with}
+use Rattle.std.proofs.lemmas.Bool.{ne_eqb}
+use Rattle.net.specs.Inbox.{Inbox, frames_with, is_frame_len}
 use Rattle.net.specs.Transmit.{frame_form}
 use Rattle.console.specs.Transmit.{text_form}
 use Rattle.blk.specs.Advance.{advance_one, after_move, completed}
@@ -17,9 +18,9 @@ use Rattle.chains.specs.declared.next.Next.{Next}
 use Rattle.chains.specs.declared.next.Next.TheVariants as next
 use Rattle.chains.specs.declared.transmitting.MessageForm.{MessageForm}
 use Rattle.mmio.specs.declared.queue.Queue.{Queue}
-use Rattle.machine.specs.DeviceStep.{advance_on, serve}
+use Rattle.machine.specs.DeviceStep.{advance_on, network_with, serve}
 use Rattle.machine.specs.Outcome.{Outcome, disk_does}
-use Rattle.machine.specs.Shapes.{first_kind, made_as}
+use Rattle.machine.specs.Shapes.{first_kind, made_as, net_as}
 use Rattle.machine.specs.State.{DeviceState}
 use Rattle.machine.specs.Step.{dropped_unready, kind_with_input, kind_without_input}
 use Rattle.machine.specs.declared.kind.Kind.{Kind}
@@ -28,23 +29,23 @@ use Rattle.machine.specs.declared.shape.Shape.{Shape}
 use Rattle.machine.specs.declared.shape.Shape.TheVariants as shapes
 
 pub dropped_as : (queues : List Queue) (kind : Kind) → made_as (dropped_unready queues kind) ≡ made_as kind
-dropped_as queues (Network mac frames) = refl
+dropped_as queues (Network mac inbox) = refl
 dropped_as queues (Block block) = refl
 dropped_as queues (Console size held) = refl
 dropped_as queues (Entropy pool) = refl
 
-frames_as : (mac : List ℕ) (more frames : List (List ℕ)) (good : Bool) → made_as (cond good (Network mac more) (Network mac frames)) ≡ shapes.Net mac
-frames_as mac more frames true = refl
-frames_as mac more frames false = refl
+frames_as : (mac : List ℕ) (inbox : Inbox) (more : List (List ℕ)) (good : Bool) → made_as (cond good (network_with mac inbox more) (Network mac inbox)) ≡ net_as mac inbox.longest
+frames_as mac inbox more true = refl
+frames_as mac inbox more false = refl
 
 pub input_as : (kind : Kind) (bytes : List ℕ) → made_as (kind_with_input kind bytes) ≡ made_as kind
-input_as (Network mac frames) bytes = frames_as mac (frames_with frames bytes) frames (is_frame_len (length bytes))
+input_as (Network mac inbox) bytes = frames_as mac inbox (frames_with inbox bytes) (is_frame_len inbox.longest (length bytes))
 input_as (Block block) bytes = refl
 input_as (Console size held) bytes = refl
 input_as (Entropy pool) bytes = refl
 
 pub without_as : (kind : Kind) → made_as (kind_without_input kind) ≡ made_as kind
-without_as (Network mac frames) = refl
+without_as (Network mac inbox) = refl
 without_as (Block block) = refl
 without_as (Console size held) = refl
 without_as (Entropy pool) = refl
@@ -60,8 +61,8 @@ taken_as features ram q block next.Malformed = refl
 taken_as features ram q block (next.Chain c) = refl
 
 pub served_as : (features : ℕ) (kind : Kind) (number : ℕ) (ram : List ℕ) (q : RingState) (seen : Next) → made_as (serve features kind number ram q seen).state ≡ made_as kind
-served_as features (Network mac frames) zero ram q seen = refl
-served_as features (Network mac frames) (suc number) ram q seen = ap made_as (sent_state frame_form ram q (Network mac frames) seen)
+served_as features (Network mac inbox) zero ram q seen = refl
+served_as features (Network mac inbox) (suc number) ram q seen = ap made_as (sent_state (frame_form inbox.longest) ram q (Network mac inbox) seen)
 served_as features (Block block) number ram q seen = taken_as features ram q block seen
 served_as features (Console size held) zero ram q seen = refl
 served_as features (Console size held) (suc number) ram q seen = ap made_as (sent_state text_form ram q (Console size held) seen)
@@ -77,12 +78,18 @@ one_as ram q content block k is_fine (Some r) = going_as ram q block k (move_of 
 
 pub advanced_as : (d : DeviceState) (kind : Kind) (ram : List ℕ) (content : List Sector) (pick : ℕ) (q : RingState) (o : Outcome) → d.kind ≡ kind → made_as (advance_on d kind ram content pick q o).device.kind ≡ made_as d.kind
 advanced_as d (Block block) ram content pick q o is = one_as ram q content block (pick - 1) (disk_does o) (slice_get block.requests (pick - 1)) ∙ ap made_as (sym is)
-advanced_as d (Network mac frames) ram content pick q o is = refl
+advanced_as d (Network mac inbox) ram content pick q o is = refl
 advanced_as d (Console size held) ram content pick q o is = refl
 advanced_as d (Entropy pool) ram content pick q o is = refl
 
-pub first_as : (shape : Shape) → made_as (first_kind shape) ≡ shape
-first_as (shapes.Net mac) = refl
-first_as (shapes.Block sectors read_only id) = refl
-first_as shapes.Console = refl
-first_as shapes.Entropy = refl
+-- The longest frame of a device for long frames is longer than the usual.
+abbrev pub IsLong : Shape → Type 0
+IsLong (shapes.LongNet mac longest) = 1514 < longest
+IsLong _ = Unit {0}
+
+pub first_as : (shape : Shape) → IsLong shape → made_as (first_kind shape) ≡ shape
+first_as (shapes.Net mac) long = refl
+first_as (shapes.LongNet mac longest) long = rw (ne_eqb longest 1514 (λ (is : longest ≡ 1514). omega (arith, is, long))) refl
+first_as (shapes.Block sectors read_only id) long = refl
+first_as shapes.Console long = refl
+first_as shapes.Entropy long = refl

@@ -288,6 +288,7 @@ some_of_device devices lost dev from pick d found there few is some = found_in_d
 -- One device: its queues and its outstanding requests.
 some_queues : (shape : Shape) → 0 < queues_of shape
 some_queues (shapes.Net mac) = omega arith
+some_queues (shapes.LongNet mac longest) = omega arith
 some_queues (shapes.Block sectors read_only id) = omega arith
 some_queues shapes.Console = omega arith
 some_queues shapes.Entropy = omega arith

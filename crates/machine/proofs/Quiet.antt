@@ -48,7 +48,7 @@ of_input dev (Some d) bytes = of_put dev d bytes (input_of d.kind bytes)
 
 of_kind : (dev : ℕ) (d : DeviceState) (kind : Kind) (size : ConsoleSize) → items_of (size_by dev d kind size).effect ≡ []
 of_kind dev d (Console old held) size = refl
-of_kind dev d (Network mac frames) size = refl
+of_kind dev d (Network mac inbox) size = refl
 of_kind dev d (Block block) size = refl
 of_kind dev d (Entropy pool) size = refl
 

@@ -73,7 +73,7 @@ of_put dev None bytes = record { writes = refl; sectors = refl }
 of_put dev (Some d) bytes = of_put_by dev d bytes (input_of d.kind bytes)
 
 of_size_by : (dev : ℕ) (d : DeviceState) (kind : Kind) (size : ConsoleSize) → IsUnwritten (size_by dev d kind size).effect
-of_size_by dev d (Network mac frames) size = record { writes = refl; sectors = refl }
+of_size_by dev d (Network mac inbox) size = record { writes = refl; sectors = refl }
 of_size_by dev d (Block block) size = record { writes = refl; sectors = refl }
 of_size_by dev d (Console old held) size = record { writes = refl; sectors = refl }
 of_size_by dev d (Entropy pool) size = record { writes = refl; sectors = refl }

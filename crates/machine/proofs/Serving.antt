@@ -18,7 +18,7 @@ use Rattle.chains.specs.ReceiveBuffer.{give}
 use Rattle.chains.specs.Transmit.{transmit_step}
 use Rattle.chains.specs.declared.transmitting.MessageForm.{MessageForm}
 use Rattle.console.specs.Transmit.{text_form}
-use Rattle.net.specs.Inbox.{AreFrames}
+use Rattle.net.specs.Inbox.{AreFrames, Inbox}
 use Rattle.net.specs.Receive as net
 use Rattle.net.specs.Transmit.{frame_form}
 use Rattle.net.specs.Header.{header}
@@ -72,7 +72,7 @@ pub record AreOutstanding (len : ℕ) (s : RingState) (limits : Limits) (request
   pub sound : AreSound len s limits requests
 
 abbrev pub SoundBeside : ℕ → RingState → ℕ → Kind → Type 0
-SoundBeside len s features (Network mac frames) = AreFrames frames
+SoundBeside len s features (Network mac inbox) = AreFrames inbox
 SoundBeside len s features (Block block) = AreOutstanding len s (limits_of block features) block.requests
 SoundBeside len s features (Console size held) = IsSoundConsole size held
 SoundBeside len s features (Entropy pool) = AreHostBytes pool
@@ -98,29 +98,33 @@ taken_on features ram s b (next.Chain c) room bytes sees looked are =
       };
     }
 
+-- The frames in an inbox.
+abbrev in_box : ℕ → List (List ℕ) → Inbox
+in_box longest frames = record { longest = longest; frames = frames }
+
 -- The step that gives a frame: the ring after it, and the frames that are left.
-record FramesOn (s new : RingState) (left : List (List ℕ)) : Type 0 where
+record FramesOn (longest : ℕ) (s new : RingState) (left : List (List ℕ)) : Type 0 where
   ring : IsSameRing s new
-  are : AreFrames left
+  are : AreFrames (in_box longest left)
 
-frames_left : (frame : List ℕ) (rest : List (List ℕ)) → AreFrames (frame ∷ rest) → AreFrames rest
-frames_left frame rest h = record { few = omega (arith, h.few); are = λ k d below. h.are (suc k) d (omega (arith, below)) }
+frames_left : (longest : ℕ) (frame : List ℕ) (rest : List (List ℕ)) → AreFrames (in_box longest (frame ∷ rest)) → AreFrames (in_box longest rest)
+frames_left longest frame rest h = record { few = omega (arith, h.few); are = λ k d below. h.are (suc k) d (omega (arith, below)) }
 
-one_given : (ram : List ℕ) (s : RingState) (frame : List ℕ) (rest : List (List ℕ)) (c : Chain) (short : Bool) → IsLookedRing (length ram) s → c.slots ≤ s.size → AreFrames (frame ∷ rest)
-    → FramesOn s (cond short (net.drop_frame s rest) (give ram s (header ++ frame) rest c)).ring (cond short (net.drop_frame s rest) (give ram s (header ++ frame) rest c)).state
+one_given : (longest : ℕ) (ram : List ℕ) (s : RingState) (frame : List ℕ) (rest : List (List ℕ)) (c : Chain) (short : Bool) → IsLookedRing (length ram) s → c.slots ≤ s.size → AreFrames (in_box longest (frame ∷ rest))
+    → FramesOn longest s (cond short (net.drop_frame s rest) (give ram s (header ++ frame) rest c)).ring (cond short (net.drop_frame s rest) (give ram s (header ++ frame) rest c)).state
 unfolding give
-one_given ram s frame rest c true looked few are = record { ring = same_ring s looked.placed; are = frames_left frame rest are }
-one_given ram s frame rest c false looked few are = record {
+one_given longest ram s frame rest c true looked few are = record { ring = same_ring s looked.placed; are = frames_left longest frame rest are }
+one_given longest ram s frame rest c false looked few are = record {
   ring = record { base = refl; layout = refl; size = refl; placed = placed_by s c.slots s.is_packed refl looked.may looked.placed few };
-  are = frames_left frame rest are;
+  are = frames_left longest frame rest are;
 }
 
-framed_on : (ram : List ℕ) (s : RingState) (frames : List (List ℕ)) (seen : Next) → IsLookedRing (length ram) s → IsBoundedNext (length ram) s seen → AreFrames frames
-    → FramesOn s (net.receive_step ram s frames seen).ring (net.receive_step ram s frames seen).state
-framed_on ram s frames next.Empty looked bounded are = record { ring = same_ring s looked.placed; are = are }
-framed_on ram s frames next.Malformed looked bounded are = record { ring = same_ring s looked.placed; are = are }
-framed_on ram s [] (next.Chain c) looked bounded are = record { ring = same_ring s looked.placed; are = are }
-framed_on ram s (frame ∷ rest) (next.Chain c) looked bounded are = one_given ram s frame rest c (ltb (length (places c.writable)) (length (header ++ frame))) looked bounded.slots are
+framed_on : (longest : ℕ) (ram : List ℕ) (s : RingState) (frames : List (List ℕ)) (seen : Next) → IsLookedRing (length ram) s → IsBoundedNext (length ram) s seen → AreFrames (in_box longest frames)
+    → FramesOn longest s (net.receive_step ram s frames seen).ring (net.receive_step ram s frames seen).state
+framed_on longest ram s frames next.Empty looked bounded are = record { ring = same_ring s looked.placed; are = are }
+framed_on longest ram s frames next.Malformed looked bounded are = record { ring = same_ring s looked.placed; are = are }
+framed_on longest ram s [] (next.Chain c) looked bounded are = record { ring = same_ring s looked.placed; are = are }
+framed_on longest ram s (frame ∷ rest) (next.Chain c) looked bounded are = one_given longest ram s frame rest c (ltb (length (places c.writable)) (length (header ++ frame))) looked bounded.slots are
 
 -- The step that takes a message: the ring after it.
 sent_on : (ram : List ℕ) (s : RingState) (form : MessageForm) (kind : Kind) (seen : Next) → IsLookedRing (length ram) s → IsBoundedNext (length ram) s seen
@@ -136,11 +140,11 @@ pub record ServesOn (len : ℕ) (features : ℕ) (s new : RingState) (kind : Kin
 
 pub served_on : (features : ℕ) (kind : Kind) (number : ℕ) (ram : List ℕ) (s : RingState) (seen : Next) → has_work kind number ≡ true → IsBytes ram → IsLookedRing (length ram) s → Sees (wanted_of kind number) ram s seen → SoundBeside (length ram) s features kind
     → ServesOn (length ram) features s (serve features kind number ram s seen).ring (serve features kind number ram s seen).state
-served_on features (Network mac frames) zero ram s seen work bytes looked sees sound =
-    let g = framed_on ram s frames seen looked (sight_bounded wanted.Room ram s seen sees) sound in
+served_on features (Network mac inbox) zero ram s seen work bytes looked sees sound =
+    let g = framed_on inbox.longest ram s inbox.frames seen looked (sight_bounded wanted.Room ram s seen sees) sound in
     record { ring = g.ring; kind_is = g.are }
-served_on features (Network mac frames) (suc number) ram s seen work bytes looked sees sound =
-    let g = sent_on ram s frame_form (Network mac frames) seen looked (sight_bounded (wanted.Message frame_form) ram s seen sees) in
+served_on features (Network mac inbox) (suc number) ram s seen work bytes looked sees sound =
+    let g = sent_on ram s (frame_form inbox.longest) (Network mac inbox) seen looked (sight_bounded (wanted.Message (frame_form inbox.longest)) ram s seen sees) in
     record { ring = g.0; kind_is = rw (g.1) sound }
 served_on features (Block block) number ram s seen work bytes looked sees sound =
     let t = taken_on features ram s block seen work bytes sees looked sound in

@@ -2,7 +2,7 @@
 use Rattle.std.proofs.Common.{◌≡◌, ℕ, zero, suc, ◌+◌, ◌%◌, ◌^◌, ◌<◌, ◌≤◌, ◌⊎◌, inl, inr, Bool, true, false, cond, eqb, ltb, List, [], ◌∷◌, ◌++◌, length, take, set, get_or, Option, Some, None, refl, sym, ap, ◌∙◌, subst, arith, length-append}
 use Rattle.std.proofs.lemmas.List.Elements.{All-append}
 use borrow.Author.Tests.{ltb-true, ltb-false}
-use Rattle.net.specs.Inbox.{AreFrames, IsFrame, is_frame_len}
+use Rattle.net.specs.Inbox.{AreFrames, Inbox, IsFrame, is_frame_len, most_waiting}
 use Rattle.std.specs.Prelude.{◌-◌, ◌&&◌, not, bit_and, bit_or, slice_get, IsSomeAnd}
 use Rattle.std.proofs.lemmas.Option.{slice_get_within}
 use Rattle.std.proofs.lemmas.Nat.{mod_below}
@@ -36,7 +36,7 @@ use Rattle.mmio.specs.State.{Registers, queue_at, with_common}
 use Rattle.mmio.specs.declared.queue.Queue.{Queue}
 use Rattle.mmio.proofs.StayingReady.{write_stays}
 use Rattle.mmio.proofs.StayingSound.{StaysSound, write_sound, used_sound, asked_sound, cleared_sound}
-use Rattle.machine.specs.DeviceStep.{serve, registers_after, after_service, after_advance, is_advance_due, advance_at, advance_on, advanced_at, step_at, looked_at, device_step, wanted_of, MayLook}
+use Rattle.machine.specs.DeviceStep.{network_with, serve, registers_after, after_service, after_advance, is_advance_due, advance_at, advance_on, advanced_at, step_at, looked_at, device_step, wanted_of, MayLook}
 use Rattle.machine.specs.Looked.{IsLookedAt}
 use Rattle.machine.specs.Outcome.{Outcome, fine, disk_failed, no_memory, disk_does}
 use Rattle.machine.specs.QueuePositions.{HavePositions, HasPositions, ArePlaced, first_positions, restarted_positions, is_packed_by}
@@ -152,7 +152,7 @@ kept_requests_sound base len was is (o ∷ os) [] limits requests stay are = abs
 kept_requests_sound base len was is (o ∷ os) (n ∷ ns) limits requests stay are = kept_by base len was is o n limits requests n.is_ready refl stay.0 are
 
 kind_kept : (len : ℕ) (r new : Registers) (kind : Kind) → new.ram_base ≡ r.ram_base → EachStaysReady r.common.features new.common.features r.queues new.queues → IsSoundKind len r kind → IsSoundKind len new (dropped_unready new.queues kind)
-kind_kept len r new (Network mac frames) same stay sound = sound
+kind_kept len r new (Network mac inbox) same stay sound = sound
 kind_kept len r new (Block block) same stay sound =
     subst (λ (base : ℕ). IsSomeAnd (slice_get new.queues 0) (λ q. AreRequestsOf base len (is_packed_by new.common) q (limits_of block new.common.features) (cond (is_first_ready new.queues) block.requests []))) (sym same)
     (kept_requests_sound r.ram_base len r.common.features new.common.features r.queues new.queues (limits_of block) block.requests stay sound)
@@ -177,32 +177,32 @@ bytes_put pool bytes sound are =
     let n = accepted_in pool bytes in
     host_bytes_more pool (take n bytes) sound (IsBytes-take n bytes are) (omega (arith, length-take n bytes, sound.few))
 
-both_sides : (len : ℕ) (a b : Bool) → ltb len 14 ≡ a → ltb 1514 len ≡ b → (not a && not b) ≡ true → (14 ≤ len) × (len ≤ 1514)
-both_sides len true b p q h = cc
-both_sides len false true p q h = cc
-both_sides len false false p q h = (ltb-false len 14 p, ltb-false 1514 len q)
+both_sides : (longest len : ℕ) (a b : Bool) → ltb len 14 ≡ a → ltb longest len ≡ b → (not a && not b) ≡ true → (14 ≤ len) × (len ≤ longest)
+both_sides longest len true b p q h = cc
+both_sides longest len false true p q h = cc
+both_sides longest len false false p q h = (ltb-false len 14 p, ltb-false longest len q)
 
-frame_is : (len : ℕ) → is_frame_len len ≡ true → (14 ≤ len) × (len ≤ 1514)
-frame_is len h = both_sides len (ltb len 14) (ltb 1514 len) refl refl h
+frame_is : (longest len : ℕ) → is_frame_len longest len ≡ true → (14 ≤ len) × (len ≤ longest)
+frame_is longest len h = both_sides longest len (ltb len 14) (ltb longest len) refl refl h
 
-one_frame : (frame : List ℕ) (d : List ℕ) (k : ℕ) → k < 1 → IsFrame frame → IsFrame (get_or (frame ∷ []) k d)
-one_frame frame d zero below h = h
-one_frame frame d (suc k) below h = absurd (omega (arith, below))
+one_frame : (longest : ℕ) (frame : List ℕ) (d : List ℕ) (k : ℕ) → k < 1 → IsFrame longest frame → IsFrame longest (get_or (frame ∷ []) k d)
+one_frame longest frame d zero below h = h
+one_frame longest frame d (suc k) below h = absurd (omega (arith, below))
 
-frames_put : (len : ℕ) (r : Registers) (mac : List ℕ) (frames : List (List ℕ)) (bytes : List ℕ) (good room : Bool) → is_frame_len (length bytes) ≡ good → ltb (length frames) 64 ≡ room → AreFrames frames → IsBytes bytes
-    → IsSoundKind len r (cond good (Network mac (cond room (frames ++ bytes ∷ []) frames)) (Network mac frames))
-frames_put len r mac frames bytes false room is less sound are = sound
-frames_put len r mac frames bytes true false is less sound are = sound
-frames_put len r mac frames bytes true true is less sound are =
-    let long = frame_is (length bytes) is in
-    let frame : IsFrame bytes = record { long = long.0; short = long.1; are = are } in
+frames_put : (len : ℕ) (r : Registers) (mac : List ℕ) (inbox : Inbox) (bytes : List ℕ) (good room : Bool) → is_frame_len inbox.longest (length bytes) ≡ good → ltb (length inbox.frames) (most_waiting inbox.longest) ≡ room → AreFrames inbox → IsBytes bytes
+    → IsSoundKind len r (cond good (network_with mac inbox (cond room (inbox.frames ++ bytes ∷ []) inbox.frames)) (Network mac inbox))
+frames_put len r mac inbox bytes false room is less sound are = sound
+frames_put len r mac inbox bytes true false is less sound are = record { few = sound.few; are = sound.are }
+frames_put len r mac inbox bytes true true is less sound are =
+    let long = frame_is inbox.longest (length bytes) is in
+    let frame : IsFrame inbox.longest bytes = record { long = long.0; short = long.1; are = are } in
     record {
-      few = omega (arith, ltb-true (length frames) 64 less, length-append frames (bytes ∷ []));
-      are = All-append IsFrame frames (bytes ∷ []) sound.are (λ k d below. one_frame bytes d k below frame);
+      few = omega (arith, ltb-true (length inbox.frames) (most_waiting inbox.longest) less, length-append inbox.frames (bytes ∷ []));
+      are = All-append (IsFrame inbox.longest) inbox.frames (bytes ∷ []) sound.are (λ k d below. one_frame inbox.longest bytes d k below frame);
     }
 
 sound_put : (len : ℕ) (r : Registers) (kind : Kind) (bytes : List ℕ) → IsSoundKind len r kind → IsBytes bytes → IsSoundKind len r (kind_with_input kind bytes)
-sound_put len r (Network mac frames) bytes sound are = frames_put len r mac frames bytes (is_frame_len (length bytes)) (ltb (length frames) 64) refl refl sound are
+sound_put len r (Network mac inbox) bytes sound are = frames_put len r mac inbox bytes (is_frame_len inbox.longest (length bytes)) (ltb (length inbox.frames) (most_waiting inbox.longest)) refl refl sound are
 sound_put len r (Block block) bytes sound are = sound
 sound_put len r (Console size held) bytes sound are = record { columns = sound.columns; rows = sound.rows; text = bytes_put held bytes sound.text are }
 sound_put len r (Entropy pool) bytes sound are = bytes_put pool bytes sound are
@@ -216,7 +216,7 @@ no_host_bytes : AreHostBytes []
 no_host_bytes = record { few = omega arith; are = λ k. omega arith }
 
 sound_none : (len : ℕ) (r : Registers) (kind : Kind) → IsSoundKind len r kind → IsSoundKind len r (kind_without_input kind)
-sound_none len r (Network mac frames) sound = record { few = omega arith; are = λ k d below. absurd (omega (arith, below)) }
+sound_none len r (Network mac inbox) sound = record { few = omega arith; are = λ k d below. absurd (omega (arith, below)) }
 sound_none len r (Block block) sound = sound
 sound_none len r (Console size held) sound = record { columns = sound.columns; rows = sound.rows; text = no_host_bytes }
 sound_none len r (Entropy pool) sound = no_host_bytes
@@ -270,7 +270,7 @@ sound_resized len d old size held is columns rows sound =
 
 -- What only a kind has, beside the ring of a queue.
 beside_by : (len : ℕ) (r : Registers) (kind : Kind) (pick : ℕ) (queue : Queue) (p : Positions) → length r.queues ≡ queues_of (made_as kind) → queue_at r pick ≡ Some queue → IsSoundKind len r kind → SoundBeside len (state_of queue r.common.features r.ram_base p) r.common.features kind
-beside_by len r (Network mac frames) pick queue p count there sound = sound
+beside_by len r (Network mac inbox) pick queue p count there sound = sound
 beside_by len r (Block block) zero queue p count there sound =
     let are : AreRequestsOf r.ram_base len (is_packed_by r.common) queue (limits_of block r.common.features) block.requests = rw there at sound in
     record { few = are.few; sound = are.sound }
@@ -293,7 +293,7 @@ record IsReadyAt (r : Registers) (pick : ℕ) (features : ℕ) (size : ℕ) : Ty
 
 -- Back from what a kind has beside the ring of such a queue.
 back : (len : ℕ) (r : Registers) (kind : Kind) (pick features size : ℕ) (s : RingState) → length r.queues ≡ queues_of (made_as kind) → IsReadyAt r pick features size → s.is_packed ≡ is_packed features → s.size ≡ size → s.base ≡ r.ram_base → SoundBeside len s features kind → IsSoundKind len r kind
-back len r (Network mac frames) pick features size s count at layout long based sound = sound
+back len r (Network mac inbox) pick features size s count at layout long based sound = sound
 back len r (Block block) zero features size s count at layout long based sound =
     let are : AreRequestsOf r.ram_base len (is_packed_by r.common) at.queue (limits_of block r.common.features) block.requests =
     record { few = sound.few; sound = rw (at.accepted, at.size_is, ← layout, ← long, ← based) sound.sound; where_ready = any_where at.queue.is_ready block.requests at.ready } in
@@ -441,7 +441,7 @@ pub record HasSectors (d : DeviceState) (content : List Sector) : Type 0 where
   pub whole : AreWhole content
 
 pub outstanding : (len : ℕ) (q : RingState) (features : ℕ) (kind : Kind) → SoundBeside len q features kind → AreSoundBeside len q features kind
-outstanding len q features (Network mac frames) h = tt
+outstanding len q features (Network mac inbox) h = tt
 outstanding len q features (Block block) h = h.sound
 outstanding len q features (Console size held) h = tt
 outstanding len q features (Entropy pool) h = tt
@@ -459,7 +459,7 @@ sound_advance_on : {base : ℕ} (d : DeviceState) (kind : Kind) (ram : List ℕ)
 sound_advance_on d (Block block) ram content pick q o kind_is is are sound has =
     let look = advanced_is (length ram) d pick q sound is in
     sound_advanced (length ram) d block pick q _ kind_is look sound (advanced_goes_on d block ram content pick q (disk_does o) kind_is look are sound has)
-sound_advance_on d (Network mac frames) ram content pick q o kind_is is are sound has = sound
+sound_advance_on d (Network mac inbox) ram content pick q o kind_is is are sound has = sound
 sound_advance_on d (Console size held) ram content pick q o kind_is is are sound has = sound
 sound_advance_on d (Entropy pool) ram content pick q o kind_is is are sound has = sound
 

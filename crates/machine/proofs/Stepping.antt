@@ -111,7 +111,7 @@ advanced_sound len d block pick q sound is kind_is =
 -- A device that advances a request is a block device.
 pub kind_by : (kind : Kind) (k : ℕ) → k < length (requests_of kind) → (block : blocks.Block) × (kind ≡ Block block)
 kind_by (Block block) k below = (block, refl)
-kind_by (Network mac frames) k below = absurd (omega (arith, below))
+kind_by (Network mac inbox) k below = absurd (omega (arith, below))
 kind_by (Console size held) k below = absurd (omega (arith, below))
 kind_by (Entropy pool) k below = absurd (omega (arith, below))
 
@@ -128,7 +128,7 @@ has_queue d pick q len sound is = let look = advanced_is len d pick q sound is i
 
 -- A device without a disk has no requests.
 empty_handed : (kind : Kind) → IsSoundShape (made_as kind) → sector_count (made_as kind) ≡ 0 → length (requests_of kind) ≡ 0
-empty_handed (Network mac frames) limits none = refl
+empty_handed (Network mac inbox) limits none = refl
 empty_handed (Block block) limits none = absurd (omega (arith, limits.some, none))
 empty_handed (Console size held) limits none = refl
 empty_handed (Entropy pool) limits none = refl

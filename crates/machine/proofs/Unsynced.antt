@@ -80,13 +80,13 @@ record HasBlock (kind : Kind) (k : ℕ) : Type 0 where
 
 block_in : (kind : Kind) (k : ℕ) → kind_flushes kind k ≡ true → HasBlock kind k
 block_in (Block block) k h = record { block = block; is = refl; flush = flush_in block.requests k (slice_get block.requests k) refl h }
-block_in (Network mac frames) k h = cc
+block_in (Network mac inbox) k h = cc
 block_in (Console size held) k h = cc
 block_in (Entropy pool) k h = cc
 
 same_kind : (kind : Kind) (k : ℕ) → kind_flushes kind k ≡ false → kind_flush_failed kind k ≡ kind
 same_kind (Block block) k h = ap (λ (rs : List Request). Block (with_requests block rs)) (same_if block.requests k (slice_get block.requests k) h)
-same_kind (Network mac frames) k h = refl
+same_kind (Network mac inbox) k h = refl
 same_kind (Console size held) k h = refl
 same_kind (Entropy pool) k h = refl
 

@@ -63,7 +63,7 @@ may_put devices number None bytes is = tt
 may_put devices number (Some d) bytes is = may_put_by devices number d bytes (input_of d.kind bytes) is
 
 may_size_by : (devices : List DeviceState) (number : ℕ) (d : DeviceState) (kind : Kind) (size : ConsoleSize) → d.kind ≡ kind → slice_get devices number ≡ Some d → MayReplace devices (size_by number d kind size).effect.replaced
-may_size_by devices number d (Network mac frames) size of is = tt
+may_size_by devices number d (Network mac inbox) size of is = tt
 may_size_by devices number d (Block block) size of is = tt
 may_size_by devices number d (Console old held) size of is = (d, is, ap made_as (sym of))
 may_size_by devices number d (Entropy pool) size of is = tt
@@ -184,7 +184,7 @@ has_sectors m dev d there sound = disk_at m.devices m.disks dev d sound.disks so
 
 on_inside : {base : ℕ} (d : DeviceState) (kind : Kind) (ram : List ℕ) (content : List Sector) (pick : ℕ) (q : RingState) (o : Outcome) → d.kind ≡ kind → advanced_at d pick ≡ Some q → IsBytes ram → IsSoundDevice base (length ram) d → HasSectors d content → AreInsideRam (length ram) (advance_on d kind ram content pick q o).writes
 on_inside d (Block block) ram content pick q o kind_is is are sound has = (advanced_goes_on d block ram content pick q (disk_does o) kind_is (advanced_is (length ram) d pick q sound is) are sound has).inside
-on_inside d (Network mac frames) ram content pick q o kind_is is are sound has = tt
+on_inside d (Network mac inbox) ram content pick q o kind_is is are sound has = tt
 on_inside d (Console size held) ram content pick q o kind_is is are sound has = tt
 on_inside d (Entropy pool) ram content pick q o kind_is is are sound has = tt
 
@@ -219,7 +219,7 @@ no_writes_read ram addr len None disk_failed = refl
 no_writes_read ram addr len None no_memory = refl
 
 no_writes_size_by : (dev : ℕ) (d : DeviceState) (kind : Kind) (size : ConsoleSize) → (size_by dev d kind size).effect.writes ≡ []
-no_writes_size_by dev d (Network mac frames) size = refl
+no_writes_size_by dev d (Network mac inbox) size = refl
 no_writes_size_by dev d (Block block) size = refl
 no_writes_size_by dev d (Console old held) size = refl
 no_writes_size_by dev d (Entropy pool) size = refl
@@ -285,7 +285,7 @@ on_sets : {base : ℕ} (d : DeviceState) (kind : Kind) (ram : List ℕ) (content
 on_sets d (Block block) ram content pick q o kind_is is are sound has =
     let count : length content ≡ block.sectors = has.count ∙ ap (λ (k : Kind). sector_count (made_as k)) kind_is in
     rw count (advanced_goes_on d block ram content pick q (disk_does o) kind_is (advanced_is (length ram) d pick q sound is) are sound has).sets
-on_sets d (Network mac frames) ram content pick q o kind_is is are sound has = tt
+on_sets d (Network mac inbox) ram content pick q o kind_is is are sound has = tt
 on_sets d (Console size held) ram content pick q o kind_is is are sound has = tt
 on_sets d (Entropy pool) ram content pick q o kind_is is are sound has = tt
 
@@ -324,7 +324,7 @@ no_sectors_stored addr bytes (Some error) = refl
 no_sectors_stored addr bytes None = refl
 
 no_sectors_size_by : (dev : ℕ) (d : DeviceState) (kind : Kind) (size : ConsoleSize) → (size_by dev d kind size).effect.sectors ≡ []
-no_sectors_size_by dev d (Network mac frames) size = refl
+no_sectors_size_by dev d (Network mac inbox) size = refl
 no_sectors_size_by dev d (Block block) size = refl
 no_sectors_size_by dev d (Console old held) size = refl
 no_sectors_size_by dev d (Entropy pool) size = refl
@@ -379,7 +379,7 @@ set_sound len dev devices (Some d) offset width value there all small =
     sound_written len d offset width value small (rw (get_or_from_slice_get devices dev d d there) at (all dev d (slice_get_within devices dev d there)))
 
 size_sound_by : {base : ℕ} (len dev : ℕ) (d : DeviceState) (kind : Kind) (size : ConsoleSize) → d.kind ≡ kind → size.columns < 2 ^ 16 → size.rows < 2 ^ 16 → IsSoundDevice base len d → StaysSoundAt base len (size_by dev d kind size).effect.replaced
-size_sound_by len dev d (Network mac frames) size is columns rows sound = tt
+size_sound_by len dev d (Network mac inbox) size is columns rows sound = tt
 size_sound_by len dev d (Block block) size is columns rows sound = tt
 size_sound_by len dev d (Console old held) size is columns rows sound = sound_resized len d old size held is columns rows sound
 size_sound_by len dev d (Entropy pool) size is columns rows sound = tt

@@ -27,6 +27,7 @@ use Rattle.blk.specs.declared.request.Request.{Request}
 use Rattle.blk.specs.declared.request.TheConstants.{HEADER_SIZE}
 use Rattle.console.specs.Receive as console
 use Rattle.console.specs.Transmit.{text_form}
+use Rattle.net.specs.Inbox.{Inbox}
 use Rattle.net.specs.Receive as net
 use Rattle.net.specs.Transmit.{frame_form}
 use Rattle.machine.specs.Outcome.{Outcome, fine, disk_failed, no_memory, disk_does}
@@ -41,8 +42,8 @@ use Rattle.machine.specs.declared.reply.Reply.TheVariants as replies
 -- has input; at queue 1 both always have (VIRTIO 1.2, 5.1.6 and 5.3.6). A block device has room for one more request (5.2.6),
 -- and an entropy device has bytes in its pool (5.4.6).
 abbrev pub has_work : Kind → ℕ → Bool
-has_work (Network mac frames) zero = not (length frames == 0)
-has_work (Network mac frames) (suc number) = true
+has_work (Network mac inbox) zero = not (length inbox.frames == 0)
+has_work (Network mac inbox) (suc number) = true
 has_work (Console size held) zero = not (length held == 0)
 has_work (Console size held) (suc number) = true
 has_work (Block block) number = has_room block
@@ -64,8 +65,8 @@ looked_at d pick = looked_by d pick (queue_at d.registers pick) (slice_get d.pos
 -- The chains that a device can use in its queue of this number. A network device and a console fill those of queue 0, and send
 -- the messages of those of queue 1: frames, and text. A block device takes requests, and an entropy device fills its chains.
 abbrev pub wanted_of : Kind → ℕ → Wanted
-wanted_of (Network mac frames) zero = wanted.Room
-wanted_of (Network mac frames) (suc number) = wanted.Message frame_form
+wanted_of (Network mac inbox) zero = wanted.Room
+wanted_of (Network mac inbox) (suc number) = wanted.Message (frame_form inbox.longest)
 wanted_of (Console size held) zero = wanted.Room
 wanted_of (Console size held) (suc number) = wanted.Message text_form
 wanted_of (Block block) number = wanted.Request HEADER_SIZE
@@ -100,10 +101,14 @@ advanced_by d pick q p = None
 abbrev pub advanced_at : DeviceState → ℕ → Option RingState
 advanced_at d pick = advanced_by d pick (queue_at d.registers 0) (slice_get d.positions 0)
 
+-- A network device with these frames in its inbox.
+abbrev pub network_with : List ℕ → Inbox → List (List ℕ) → Kind
+network_with mac inbox frames = Network mac (record inbox { frames = frames })
+
 -- Serving the queue of this number, given the features that the driver accepted and what the device sees there.
 abbrev pub serve : ℕ → Kind → ℕ → List ℕ → RingState → Next → Service Kind
-serve features (Network mac frames) zero ram q seen = with_state (Network mac) (net.receive_step ram q frames seen)
-serve features (Network mac frames) (suc number) ram q seen = transmit_step frame_form ram q (Network mac frames) seen
+serve features (Network mac inbox) zero ram q seen = with_state (network_with mac inbox) (net.receive_step ram q inbox.frames seen)
+serve features (Network mac inbox) (suc number) ram q seen = transmit_step (frame_form inbox.longest) ram q (Network mac inbox) seen
 serve features (Console size held) zero ram q seen = with_state (Console size) (console.receive_step ram q held seen)
 serve features (Console size held) (suc number) ram q seen = transmit_step text_form ram q (Console size held) seen
 serve features (Block block) number ram q seen = with_state Block (take_step features ram q block seen)

@@ -1,6 +1,7 @@
 -- How large a machine may be, as its host says.
 use Rattle.std.specs.Prelude.{◌≤◌, ℕ, List, map, All}
 use Rattle.guestmem.specs.declared.limits.TheConstants.{PAGES_GREATEST, PAGES_MAX}
+use Rattle.net.specs.declared.limits.TheConstants.{FRAME_GREATEST, FRAME_MAX}
 use Rattle.blk.specs.declared.shape.TheConstants.{SECTORS_GREATEST, SECTORS_MAX}
 use Rattle.machine.specs.EffectLaws.{IsSameShape}
 use Rattle.machine.specs.Layout.{pages_of}
@@ -9,19 +10,20 @@ use Rattle.machine.specs.Sound.{IsSound}
 use Rattle.machine.specs.State.{MachineState}
 use Rattle.machine.specs.declared.limits.Limits.{Limits}
 use Rattle.machine.specs.declared.shape.Shape.{Shape}
-use Rattle.machine.specs.declared.shape.Shape.TheVariants.{Block}
+use Rattle.machine.specs.declared.shape.Shape.TheVariants.{Block, LongNet}
 
 -- The limits of a host that asks for no more.
 abbrev pub usual : Limits
-usual = record { pages = PAGES_MAX; sectors = SECTORS_MAX }
+usual = record { pages = PAGES_MAX; sectors = SECTORS_MAX; frame = FRAME_MAX }
 
 -- All that a machine and its stream can have.
 abbrev pub greatest : Limits
-greatest = record { pages = PAGES_GREATEST; sectors = SECTORS_GREATEST }
+greatest = record { pages = PAGES_GREATEST; sectors = SECTORS_GREATEST; frame = FRAME_GREATEST }
 
 -- The limits allow a device of this shape.
 abbrev pub IsShapeWithin : Limits → Shape → Type 0
 IsShapeWithin limits (Block sectors read_only id) = sectors ≤ limits.sectors
+IsShapeWithin limits (LongNet mac longest) = longest ≤ limits.frame
 IsShapeWithin limits _ = Unit {0}
 
 -- The limits allow a machine of so many pages and devices of these shapes.

@@ -1,7 +1,10 @@
 -- What the kind of a device determines, and what it was made as (its shape).
-use Rattle.std.specs.Prelude.{ℕ, ◌+◌, ◌^◌, ◌==◌, ◌||◌, nat_lt, Bool, false, List, [], ◌∷◌, Option, Some, None, replicate}
+use Rattle.std.specs.Prelude.{ℕ, ◌+◌, ◌^◌, ◌==◌, ◌||◌, nat_lt, not, if◌then◌else◌, Bool, false, List, [], ◌∷◌, Option, Some, None, replicate}
 use Rattle.blk.specs.Shape as blocks
 use Rattle.blk.specs.Block.{first_block}
+use Rattle.net.specs.Inbox.{no_frames}
+use Rattle.net.specs.Shape as nets
+use Rattle.net.specs.declared.limits.TheConstants.{FRAME_MAX}
 use Rattle.console.specs.Size as sizes
 use Rattle.console.specs.declared.size.ConsoleSize.{ConsoleSize}
 use Rattle.mmio.specs.State.{first_registers}
@@ -12,13 +15,17 @@ use Rattle.machine.specs.declared.kind.Kind.{Kind}
 use Rattle.machine.specs.declared.kind.Kind.TheVariants as kinds
 use Rattle.machine.specs.declared.limits.Limits.{Limits}
 use Rattle.machine.specs.declared.shape.Shape.{Shape}
-use Rattle.machine.specs.declared.shape.Shape.TheVariants.{Net, Block, Console, Entropy}
+use Rattle.machine.specs.declared.shape.Shape.TheVariants.{Net, LongNet, Block, Console, Entropy}
 use Rattle.machine.specs.State.{DeviceState}
 use Rattle.machine.specs.QueuePositions.{first_positions}
 
+-- What a network device was made as, whose longest frame has so many bytes: for long frames, unless these are the usual 1,514.
+abbrev pub net_as : List ℕ → ℕ → Shape
+net_as mac longest = if longest == FRAME_MAX then Net mac else LongNet mac longest
+
 -- What a device of this kind was made as.
 abbrev pub made_as : Kind → Shape
-made_as (kinds.Network mac frames) = Net mac
+made_as (kinds.Network mac inbox) = net_as mac inbox.longest
 made_as (kinds.Block block) = Block block.sectors block.read_only block.id
 made_as (kinds.Console size held) = Console
 made_as (kinds.Entropy pool) = Entropy
@@ -26,6 +33,7 @@ made_as (kinds.Entropy pool) = Entropy
 -- The device ID (VIRTIO 1.2, 5).
 abbrev pub device_id_of : Shape → ℕ
 device_id_of (Net mac) = 1
+device_id_of (LongNet mac longest) = 1
 device_id_of (Block sectors read_only id) = 2
 device_id_of Console = 3
 device_id_of Entropy = 4
@@ -35,10 +43,11 @@ device_id_of Entropy = 4
 abbrev pub common_features : ℕ
 common_features = 2 ^ 28 + 2 ^ 29 + 2 ^ 32 + 2 ^ 34
 
--- The feature bits that the device offers: in addition to those that every device offers, a network device offers MAC 5 (VIRTIO
--- 1.2, 5.1.3), a console SIZE 0 and EMERG_WRITE 2 (5.3.3), and a block device its own (5.2.3).
+-- The feature bits that the device offers: in addition to those that every device offers, a network device offers MAC 5, and MTU 3
+-- where it is for long frames (VIRTIO 1.2, 5.1.3), a console SIZE 0 and EMERG_WRITE 2 (5.3.3), and a block device its own (5.2.3).
 abbrev pub offered_of : Shape → ℕ
 offered_of (Net mac) = common_features + 2 ^ 5
+offered_of (LongNet mac longest) = common_features + (2 ^ 3 + 2 ^ 5)
 offered_of (Block sectors read_only id) = common_features + blocks.features_of read_only
 offered_of Console = common_features + (2 ^ 0 + 2 ^ 2)
 offered_of Entropy = common_features
@@ -46,14 +55,15 @@ offered_of Entropy = common_features
 -- The number of its queues (VIRTIO 1.2, 5.1.2, 5.2.2, 5.3.2 and 5.4.2).
 abbrev pub queues_of : Shape → ℕ
 queues_of (Net mac) = 2
+queues_of (LongNet mac longest) = 2
 queues_of (Block sectors read_only id) = 1
 queues_of Console = 2
 queues_of Entropy = 1
 
--- The configuration space: of a network device the six bytes of its MAC (VIRTIO 1.2, 5.1.4), of a block device its own (5.2.4), of a
--- console that of its size (5.3.4); an entropy device has none (5.4.4).
+-- The configuration space: of a network device its MAC, and its MTU where it is for long frames (VIRTIO 1.2, 5.1.4), of a block device
+-- its own (5.2.4), of a console that of its size (5.3.4); an entropy device has none (5.4.4).
 abbrev pub configuration_of : Kind → List ℕ
-configuration_of (kinds.Network mac frames) = mac
+configuration_of (kinds.Network mac inbox) = nets.configuration_of mac inbox.longest
 configuration_of (kinds.Block block) = blocks.configuration_of block.sectors
 configuration_of (kinds.Console size held) = sizes.configuration_of size
 configuration_of (kinds.Entropy pool) = []
@@ -80,9 +90,11 @@ abbrev pub disk_sizes : List Shape → List ℕ
 disk_sizes [] = []
 disk_sizes (shape ∷ shapes) = with_size (disk_size_of shape) (disk_sizes shapes)
 
--- Whether a shape is beyond its limits: a block device has one to as many sectors as they allow; other devices have no such limit.
+-- Whether a shape is beyond its limits: a block device has one to as many sectors as they allow, and the longest frame of a network
+-- device for long ones has more than 1,514 bytes, and no more than they allow; other devices have no such limit.
 abbrev pub is_beyond : Limits → Shape → Bool
 is_beyond limits (Block sectors read_only id) = sectors == 0 || nat_lt limits.sectors sectors
+is_beyond limits (LongNet mac longest) = not (nat_lt FRAME_MAX longest) || nat_lt limits.frame longest
 is_beyond limits _ = false
 
 -- A new console has 80 columns and 25 rows.
@@ -91,7 +103,8 @@ first_size = record { columns = 80; rows = 25 }
 
 -- A new device that is made as this.
 abbrev pub first_kind : Shape → Kind
-first_kind (Net mac) = kinds.Network mac []
+first_kind (Net mac) = kinds.Network mac (no_frames FRAME_MAX)
+first_kind (LongNet mac longest) = kinds.Network mac (no_frames longest)
 first_kind (Block sectors read_only id) = kinds.Block (first_block sectors read_only id)
 first_kind Console = kinds.Console first_size []
 first_kind Entropy = kinds.Entropy []

@@ -5,7 +5,7 @@ use Rattle.guestmem.specs.declared.limits.TheConstants.{PAGE_SIZE, PAGES_GREATES
 use Rattle.mmio.specs.Sound.{IsSoundRegisters}
 use Rattle.console.specs.Shape.{AreHostBytes, IsSoundConsole}
 use Rattle.net.specs.Inbox.{AreFrames}
-use Rattle.net.specs.Shape.{IsMac}
+use Rattle.net.specs.Shape.{IsLongNet, IsMac}
 use Rattle.blk.specs.Sectors.{AreWhole}
 use Rattle.blk.specs.Block.{limits_of}
 use Rattle.blk.specs.Shape.{IsBlockShape}
@@ -20,11 +20,12 @@ use Rattle.machine.specs.declared.machine.TheConstants.{DEVICES_MAX}
 use Rattle.machine.specs.declared.kind.Kind.{Kind}
 use Rattle.machine.specs.declared.kind.Kind.TheVariants as kinds
 use Rattle.machine.specs.declared.shape.Shape.{Shape}
-use Rattle.machine.specs.declared.shape.Shape.TheVariants.{Net, Block}
+use Rattle.machine.specs.declared.shape.Shape.TheVariants.{Net, LongNet, Block}
 
 -- What a device may be made as.
 abbrev pub IsSoundShape : Shape → Type 0
 IsSoundShape (Net mac) = IsMac mac
+IsSoundShape (LongNet mac longest) = IsLongNet mac longest
 IsSoundShape (Block sectors read_only id) = IsBlockShape sectors id
 IsSoundShape _ = Unit {0}
 
@@ -34,7 +35,7 @@ AreRequests bytes r block = IsSomeAnd (queue_at r 0) (λ q. AreRequestsOf r.ram_
 
 -- What only its kind has is such as a device with these registers can have, in a machine with `bytes` bytes of RAM.
 abbrev pub IsSoundKind : ℕ → Registers → Kind → Type 0
-IsSoundKind bytes r (kinds.Network mac frames) = AreFrames frames
+IsSoundKind bytes r (kinds.Network mac inbox) = AreFrames inbox
 IsSoundKind bytes r (kinds.Block block) = AreRequests bytes r block
 IsSoundKind bytes r (kinds.Console size held) = IsSoundConsole size held
 IsSoundKind bytes r (kinds.Entropy pool) = AreHostBytes pool

@@ -18,10 +18,10 @@ use Rattle.console.specs.Emergency.{emergency_byte}
 use Rattle.console.specs.Size.{resized}
 use Rattle.console.specs.declared.host_bytes.TheConstants.{HOST_BYTES_MAX}
 use Rattle.console.specs.declared.size.ConsoleSize.{ConsoleSize}
-use Rattle.net.specs.Inbox.{is_frame_len, kept_of, frames_with}
+use Rattle.net.specs.Inbox.{frames_with, is_frame_len, kept_of, no_frames}
 use Rattle.blk.specs.Sectors.{Sector}
 use Rattle.blk.specs.Block.{dropped_unless}
-use Rattle.machine.specs.DeviceStep.{device_step, looked_at, wanted_of, MayLook}
+use Rattle.machine.specs.DeviceStep.{device_step, looked_at, network_with, wanted_of, MayLook}
 use Rattle.machine.specs.Effect.{Effect, no_effect, sets_on, applied, items_of}
 use Rattle.machine.specs.Outcome.{Outcome, fine, disk_failed, no_memory, outcome_of}
 use Rattle.machine.specs.QueuePositions.{restarted_positions}
@@ -122,13 +122,13 @@ accepted_in pool bytes = min (length bytes) (HOST_BYTES_MAX - length pool)
 
 -- The count of bytes that are kept, or why the input is refused.
 abbrev pub input_of : Kind → List ℕ → Result ℕ Refusal
-input_of (Network mac frames) bytes = if is_frame_len (length bytes) then Ok (kept_of frames bytes) else Err BadFrame
+input_of (Network mac inbox) bytes = if is_frame_len inbox.longest (length bytes) then Ok (kept_of inbox bytes) else Err BadFrame
 input_of (Block block) bytes = Err WrongKind
 input_of (Console size held) bytes = Ok (accepted_in held bytes)
 input_of (Entropy pool) bytes = Ok (accepted_in pool bytes)
 
 abbrev pub kind_with_input : Kind → List ℕ → Kind
-kind_with_input (Network mac frames) bytes = if is_frame_len (length bytes) then Network mac (frames_with frames bytes) else Network mac frames
+kind_with_input (Network mac inbox) bytes = if is_frame_len inbox.longest (length bytes) then network_with mac inbox (frames_with inbox bytes) else Network mac inbox
 kind_with_input (Block block) bytes = Block block
 kind_with_input (Console size held) bytes = Console size (held ++ take (accepted_in held bytes) bytes)
 kind_with_input (Entropy pool) bytes = Entropy (pool ++ take (accepted_in pool bytes) bytes)
@@ -151,7 +151,7 @@ drop_of (Block block) = Err WrongKind
 drop_of kind = Ok tt
 
 abbrev pub kind_without_input : Kind → Kind
-kind_without_input (Network mac frames) = Network mac []
+kind_without_input (Network mac inbox) = Network mac (no_frames inbox.longest)
 kind_without_input (Block block) = Block block
 kind_without_input (Console size held) = Console size []
 kind_without_input (Entropy pool) = Entropy []

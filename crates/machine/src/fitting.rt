@@ -38,6 +38,6 @@ pub(crate) fn disk_size(shape: Shape) -> Option<u64>
 {
     match shape {
         Shape::Block { sectors, .. } => Some(sectors),
-        Shape::Net { .. } | Shape::Console | Shape::Entropy => None,
+        Shape::Net { .. } | Shape::LongNet { .. } | Shape::Console | Shape::Entropy => None,
     }
 }

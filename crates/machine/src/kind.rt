@@ -11,7 +11,7 @@ ghost use Rattle.chains.specs.Frame.{MayLook, HasLooked};
 ghost use Rattle.chains.specs.Served.{HasRun, scene};
 ghost use Rattle.blk.specs.Durable.{is_flush_owed};
 ghost use Rattle.machine.specs.DeviceStep.{has_work, serve, wanted_of, requests_of};
-ghost use Rattle.machine.specs.Shapes.{configuration_of, first_kind, made_as};
+ghost use Rattle.machine.specs.Shapes.{configuration_of, first_kind, made_as, net_as};
 ghost use Rattle.machine.specs.Sound.{AreSoundBeside};
 ghost use Rattle.machine.specs.Step.{IsResized, drop_of, input_of, dropped_unready, kind_with_input, kind_without_input, written_out};
 ghost use Rattle.machine.specs.Unsynced.{kind_flush_failed, kind_flushes, kind_owed};
@@ -24,7 +24,7 @@ use chains::{Ring, Served, Site, Unserved};
 use console::{ConsoleSize, HostBytes, emergency_byte, receive};
 use guestmem::{NoMemory, Ram, TouchLog};
 use mmio::{Queue, Regs};
-use net::{Inbox, is_frame_len};
+use net::{FRAME_MAX, Inbox, is_frame_len};
 use std::alloc::Global;
 
 /// What a device is: what it was made as, and the state that only its kind has.
@@ -35,7 +35,7 @@ pub enum Kind {
         /// Its MAC.
         mac: [u8; 6],
 
-        /// The frames that the host has put in and the guest has not yet taken.
+        /// The frames that the host has put in and the guest has not yet taken, and how long one may be: what the device was made for.
         inbox: Inbox,
     },
 
@@ -75,7 +75,11 @@ impl Kind {
         match shape {
             Shape::Net { mac } => Ok(Kind::Network {
                 mac,
-                inbox: Inbox::new(alloc)?,
+                inbox: Inbox::new(alloc, FRAME_MAX)?,
+            }),
+            Shape::LongNet { mac, longest } => Ok(Kind::Network {
+                mac,
+                inbox: Inbox::new(alloc, longest)?,
             }),
             Shape::Block {
                 sectors,
@@ -95,7 +99,7 @@ impl Kind {
         ensures { result ≡ made_as self.now }
     {
         match self {
-            Kind::Network { mac, .. } => Shape::Net { mac: *mac },
+            Kind::Network { mac, inbox } => net_shape(*mac, inbox.longest()),
             Kind::Block(block) => Shape::Block {
                 sectors: block.sectors,
                 read_only: block.read_only,
@@ -111,7 +115,13 @@ impl Kind {
         ensures { result ≡ register_read registers.now offset width (configuration_of self.now) }
     {
         match self {
-            Kind::Network { mac, .. } => registers.read(offset, width, mac.as_slice()),
+            Kind::Network { mac, inbox } => {
+                let longest = inbox.longest();
+                if longest == FRAME_MAX {
+                    return registers.read(offset, width, mac.as_slice());
+                }
+                registers.read(offset, width, &net::long_configuration(*mac, longest))
+            }
             Kind::Block(block) => {
                 registers.read(offset, width, &blk::configuration(block.sectors))
             }
@@ -161,7 +171,7 @@ impl Kind {
     {
         match self {
             Kind::Network { inbox, .. } => {
-                if !is_frame_len(bytes.len()) {
+                if !is_frame_len(inbox.longest(), bytes.len()) {
                     return Err(Refusal::BadFrame);
                 }
                 Ok(inbox.push(bytes) as u32)
@@ -229,7 +239,7 @@ impl Kind {
         match self {
             Kind::Network { inbox, .. } => {
                 if visit.number > 0 {
-                    return net::transmit(visit.site, ring, sent, ram, log);
+                    return net::transmit(visit.site, ring, inbox.longest(), sent, ram, log);
                 }
                 net::receive(visit.site, ring, inbox, ram, log)
             }
@@ -265,4 +275,14 @@ impl Kind {
             Kind::Network { .. } | Kind::Console { .. } | Kind::Entropy(_) => false,
         }
     }
+}
+
+/// What a network device was made as: for long frames, unless its longest has 1,514 bytes.
+fn net_shape(mac: [u8; 6], longest: u16) -> Shape
+    ensures { result ≡ net_as mac longest }
+{
+    if longest == FRAME_MAX {
+        return Shape::Net { mac };
+    }
+    Shape::LongNet { mac, longest }
 }

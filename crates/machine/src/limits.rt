@@ -1,12 +1,13 @@
 //! How large a machine may be, as its host says.
 //!
 //! Limits are tested where a machine is made, and where the header of a stream is read. After that nothing asks for them: no call
-//! changes how many pages a machine has, or how many sectors a disk (`laws::limits_stay`).
+//! changes how many pages a machine has, how many sectors a disk, or how long frames may be (`laws::limits_stay`).
 
 ghost use Rattle.std.specs.Prelude.{◌≡◌, ◌↔◌, IsTrue};
 ghost use Rattle.machine.specs.Limits.{IsShapeWithin, greatest, usual};
 
 use crate::shape::Shape;
+use net::{FRAME_GREATEST, FRAME_MAX};
 
 /// The most that a machine may have.
 #[derive(Clone, Copy, Debug, PartialEq, Eq)]
@@ -16,26 +17,33 @@ pub struct Limits {
 
     /// Sectors of each disk, of 512 bytes each.
     pub sectors: u32,
+
+    /// Bytes of a frame of a network device for long ones.
+    pub frame: u16,
 }
 
 impl Limits {
-    /// The limits of a host that asks for no more: 16,384 pages (64 MiB), and 2,097,152 sectors of each disk (1 GiB).
+    /// The limits of a host that asks for no more: 16,384 pages (64 MiB), 2,097,152 sectors of each disk (1 GiB), and no device for long
+    /// frames.
     pub fn usual() -> Limits
         ensures { result ≡ usual }
     {
         Limits {
             pages: 16_384,
             sectors: 2_097_152,
+            frame: FRAME_MAX,
         }
     }
 
-    /// All that a machine and its stream can have: 4,294,967,295 pages (16 TiB), and as many sectors of each disk (2 TiB).
+    /// All that a machine and its stream can have: 4,294,967,295 pages (16 TiB), as many sectors of each disk (2 TiB), and 65,535 bytes of a
+    /// frame.
     pub fn greatest() -> Limits
         ensures { result ≡ greatest }
     {
         Limits {
             pages: 4_294_967_295,
             sectors: 4_294_967_295,
+            frame: FRAME_GREATEST,
         }
     }
 
@@ -45,6 +53,7 @@ impl Limits {
     {
         match shape {
             Shape::Block { sectors, .. } => sectors <= self.sectors as u64,
+            Shape::LongNet { longest, .. } => longest <= self.frame,
             Shape::Net { .. } | Shape::Console | Shape::Entropy => true,
         }
     }

@@ -14,6 +14,15 @@ pub enum Shape {
         mac: [u8; 6],
     },
 
+    /// A network device for frames longer than 1,514 bytes (VIRTIO 1.2, 5.1).
+    LongNet {
+        /// Its MAC.
+        mac: [u8; 6],
+
+        /// How many bytes its longest frame may have: 1,515 to as many as the limits of the machine allow.
+        longest: u16,
+    },
+
     /// A block device (VIRTIO 1.2, 5.2).
     Block {
         /// How many sectors of 512 bytes its disk has: one to as many as the limits of the machine allow.
@@ -40,7 +49,7 @@ impl Shape {
     {
         match self {
             Shape::Block { sectors, .. } => sectors,
-            Shape::Net { .. } | Shape::Console | Shape::Entropy => 0,
+            Shape::Net { .. } | Shape::LongNet { .. } | Shape::Console | Shape::Entropy => 0,
         }
     }
 }

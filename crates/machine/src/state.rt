@@ -419,7 +419,7 @@ fn device_id(shape: Shape) -> u32
     ensures { result ≡ device_id_of shape }
 {
     match shape {
-        Shape::Net { .. } => net::DEVICE_ID,
+        Shape::Net { .. } | Shape::LongNet { .. } => net::DEVICE_ID,
         Shape::Block { .. } => blk::DEVICE_ID,
         Shape::Console => console::DEVICE_ID,
         Shape::Entropy => entropy::DEVICE_ID,
@@ -433,6 +433,7 @@ pub fn offered(shape: Shape) -> u64
     match shape {
         Shape::Block { read_only, .. } => COMMON_FEATURES | blk::features(read_only),
         Shape::Net { .. } => COMMON_FEATURES | net::FEATURES,
+        Shape::LongNet { .. } => COMMON_FEATURES | net::LONG_FEATURES,
         Shape::Console => COMMON_FEATURES | console::FEATURES,
         Shape::Entropy => COMMON_FEATURES,
     }
@@ -442,7 +443,7 @@ fn queue_count(shape: Shape) -> u8
     ensures { result ≡ queues_of shape }
 {
     match shape {
-        Shape::Net { .. } => net::QUEUE_COUNT,
+        Shape::Net { .. } | Shape::LongNet { .. } => net::QUEUE_COUNT,
         Shape::Block { .. } => blk::QUEUE_COUNT,
         Shape::Console => console::QUEUE_COUNT,
         Shape::Entropy => entropy::QUEUE_COUNT,

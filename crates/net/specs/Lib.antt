@@ -1,4 +1,5 @@
 pub mod Inbox
+pub mod Kept
 pub mod Header
 pub mod Receive
 pub mod Transmit

@@ -4,67 +4,75 @@ ghost use Rattle.std.specs.Prelude.{◌≡◌};
 ghost use Rattle.net.specs.Inbox.{is_frame_len};
 
 use crate::header::{HEADER, HEADER_SIZE};
-use crate::limits::{FRAME_MAX, FRAME_MIN};
+use crate::limits::FRAME_MIN;
+use guestmem::NoMemory;
+use std::alloc::Global;
 use std::marker::Model;
 
-/// Room for a header and the longest frame.
-const ROOM: usize = HEADER_SIZE + FRAME_MAX;
-
-/// A frame, after the header that the guest gets with it: so both are one slice.
+/// A frame, after the header that the guest gets with it: so both are one slice. Its room is made with it, and the header is written
+/// once.
 #[derive(Drop)]
 pub(crate) struct Frame {
-    room: [u8; ROOM],
-    len: usize,
+    room: Vec<u8>,
 }
 
 impl Model for Frame {
-    ghost use Rattle.std.specs.Prelude.{◌≡◌, ℕ, List, ◌≤◌, take, drop};
+    ghost use Rattle.std.specs.Prelude.{◌≡◌, ◌-◌, ◌≤◌, ◌++◌, drop};
+    ghost use Rattle.std.specs.Vec.{vec_capacity};
     ghost use Rattle.net.specs.Header.{header};
+    ghost use Rattle.net.specs.Kept.{Kept};
     ghost use Rattle.net.specs.declared.header.TheConstants.{HEADER_SIZE};
-    ghost use Rattle.net.specs.declared.limits.TheConstants.{FRAME_MAX};
 
-    ghost Value = { List ℕ };
+    ghost Value = { Kept };
 
-    ghost view = { λ f. take f.len (drop HEADER_SIZE f.room) };
+    ghost view = { λ f. record { bytes = drop HEADER_SIZE f.room.items; room = vec_capacity f.room - HEADER_SIZE } };
 
-    ghost invariant = { λ f. (f.len ≤ FRAME_MAX) × (take HEADER_SIZE f.room ≡ header) };
+    ghost invariant = { λ f. (HEADER_SIZE ≤ vec_capacity f.room) × (f.room.items ≡ header ++ drop HEADER_SIZE f.room.items) };
 }
 
 impl Frame {
-    ghost use Rattle.std.specs.Prelude.{◌≡◌, ◌≤◌, ◌++◌, length};
+    ghost use Rattle.std.specs.Prelude.{◌≡◌, ◌≤◌, ◌++◌, IfOk, length};
     ghost use Rattle.net.specs.Header.{header};
+    ghost use Rattle.net.specs.Kept.{HasRoom};
 
-    /// A frame of these bytes.
-    pub(crate) fn new(bytes: &[u8]) -> Frame
-        requires { length bytes.now ≤ FRAME_MAX }
-        ensures { result ≡ bytes.now }
+    /// A frame of no bytes, with room for one of `longest`. Its only error is out of memory.
+    pub(crate) fn new(alloc: Global, longest: u16) -> Result<Frame, NoMemory>
+        ensures { IfOk result (λ frame. HasRoom longest frame) }
     {
-        let mut room = [0; ROOM];
-        let (front, back) = room.split_at_mut(HEADER_SIZE);
-        front.copy_from_slice(&HEADER);
-        let len = bytes.len();
-        back[..len].copy_from_slice(bytes);
-        Frame { room, len }
+        let mut room = Vec::with_capacity(alloc, HEADER_SIZE + longest as usize)?;
+        room.extend_from_slice(&HEADER).unwrap();
+        Ok(Frame { room })
+    }
+
+    /// Becomes a frame of these bytes. It takes no memory.
+    pub(crate) fn fill(&mut self, bytes: &[u8])
+        requires { length bytes.now ≤ self.old.room }
+        ensures bytes { self.new.bytes ≡ bytes.now }
+        ensures room { self.old.room ≤ self.new.room }
+    {
+        self.room.truncate(HEADER_SIZE);
+        self.room.extend_from_slice(bytes).unwrap();
     }
 
     /// The bytes.
     pub(crate) fn as_slice(&self) -> &[u8]
-        ensures { result.now ≡ self.now }
+        ensures { result.now ≡ self.now.bytes }
     {
-        &self.room[HEADER_SIZE..HEADER_SIZE + self.len]
+        let (_, bytes) = self.room.as_slice().split_at(HEADER_SIZE);
+        bytes
     }
 
     /// The header and the bytes, as the guest gets them.
     pub(crate) fn with_header(&self) -> &[u8]
-        ensures { result.now ≡ header ++ self.now }
+        ensures { result.now ≡ header ++ self.now.bytes }
     {
-        &self.room[..HEADER_SIZE + self.len]
+        self.room.as_slice()
     }
 }
 
-/// Whether a frame can have `len` bytes.
-pub fn is_frame_len(len: usize) -> bool
-    ensures { result ≡ is_frame_len len }
+/// Whether a frame of a device can have `len` bytes, where its longest has `longest`.
+pub fn is_frame_len(longest: u16, len: usize) -> bool
+    ensures { result ≡ is_frame_len longest len }
 {
-    len >= FRAME_MIN && len <= FRAME_MAX
+    len >= FRAME_MIN && len <= longest as usize
 }

@@ -22,8 +22,9 @@ pub fn receive<R: Ring, L: TouchLog>(
 ) -> Result<Served, Unserved>
     requires ready { MayLook L.may ram.old (R.state ring.old) (R.decoder ring.old) log.old }
     requires base { site.base ≡ (R.state ring.old).base }
-    requires waiting { 0 < length inbox.old }
-    ensures served { (sent : List ℕ) → HasRun L.after (scene ram.old log.old (R.state ring.old) inbox.old) (scene ram.new log.new (R.state ring.new) inbox.new) Room receive_step result sent }
+    requires waiting { 0 < length inbox.old.frames }
+    ensures served { (sent : List ℕ) → HasRun L.after (scene ram.old log.old (R.state ring.old) inbox.old.frames) (scene ram.new log.new (R.state ring.new) inbox.new.frames) Room receive_step result sent }
+    ensures longest { inbox.new.longest ≡ inbox.old.longest }
     ensures after { HasLooked L.may ram.old ram.new (R.decoder ring.new) log.new }
 {
     let mut chain = Chain::new(site.alloc);

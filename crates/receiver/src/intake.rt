@@ -31,8 +31,8 @@ use machine::{DeviceState, Disk, SECTOR_SIZE, Shape};
 use sha2::{Digest, Sha256};
 use std::alloc::Global;
 use wire::{
-    BODY_MAX, COMMIT_TAG, DEVICE_TAG, DecodeError, FoundHead, PAGE_TAG, ROUND_END_TAG, RecordHead,
-    SECTOR_TAG, VERSION, ZERO_PAGE_TAG, decode_device_at, has_record, read_head,
+    BODY_MAX, COMMIT_TAG, DEVICE_TAG, DecodeError, FIRST_VERSION, FoundHead, PAGE_TAG,
+    ROUND_END_TAG, RecordHead, SECTOR_TAG, ZERO_PAGE_TAG, decode_device_at, has_record, read_head,
 };
 
 /// How many bytes the digest has.
@@ -80,7 +80,7 @@ fn may_stand(version: u32, count: usize, devices: usize, tag: u8) -> bool
         PAGE_TAG | SECTOR_TAG | ROUND_END_TAG => devices == 0,
         DEVICE_TAG => devices < count,
         COMMIT_TAG => true,
-        ZERO_PAGE_TAG => version == VERSION && devices == 0,
+        ZERO_PAGE_TAG => version != FIRST_VERSION && devices == 0,
         _ => false,
     }
 }

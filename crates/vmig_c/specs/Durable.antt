@@ -72,7 +72,7 @@ FailsKept k dev pick status next =
 -- Why no disk is lost: there is no such device, it has no disk, or there is no machine whose guest runs.
 abbrev pub kind_refusal : Kind → Option ℕ
 kind_refusal (Block block) = None
-kind_refusal (Network mac frames) = Some (code_of WrongKind)
+kind_refusal (Network mac inbox) = Some (code_of WrongKind)
 kind_refusal (Console size held) = Some (code_of WrongKind)
 kind_refusal (Entropy pool) = Some (code_of WrongKind)
 

@@ -13,7 +13,7 @@ use Rattle.vmig_c.specs.Awaited.{nothing_fed}
 use Rattle.vmig_c.specs.Kept.{IsNew, KeptSeen, State, Arriving, places_for}
 use Rattle.c_machine.specs.Expected.{IsUntaken, arrival_refusal_of, has_images, has_ram}
 use Rattle.vmig_c.specs.Landing.{IsAwaitedAt}
-use Rattle.c_machine.specs.Made.{first_place, has_bytes, is_ram, limits_for, ram_bytes, ram_left}
+use Rattle.c_machine.specs.Made.{arrival_limits, first_place, has_bytes, is_ram, ram_bytes, ram_left}
 use Rattle.c_machine.specs.Making.{shapes_of}
 use Rattle.c_machine.specs.Mapping.{AreTaken, contents}
 use Rattle.vmig_c.specs.Filled.{Fills}
@@ -22,7 +22,7 @@ use Rattle.c_machine.specs.declared.setup.Expected.{Expected}
 
 -- The most that may arrive. RAM and images of the caller are their own limit: the machine has to be as they are.
 abbrev pub allowed_of : Expected → Allowed
-allowed_of e = record { limits = limits_for e.flags; pages = if has_ram e then PAGES_GREATEST else e.most_pages; sectors = if has_images e then 2 ^ 64 - 1 else e.most_sectors; base = e.base }
+allowed_of e = record { limits = arrival_limits e.flags e.frame; pages = if has_ram e then PAGES_GREATEST else e.most_pages; sectors = if has_images e then 2 ^ 64 - 1 else e.most_sectors; base = e.base }
 
 -- The slot names no memory, or memory that may be RAM.
 abbrev pub IsNoneOrRam : Slot → Type 0
@@ -30,7 +30,7 @@ IsNoneOrRam ram = has_bytes ram ≡ true → is_ram greatest (length ram.content
 
 -- The address at which RAM will begin, and how large the machine may be.
 abbrev pub terms_in : Expected → Terms
-terms_in e = record { base = e.base; limits = limits_for e.flags }
+terms_in e = record { base = e.base; limits = arrival_limits e.flags e.frame }
 
 -- These, and the length of the caller's memory, if that is to be RAM.
 abbrev pub terms_if : Bool → Terms → List ℕ → RamTerms

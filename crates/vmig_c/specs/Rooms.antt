@@ -1,7 +1,7 @@
 -- How much a device still takes of what the host puts in.
 use Rattle.std.specs.Prelude.{◌≡◌, ℕ, ◌-◌, length, Option, Some, None}
 use Rattle.console.specs.declared.host_bytes.TheConstants.{HOST_BYTES_MAX}
-use Rattle.net.specs.declared.limits.TheConstants.{INBOX_MAX}
+use Rattle.net.specs.Inbox.{most_waiting}
 use Rattle.machine.specs.Parked.{parked_states}
 use Rattle.machine.specs.Refusal.{code_of}
 use Rattle.machine.specs.Seen.{state_of}
@@ -16,7 +16,7 @@ use Rattle.std.specs.Prelude.{slice_get}
 
 -- As many bytes as there is room for in a pool or in a console's input; of a network device, as many frames. A disk takes nothing.
 abbrev pub room_of : Kind → Option ℕ
-room_of (Network mac frames) = Some (INBOX_MAX - length frames)
+room_of (Network mac inbox) = Some (most_waiting inbox.longest - length inbox.frames)
 room_of (Block block) = None
 room_of (Console size held) = Some (HOST_BYTES_MAX - length held)
 room_of (Entropy pool) = Some (HOST_BYTES_MAX - length pool)

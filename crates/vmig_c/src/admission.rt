@@ -195,6 +195,13 @@ fn is_same_shape(one: Shape, other: Shape) -> bool
     match (one, other) {
         (Shape::Net { mac }, Shape::Net { mac: other }) => mac.as_slice() == other.as_slice(),
         (
+            Shape::LongNet { mac, longest },
+            Shape::LongNet {
+                mac: other,
+                longest: its,
+            },
+        ) => { longest == its && mac.as_slice() == other.as_slice() }
+        (
             Shape::Block {
                 sectors,
                 read_only,

@@ -18,8 +18,8 @@ use crate::kept::{Asked, Held, Kept};
 use crate::logging::log_for;
 use c_machine::status::{DONE, IN_USE, NO_MEMORY};
 use c_machine::{
-    Expected, arrival_refusal, give_back, is_none, limits_for, mapped_disks, put_back, ram_bytes,
-    shapes_of, taken_ram,
+    Expected, arrival_limits, arrival_refusal, give_back, is_none, mapped_disks, put_back,
+    ram_bytes, shapes_of, taken_ram,
 };
 use guestmem::{NoMemory, PAGES_GREATEST, Ram};
 use receiver::Terms;
@@ -110,7 +110,7 @@ fn terms(expected: &mut Expected) -> Terms
 {
     Terms {
         base: expected.base,
-        limits: limits_for(expected.flags),
+        limits: arrival_limits(expected.flags, expected.frame),
     }
 }
 
@@ -119,7 +119,7 @@ fn allowed(expected: &mut Expected) -> Allowed
     ensures same { expected.new ≡ expected.old }
     ensures allowed { result ≡ allowed_of expected.old }
 {
-    let limits = limits_for(expected.flags);
+    let limits = arrival_limits(expected.flags, expected.frame);
     let pages = if expected.ram.is_none() {
         expected.most_pages
     } else {

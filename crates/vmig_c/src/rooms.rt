@@ -8,7 +8,7 @@ use crate::kept::{Kept, by_state};
 use c_machine::status::{DONE, NO_DEVICE, WRONG_KIND};
 use console::HOST_BYTES_MAX;
 use machine::Kind;
-use net::INBOX_MAX;
+use net::most_waiting;
 
 /// How many bytes an input would keep; of a network device, how many frames.
 pub(crate) fn room(kept: &Kept, dev: u8, room: &mut usize) -> u32
@@ -42,7 +42,7 @@ fn room_of(kind: &Kind) -> Option<usize>
     ensures { result ≡ room_of kind.now }
 {
     match kind {
-        Kind::Network { inbox, .. } => Some(INBOX_MAX - inbox.len()),
+        Kind::Network { inbox, .. } => Some(most_waiting(inbox.longest()) - inbox.len()),
         Kind::Block(_) => None,
         Kind::Console { held, .. } => Some(HOST_BYTES_MAX - held.len()),
         Kind::Entropy(pool) => Some(HOST_BYTES_MAX - pool.len()),

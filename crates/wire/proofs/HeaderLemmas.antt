@@ -1,20 +1,22 @@
 -- Shapes: what is spelled is read, and what is read was spelled. The first bytes of a header.
-use Rattle.std.proofs.lemmas.Bool.{eqb-true, eqb-false, ne_eqb, ltb-false, le-ltb}
-use Rattle.std.proofs.lemmas.List.{drop_at, take_at, length-take, length-drop}
+use Rattle.std.proofs.lemmas.Bool.{eqb-true, eqb-false, ne_eqb, ltb-false, ltb-true, le-ltb, lt-ltb}
+use Rattle.std.proofs.lemmas.List.{drop-drop, drop_at, take_at, length-take, length-drop}
 use Rattle.guestmem.proofs.ByteLaws.{IsBytes-drop, IsBytes-take}
 use Rattle.guestmem.specs.Number.{number_at, IsBytes}
 use Rattle.wire.specs.Numbers.{digits, spelled, Fit, flag}
-use Rattle.wire.proofs.Digits.{spelled-numbers, numbers-spelled, length-digits, length-spelled, flag-number, number-flag}
+use Rattle.wire.proofs.Digits.{digits-number_at, number_at-digits, spelled-numbers, numbers-spelled, length-digits, length-spelled, flag-number, number-flag, number_at-fits}
 use Rattle.wire.proofs.Choices.{some, same_found, not_chosen, neither}
-use Rattle.std.proofs.Common.{◌≡◌, ℕ, suc, ◌+◌, ◌-◌, ◌<◌, ◌≤◌, List, [], ◌∷◌, ◌++◌, length, drop, take, get_or, subst, ◌≢◌, nat_eq, nat_lt, Some, None, Bool, true, false, cond, refl, sym, ap, ◌∙◌, length-append, take-append-drop, arith, eqb}
+use Rattle.std.proofs.Common.{◌≡◌, ℕ, suc, ◌+◌, ◌-◌, ◌<◌, ◌≤◌, List, [], ◌∷◌, ◌++◌, length, drop, take, get_or, subst, ◌≢◌, nat_eq, nat_lt, Some, None, Bool, true, false, cond, refl, sym, ap, ◌∙◌, length-append, append_assoc, take-append-drop, arith, eqb, not}
 use Rattle.std.specs.Int.{byte_at}
 use Rattle.std.specs.Prelude.{codes, ◌||◌, ◌%◌}
 use Rattle.machine.specs.declared.shape.Shape.{Shape}
-use Rattle.machine.specs.declared.shape.Shape.TheVariants.{Net, Block, Console, Entropy}
+use Rattle.machine.specs.declared.shape.Shape.TheVariants.{Net, LongNet, Block, Console, Entropy}
 use Rattle.blk.specs.Shape.{IsBlockShape}
-use Rattle.net.specs.Shape.{IsMac}
+use Rattle.net.specs.Shape.{IsLongNet, IsMac}
+use Rattle.machine.specs.Limits.{IsShapeWithin}
 use Rattle.machine.specs.Sound.{IsSoundShape}
-use Rattle.wire.specs.ShapeReading.{block_shape_of, net_shape_of, shape_of}
+use Rattle.machine.specs.declared.limits.Limits.{Limits}
+use Rattle.wire.specs.ShapeReading.{block_shape_of, long_net_shape_of, net_shape_of, shape_of}
 use Rattle.wire.proofs.Lists.{WasSpelled}
 use Rattle.wire.specs.Header.{spelled_shape, front, shape_length}
 
@@ -66,9 +68,22 @@ net_reads mac rest good =
     let long : nat_lt (length (mac ++ rest)) 6 ≡ false = le-ltb _ _ (omega (arith, length-append mac rest, good.size)) in
     rw (long, take_at mac rest 6 good.size, drop_at mac rest 6 good.size) refl
 
+long_reads : (mac rest : List ℕ) (longest : ℕ) → IsLongNet mac longest → long_net_shape_of ((mac ++ digits 2 longest) ++ rest) ≡ Some (LongNet mac longest, rest)
+unfolding long_net_shape_of
+long_reads mac rest longest good =
+    let front = length-append mac (digits 2 longest) in
+    let both : length (mac ++ digits 2 longest) ≡ 8 = omega (arith, front, length-digits 2 longest, good.address.size) in
+    let grouped = append_assoc mac (digits 2 longest) rest in
+    let long : nat_lt (length ((mac ++ digits 2 longest) ++ rest)) 8 ≡ false = le-ltb _ _ (omega (arith, length-append (mac ++ digits 2 longest) rest, both)) in
+    let told : number_at ((mac ++ digits 2 longest) ++ rest) 6 2 ≡ longest = ap (λ (x : List ℕ). number_at x 6 2) grouped ∙ subst (λ (k : ℕ). number_at (mac ++ (digits 2 longest ++ rest)) k 2 ≡ longest) good.address.size (number_at-digits 2 longest mac rest (omega (arith, good.most))) in
+    let more : nat_lt 1514 longest ≡ true = lt-ltb 1514 longest good.longer in
+    let address : take 6 ((mac ++ digits 2 longest) ++ rest) ≡ mac = ap (take 6) grouped ∙ take_at mac (digits 2 longest ++ rest) 6 good.address.size in
+    rw (long, told, more, address, drop_at (mac ++ digits 2 longest) rest 8 both) refl
+
 pub shape_of-spelled : (s : Shape) (rest : List ℕ) → IsSoundShape s → shape_of (spelled_shape s ++ rest) ≡ Some (s, rest)
 unfolding shape_of spelled_shape
 shape_of-spelled (Net mac) rest good = net_reads mac rest good
+shape_of-spelled (LongNet mac longest) rest good = long_reads mac rest longest good
 shape_of-spelled (Block sectors read_only id) rest good =
     block_reads ((digits 8 sectors ++ (flag read_only ∷ id)) ++ rest) sectors read_only id rest good (block_says sectors read_only id rest good)
 shape_of-spelled Console rest good = refl
@@ -124,25 +139,54 @@ block_read n bytes found are two e =
       whole = ap (λ (k : ℕ). k ∷ bytes) two ∙ ap (λ (x : List ℕ). 2 ∷ x) (block_written bytes (number_at bytes 0 8) are within refl (ltb-false 1 (number_at bytes 8 1) size.1));
     })
 
-entropy_read : (n : ℕ) (bytes : List ℕ) (found : Shape × List ℕ) (is : Bool) → eqb n 4 ≡ is → cond is (Some (Entropy, bytes)) None ≡ Some found → ShapeRead (n ∷ bytes) found
-unfolding spelled_shape
-entropy_read n bytes found true four e =
-    subst (λ (y : Shape × List ℕ). ShapeRead (n ∷ bytes) y) (same_found (Entropy, bytes) found e) (record { good = tt; whole = ap (λ (k : ℕ). k ∷ bytes) (eqb-true n 4 four) })
-entropy_read n bytes found false four e = absurd cc
+long_written : (bytes : List ℕ) → IsBytes bytes → 8 ≤ length bytes → bytes ≡ (take 6 bytes ++ digits 2 (number_at bytes 6 2)) ++ drop 8 bytes
+long_written bytes are long =
+    let two : digits 2 (number_at bytes 6 2) ≡ take 2 (drop 6 bytes) = digits-number_at 2 bytes 6 are (omega (arith, long)) in
+    let rest : drop 2 (drop 6 bytes) ≡ drop 8 bytes = drop-drop 2 6 bytes in
+    sym (take-append-drop 6 bytes)
+    ∙ ap (λ (x : List ℕ). take 6 bytes ++ x) (sym (take-append-drop 2 (drop 6 bytes)))
+    ∙ ap (λ (x : List ℕ). take 6 bytes ++ (x ++ drop 2 (drop 6 bytes))) (sym two)
+    ∙ ap (λ (x : List ℕ). take 6 bytes ++ (digits 2 (number_at bytes 6 2) ++ x)) rest
+    ∙ sym (append_assoc (take 6 bytes) (digits 2 (number_at bytes 6 2)) (drop 8 bytes))
 
-console_read : (n : ℕ) (bytes : List ℕ) (found : Shape × List ℕ) (is : Bool) → eqb n 3 ≡ is → cond is (Some (Console, bytes)) (cond (eqb n 4) (Some (Entropy, bytes)) None) ≡ Some found → ShapeRead (n ∷ bytes) found
+not_so : (b : Bool) → not b ≡ false → b ≡ true
+not_so true e = refl
+not_so false e = absurd cc
+
+long_read : (n : ℕ) (bytes : List ℕ) (found : Shape × List ℕ) → IsBytes bytes → n ≡ 129 → long_net_shape_of bytes ≡ Some found → ShapeRead (n ∷ bytes) found
+unfolding long_net_shape_of spelled_shape
+long_read n bytes found are is e =
+    let good = not_chosen (nat_lt (length bytes) 8 || not (nat_lt 1514 (number_at bytes 6 2))) _ found e in
+    let both = neither (nat_lt (length bytes) 8) (not (nat_lt 1514 (number_at bytes 6 2))) good.0 in
+    let within = ltb-false (length bytes) 8 both.0 in
+    subst (λ (y : Shape × List ℕ). ShapeRead (n ∷ bytes) y) (same_found _ found good.1) (record {
+      good = record { address = record { size = omega (arith, within, length-take 6 bytes); bytes = IsBytes-take 6 bytes are }; longer = ltb-true 1514 (number_at bytes 6 2) (not_so (nat_lt 1514 (number_at bytes 6 2)) both.1); most = omega (arith, number_at-fits 2 6 bytes are) };
+      whole = ap (λ (k : ℕ). k ∷ bytes) is ∙ ap (λ (x : List ℕ). 129 ∷ x) (long_written bytes are within);
+    })
+
+last_read : (n : ℕ) (bytes : List ℕ) (found : Shape × List ℕ) (is : Bool) → IsBytes bytes → eqb n 129 ≡ is → cond is (long_net_shape_of bytes) None ≡ Some found → ShapeRead (n ∷ bytes) found
+last_read n bytes found true are long e = long_read n bytes found are (eqb-true n 129 long) e
+last_read n bytes found false are long e = absurd cc
+
+entropy_read : (n : ℕ) (bytes : List ℕ) (found : Shape × List ℕ) (is : Bool) → IsBytes bytes → eqb n 4 ≡ is → cond is (Some (Entropy, bytes)) (cond (eqb n 129) (long_net_shape_of bytes) None) ≡ Some found → ShapeRead (n ∷ bytes) found
 unfolding spelled_shape
-console_read n bytes found true three e =
+entropy_read n bytes found true are four e =
+    subst (λ (y : Shape × List ℕ). ShapeRead (n ∷ bytes) y) (same_found (Entropy, bytes) found e) (record { good = tt; whole = ap (λ (k : ℕ). k ∷ bytes) (eqb-true n 4 four) })
+entropy_read n bytes found false are four e = last_read n bytes found (eqb n 129) are refl e
+
+console_read : (n : ℕ) (bytes : List ℕ) (found : Shape × List ℕ) (is : Bool) → IsBytes bytes → eqb n 3 ≡ is → cond is (Some (Console, bytes)) (cond (eqb n 4) (Some (Entropy, bytes)) (cond (eqb n 129) (long_net_shape_of bytes) None)) ≡ Some found → ShapeRead (n ∷ bytes) found
+unfolding spelled_shape
+console_read n bytes found true are three e =
     subst (λ (y : Shape × List ℕ). ShapeRead (n ∷ bytes) y) (same_found (Console, bytes) found e) (record { good = tt; whole = ap (λ (k : ℕ). k ∷ bytes) (eqb-true n 3 three) })
-console_read n bytes found false three e = entropy_read n bytes found (eqb n 4) refl e
+console_read n bytes found false are three e = entropy_read n bytes found (eqb n 4) are refl e
 
 from_block_read : (n : ℕ) (bytes : List ℕ) (found : Shape × List ℕ) (is : Bool) → IsBytes bytes → eqb n 2 ≡ is
-    → cond is (block_shape_of bytes) (cond (eqb n 3) (Some (Console, bytes)) (cond (eqb n 4) (Some (Entropy, bytes)) None)) ≡ Some found → ShapeRead (n ∷ bytes) found
+    → cond is (block_shape_of bytes) (cond (eqb n 3) (Some (Console, bytes)) (cond (eqb n 4) (Some (Entropy, bytes)) (cond (eqb n 129) (long_net_shape_of bytes) None))) ≡ Some found → ShapeRead (n ∷ bytes) found
 from_block_read n bytes found true are two e = block_read n bytes found are (eqb-true n 2 two) e
-from_block_read n bytes found false are two e = console_read n bytes found (eqb n 3) refl e
+from_block_read n bytes found false are two e = console_read n bytes found (eqb n 3) are refl e
 
 shape_read : (n : ℕ) (bytes : List ℕ) (found : Shape × List ℕ) (is : Bool) → IsBytes bytes → eqb n 1 ≡ is
-    → cond is (net_shape_of bytes) (cond (eqb n 2) (block_shape_of bytes) (cond (eqb n 3) (Some (Console, bytes)) (cond (eqb n 4) (Some (Entropy, bytes)) None))) ≡ Some found → ShapeRead (n ∷ bytes) found
+    → cond is (net_shape_of bytes) (cond (eqb n 2) (block_shape_of bytes) (cond (eqb n 3) (Some (Console, bytes)) (cond (eqb n 4) (Some (Entropy, bytes)) (cond (eqb n 129) (long_net_shape_of bytes) None)))) ≡ Some found → ShapeRead (n ∷ bytes) found
 shape_read n bytes found true are one e = net_read n bytes found are (eqb-true n 1 one) e
 shape_read n bytes found false are one e = from_block_read n bytes found (eqb n 2) are refl e
 
@@ -155,22 +199,38 @@ spelled-shape_of (n ∷ bytes) found are e = shape_read n bytes found (eqb n 1) 
 pub no_shape : (bytes : List ℕ) → shape_of bytes ≡ None → (s : Shape) (rest : List ℕ) → IsSoundShape s → ¬ (bytes ≡ spelled_shape s ++ rest)
 no_shape bytes none s rest good is = let read = ap shape_of is ∙ shape_of-spelled s rest good in cc
 
+-- The number of a shape is known within these limits.
+abbrev pub IsKnown : Limits → Shape → Type 0
+IsKnown limits (LongNet mac longest) = 1514 < limits.frame
+IsKnown limits _ = Unit {0}
+
+pub known_within : (limits : Limits) (s : Shape) → IsSoundShape s → IsShapeWithin limits s → IsKnown limits s
+known_within limits (Net mac) good within = tt
+known_within limits (LongNet mac longest) good within = omega (arith, within, good.longer)
+known_within limits (Block sectors read_only id) good within = tt
+known_within limits Console good within = tt
+known_within limits Entropy good within = tt
+
 -- A shape is as long as its first byte says.
-pub record HasLength (s : Shape) : Type 0 where
+pub record HasLength (limits : Limits) (s : Shape) : Type 0 where
   pub number : ℕ
   pub others : List ℕ
   pub is : spelled_shape s ≡ number ∷ others
-  pub long : shape_length number ≡ Some (suc (length others))
+  pub long : shape_length limits number ≡ Some (suc (length others))
 
-pub length_shape : (s : Shape) → IsSoundShape s → HasLength s
+pub length_shape : (limits : Limits) (s : Shape) → IsSoundShape s → IsKnown limits s → HasLength limits s
 unfolding spelled_shape
-length_shape (Net mac) good = record { number = 1; others = mac; is = refl; long = ap (λ (n : ℕ). some (suc n)) (sym good.size) }
-length_shape (Block sectors read_only id) good =
+length_shape limits (Net mac) good within = record { number = 1; others = mac; is = refl; long = ap (λ (n : ℕ). some (suc n)) (sym good.size) }
+length_shape limits (LongNet mac longest) good within =
+    let others = mac ++ digits 2 longest in
+    let size : suc (length others) ≡ 9 = omega (arith, length-append mac (digits 2 longest), length-digits 2 longest, good.address.size) in
+    record { number = 129; others = others; is = refl; long = rw (lt-ltb 1514 limits.frame within) (ap some (sym size)) }
+length_shape limits (Block sectors read_only id) good within =
     let others = digits 8 sectors ++ (flag read_only ∷ id) in
     let size : suc (length others) ≡ 30 = omega (arith, length-append (digits 8 sectors) (flag read_only ∷ id), length-digits 8 sectors, good.id_size) in
     record { number = 2; others = others; is = refl; long = ap some (sym size) }
-length_shape Console good = record { number = 3; others = []; is = refl; long = refl }
-length_shape Entropy good = record { number = 4; others = []; is = refl; long = refl }
+length_shape limits Console good within = record { number = 3; others = []; is = refl; long = refl }
+length_shape limits Entropy good within = record { number = 4; others = []; is = refl; long = refl }
 
 abbrev pub head_widths : List ℕ
 head_widths = 4 ∷ 4 ∷ 4 ∷ 4 ∷ []
@@ -190,7 +250,7 @@ pub record HeadSays (bytes : List ℕ) (version pages count : ℕ) : Type 0 wher
   pub pages_are : number_at bytes 8 4 ≡ pages
   pub count_is : number_at bytes 12 4 ≡ count
 
-pub head_says : (version pages count : ℕ) (rest : List ℕ) → version ≤ 2 → pages ≤ 4294967295 → count ≤ 16 → HeadSays (spelled head_widths (head_numbers version pages count) ++ rest) version pages count
+pub head_says : (version pages count : ℕ) (rest : List ℕ) → version ≤ 3 → pages ≤ 4294967295 → count ≤ 16 → HeadSays (spelled head_widths (head_numbers version pages count) ++ rest) version pages count
 head_says version pages count rest old few_pages few_devices =
     let fits : Fit head_widths (head_numbers version pages count) = (omega arith, (omega (arith, old), (omega (arith, few_pages), (omega (arith, few_devices), tt)))) in
     let read = numbers-spelled head_widths (head_numbers version pages count) [] rest fits in

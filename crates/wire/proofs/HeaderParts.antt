@@ -1,22 +1,25 @@
 -- Headers as far as they came, and their faults.
-use Rattle.std.proofs.Common.{◌≡◌, ◌≢◌, Bool, true, false, cond, eqb, ℕ, zero, suc, ◌+◌, ◌<◌, ◌≤◌, ◌⊎◌, inl, inr, List, [], ◌∷◌, ◌++◌, length, take, drop, Option, Some, None, refl, sym, ap, subst, ◌∙◌, append_assoc, append-nil, arith}
+use Rattle.std.proofs.Common.{◌≡◌, ◌≢◌, ◌&&◌, nat_lt, Bool, true, false, cond, eqb, ℕ, zero, suc, ◌+◌, ◌<◌, ◌≤◌, ◌⊎◌, inl, inr, List, [], ◌∷◌, ◌++◌, length, take, drop, Option, Some, None, refl, sym, ap, subst, ◌∙◌, append_assoc, append-nil, arith}
 use Rattle.std.specs.Prelude.{All}
 use Rattle.std.specs.List.{AllByRecursion}
 use Rattle.std.proofs.lemmas.List.{take-append-drop, length-append, length-take, drop_at}
 use Rattle.std.proofs.lemmas.List.Elements.{All-push, recursion_from_All}
 use Rattle.guestmem.specs.Number.{IsBytes, number_at}
-use Rattle.machine.specs.Limits.{AreWithin, IsShapeWithin, usual}
+use Rattle.machine.specs.Limits.{AreWithin, IsShapeWithin, greatest, usual}
 use Rattle.machine.specs.Sound.{IsSoundShape}
 use Rattle.machine.specs.declared.limits.Limits.{Limits}
 use Rattle.machine.specs.declared.shape.Shape.{Shape}
 use Rattle.wire.specs.Header.{front, spelled_shape, spelled_shapes, Begins, Opening, IsVersion, shape_length}
+use Rattle.machine.specs.declared.shape.Shape.TheVariants.{Net, LongNet, Block, Console, Entropy}
+use Rattle.std.proofs.lemmas.Bool.{ltb-true}
+use Rattle.wire.specs.Numbers.{digits}
 use Rattle.wire.specs.HeaderFaults.{IsBeyond, IsShapeFor, IsUnknown, MayCount, IsBadMagic, IsBadVersion, Says, IsBadCount, IsNoShape, IsBadShape, IsHeaderPart, OnFault, ShowsFault}
 use Rattle.wire.specs.HeaderParts.{ShapeWaits, BadFirst, FewShapes, ShapesWait, ShapesBad, ShapesRead, OnBad}
 use Rattle.wire.specs.ShapeReading.{shape_of}
 use Rattle.wire.specs.declared.header_error.HeaderError.{HeaderError}
 use Rattle.wire.specs.declared.header_error.HeaderError.TheVariants as errors
 use Rattle.wire.proofs.Choices.{same_found}
-use Rattle.wire.proofs.HeaderLemmas.{HeadSays, head_says, head_spelled, head_written, length_shape, no_shape, shape_of-spelled}
+use Rattle.wire.proofs.HeaderLemmas.{HeadSays, IsKnown, known_within, head_says, head_spelled, head_written, length_shape, no_shape, shape_of-spelled}
 use Rattle.wire.proofs.PartLengths.{length-front}
 use Rattle.wire.proofs.Spelling.{head_same, split_same}
 
@@ -72,52 +75,52 @@ are_for l bytes opening rest w b k d below = record { sound = b.good.sound k d b
 
 -- No wrong shape is spelled.
 
-unknown_spelled : (s : Shape) (bad x y : List ℕ) → IsSoundShape s → IsUnknown bad → bad ++ x ≡ spelled_shape s ++ y → ⊥
-unknown_spelled s bad x y good n e =
-    let l = length_shape s good in
+unknown_spelled : (limits : Limits) (s : Shape) (bad x y : List ℕ) → IsShapeFor limits s → IsUnknown limits bad → bad ++ x ≡ spelled_shape s ++ y → ⊥
+unknown_spelled limits s bad x y good n e =
+    let l = length_shape limits s good.sound (known_within limits s good.sound good.within) in
     let first : n.number ≡ l.number = head_same (ap (λ (z : List ℕ). z ++ x) (sym n.is) ∙ e ∙ ap (λ (z : List ℕ). z ++ y) l.is) in
-    let no : (◌≡◌ {A = Option ℕ} None (Some (suc (length l.others)))) = sym n.never ∙ ap shape_length first ∙ l.long in cc
+    let no : (◌≡◌ {A = Option ℕ} None (Some (suc (length l.others)))) = sym n.never ∙ ap (shape_length limits) first ∙ l.long in cc
 
 beyond_spelled : (limits : Limits) (s : Shape) (bad x y : List ℕ) → IsShapeFor limits s → IsBeyond limits bad → bad ++ x ≡ spelled_shape s ++ y → ⊥
 beyond_spelled limits s bad x y good n e =
-    let l = length_shape s good.sound in
+    let l = length_shape limits s good.sound (known_within limits s good.sound good.within) in
     let first : n.number ≡ l.number = head_same (ap (λ (z : List ℕ). z ++ x) (sym n.is) ∙ e ∙ ap (λ (z : List ℕ). z ++ y) l.is) in
-    let long : (◌≡◌ {A = Option ℕ} (Some (length bad)) (Some (suc (length l.others)))) = sym n.long ∙ ap shape_length first ∙ l.long in
+    let long : (◌≡◌ {A = Option ℕ} (Some (length bad)) (Some (suc (length l.others)))) = sym n.long ∙ ap (shape_length limits) first ∙ l.long in
     let size : length bad ≡ length (spelled_shape s) = same_found (length bad) (suc (length l.others)) long ∙ sym (ap length l.is) in
     n.never s good (split_same bad (spelled_shape s) x y size e).0
 
 pub no_bad_spelled : (l : Limits) (s : Shape) (bad x y : List ℕ) → IsShapeFor l s → IsNoShape l bad → ¬ (bad ++ x ≡ spelled_shape s ++ y)
-no_bad_spelled l s bad x y good (inl n) e = unknown_spelled s bad x y good.sound n e
+no_bad_spelled l s bad x y good (inl n) e = unknown_spelled l s bad x y good n e
 no_bad_spelled l s bad x y good (inr n) e = beyond_spelled l s bad x y good n e
 
 -- Two wrong shapes at the front are of one length.
-lengths_known : (m n a b : ℕ) → m ≡ n → shape_length m ≡ Some a → shape_length n ≡ Some b → a ≡ b
-lengths_known m n a b same e f = same_found a b (sym e ∙ ap shape_length same ∙ f)
+lengths_known : (l : Limits) (m n a b : ℕ) → m ≡ n → shape_length l m ≡ Some a → shape_length l n ≡ Some b → a ≡ b
+lengths_known l m n a b same e f = same_found a b (sym e ∙ ap (shape_length l) same ∙ f)
 
-none_known : (m n a : ℕ) → m ≡ n → shape_length m ≡ None → shape_length n ≡ Some a → ⊥
-none_known m n a same e f = let no : (◌≡◌ {A = Option ℕ} None (Some a)) = sym e ∙ ap shape_length same ∙ f in cc
+none_known : (l : Limits) (m n a : ℕ) → m ≡ n → shape_length l m ≡ None → shape_length l n ≡ Some a → ⊥
+none_known l m n a same e f = let no : (◌≡◌ {A = Option ℕ} None (Some a)) = sym e ∙ ap (shape_length l) same ∙ f in cc
 
-unknown_beyond : (l : Limits) (bad other x y : List ℕ) → IsUnknown bad → IsBeyond l other → bad ++ x ≡ other ++ y → ⊥
-unknown_beyond l bad other x y n m e = none_known n.number m.number (length other) (head_same (ap (λ (z : List ℕ). z ++ x) (sym n.is) ∙ e ∙ ap (λ (z : List ℕ). z ++ y) m.is)) n.never m.long
+unknown_beyond : (l : Limits) (bad other x y : List ℕ) → IsUnknown l bad → IsBeyond l other → bad ++ x ≡ other ++ y → ⊥
+unknown_beyond l bad other x y n m e = none_known l n.number m.number (length other) (head_same (ap (λ (z : List ℕ). z ++ x) (sym n.is) ∙ e ∙ ap (λ (z : List ℕ). z ++ y) m.is)) n.never m.long
 
 pub bad_lengths : (l : Limits) (bad other x y : List ℕ) → IsNoShape l bad → IsNoShape l other → bad ++ x ≡ other ++ y → length bad ≡ length other
 bad_lengths l bad other x y (inl n) (inl m) e = ap length n.is ∙ sym (ap length m.is)
 bad_lengths l bad other x y (inl n) (inr m) e = absurd (unknown_beyond l bad other x y n m e)
 bad_lengths l bad other x y (inr n) (inl m) e = absurd (unknown_beyond l other bad y x m n (sym e))
-bad_lengths l bad other x y (inr n) (inr m) e = lengths_known n.number m.number (length bad) (length other) (head_same (ap (λ (z : List ℕ). z ++ x) (sym n.is) ∙ e ∙ ap (λ (z : List ℕ). z ++ y) m.is)) n.long m.long
+bad_lengths l bad other x y (inr n) (inr m) e = lengths_known l n.number m.number (length bad) (length other) (head_same (ap (λ (z : List ℕ). z ++ x) (sym n.is) ∙ e ∙ ap (λ (z : List ℕ). z ++ y) m.is)) n.long m.long
 
 -- One shape.
 
-bad_first_byte : (bad rest bytes others : List ℕ) (number : ℕ) → bytes ≡ number ∷ others → bytes ≡ bad ++ rest → (n : IsUnknown bad) → n.number ≡ number
-bad_first_byte bad rest bytes others number is e n = sym (head_same (sym is ∙ e ∙ ap (λ (z : List ℕ). z ++ rest) n.is))
+bad_first_byte : (l : Limits) (bad rest bytes others : List ℕ) (number : ℕ) → bytes ≡ number ∷ others → bytes ≡ bad ++ rest → (n : IsUnknown l bad) → n.number ≡ number
+bad_first_byte l bad rest bytes others number is e n = sym (head_same (sym is ∙ e ∙ ap (λ (z : List ℕ). z ++ rest) n.is))
 
-no_bad_yet : (l : Limits) (bad rest bytes others : List ℕ) (number len : ℕ) → bytes ≡ number ∷ others → shape_length number ≡ Some len → length bytes < len → IsNoShape l bad → ¬ (bytes ≡ bad ++ rest)
-no_bad_yet l bad rest bytes others number len is long short (inl n) e = none_known n.number number len (bad_first_byte bad rest bytes others number is e n) n.never long
+no_bad_yet : (l : Limits) (bad rest bytes others : List ℕ) (number len : ℕ) → bytes ≡ number ∷ others → shape_length l number ≡ Some len → length bytes < len → IsNoShape l bad → ¬ (bytes ≡ bad ++ rest)
+no_bad_yet l bad rest bytes others number len is long short (inl n) e = none_known l n.number number len (bad_first_byte l bad rest bytes others number is e n) n.never long
 no_bad_yet l bad rest bytes others number len is long short (inr n) e =
     let first : n.number ≡ number = sym (head_same (sym is ∙ e ∙ ap (λ (z : List ℕ). z ++ rest) n.is)) in
-    omega (arith, short, ap length e, length-append bad rest, lengths_known n.number number (length bad) len first n.long long)
+    omega (arith, short, ap length e, length-append bad rest, lengths_known l n.number number (length bad) len first n.long long)
 
-pub shape_cut : (l : Limits) (bytes others : List ℕ) (number len : ℕ) → shape_of bytes ≡ None → bytes ≡ number ∷ others → shape_length number ≡ Some len → length bytes < len → ShapeWaits l bytes
+pub shape_cut : (l : Limits) (bytes others : List ℕ) (number len : ℕ) → shape_of bytes ≡ None → bytes ≡ number ∷ others → shape_length l number ≡ Some len → length bytes < len → ShapeWaits l bytes
 shape_cut l bytes others number len none is long short = record {
   no_shape = no_shape bytes none;
   no_bad = λ bad rest n. no_bad_yet l bad rest bytes others number len is long short n;
@@ -130,7 +133,7 @@ bad_none l bad rest bytes (inr n) none e = omega (arith, none, ap length e, leng
 pub no_shape_yet : (l : Limits) (bytes : List ℕ) → shape_of bytes ≡ None → length bytes ≡ 0 → ShapeWaits l bytes
 no_shape_yet l bytes is none = record { no_shape = no_shape bytes is; no_bad = λ bad rest n e. bad_none l bad rest bytes n none e }
 
-pub unknown_shape : (l : Limits) (number : ℕ) (bytes rest : List ℕ) → bytes ≡ number ∷ rest → shape_length number ≡ None → BadFirst l bytes
+pub unknown_shape : (l : Limits) (number : ℕ) (bytes rest : List ℕ) → bytes ≡ number ∷ rest → shape_length l number ≡ None → BadFirst l bytes
 unknown_shape l number bytes rest e never = record { bad = number ∷ []; more = rest; whole = e; never = inl (record { number = number; is = refl; never = never }) }
 
 first_kept : (bytes others : List ℕ) (number len : ℕ) → bytes ≡ number ∷ others → 0 < len → (tail : List ℕ) × (take len bytes ≡ number ∷ tail)
@@ -142,27 +145,34 @@ has_some : (b : Bool) (n : ℕ) (other : Option ℕ) → 0 < n → ((len : ℕ) 
 has_some true n other some others len e = let same : n ≡ len = same_found n len e in omega (arith, some, same)
 has_some false n other some others len e = others len e
 
-pub some_length : (number len : ℕ) → shape_length number ≡ Some len → 0 < len
-some_length number len e =
+pub some_length : (l : Limits) (number len : ℕ) → shape_length l number ≡ Some len → 0 < len
+some_length l number len e =
     has_some (eqb number 1) 7 _ (omega arith) (has_some (eqb number 2) 30 _ (omega arith)
-    (has_some (eqb number 3) 1 _ (omega arith) (has_some (eqb number 4) 1 None (omega arith) (λ n none. absurd cc)))) len e
+    (has_some (eqb number 3) 1 _ (omega arith) (has_some (eqb number 4) 1 _ (omega arith) (has_some (eqb number 129 && nat_lt 1514 l.frame) 9 None (omega arith) (λ n none. absurd cc))))) len e
 
 -- No shape has more than 30.
 few_by : (b : Bool) (n : ℕ) (other : Option ℕ) → n ≤ 30 → ((len : ℕ) → other ≡ Some len → len ≤ 30) → (len : ℕ) → cond b (Some n) other ≡ Some len → len ≤ 30
 few_by true n other few others len e = let same : n ≡ len = same_found n len e in omega (arith, few, same)
 few_by false n other few others len e = others len e
 
-pub few_length : (number len : ℕ) → shape_length number ≡ Some len → len ≤ 30
-few_length number len e =
+pub few_length : (l : Limits) (number len : ℕ) → shape_length l number ≡ Some len → len ≤ 30
+few_length l number len e =
     few_by (eqb number 1) 7 _ (omega arith) (few_by (eqb number 2) 30 _ (omega arith)
-    (few_by (eqb number 3) 1 _ (omega arith) (few_by (eqb number 4) 1 None (omega arith) (λ n none. absurd cc)))) len e
+    (few_by (eqb number 3) 1 _ (omega arith) (few_by (eqb number 4) 1 _ (omega arith) (few_by (eqb number 129 && nat_lt 1514 l.frame) 9 None (omega arith) (λ n none. absurd cc))))) len e
+
+known_greatest : (s : Shape) → IsKnown greatest s
+known_greatest (Net mac) = tt
+known_greatest (LongNet mac longest) = omega arith
+known_greatest (Block sectors read_only id) = tt
+known_greatest Console = tt
+known_greatest Entropy = tt
 
 pub few_spelled : (bytes rest : List ℕ) (s : Shape) → IsSoundShape s → bytes ≡ spelled_shape s ++ rest → length bytes ≤ length rest + 30
 few_spelled bytes rest s good e =
-    let l = length_shape s good in
-    omega (arith, few_length l.number (suc (length l.others)) l.long, ap length e, length-append (spelled_shape s) rest, ap length l.is)
+    let l = length_shape greatest s good (known_greatest s) in
+    omega (arith, few_length greatest l.number (suc (length l.others)) l.long, ap length e, length-append (spelled_shape s) rest, ap length l.is)
 
-pub beyond_shape : (l : Limits) (number len : ℕ) (bytes others : List ℕ) → shape_of bytes ≡ None → bytes ≡ number ∷ others → shape_length number ≡ Some len → 0 < len → len ≤ length bytes → BadFirst l bytes
+pub beyond_shape : (l : Limits) (number len : ℕ) (bytes others : List ℕ) → shape_of bytes ≡ None → bytes ≡ number ∷ others → shape_length l number ≡ Some len → 0 < len → len ≤ length bytes → BadFirst l bytes
 beyond_shape l number len bytes others none is long some le =
     let kept = first_kept bytes others number len is some in
     let size : length (take len bytes) ≡ len = omega (arith, le, length-take len bytes) in
@@ -181,9 +191,9 @@ beyond_shape l number len bytes others none is long some le =
     }
 
 -- A sound shape that the limits do not allow.
-pub over_shape : (l : Limits) (bytes rest : List ℕ) (s : Shape) → IsSoundShape s → bytes ≡ spelled_shape s ++ rest → ¬ (IsShapeWithin l s) → BadFirst l bytes
-over_shape l bytes rest s good whole out =
-    let h = length_shape s good in
+over_known : (l : Limits) (bytes rest : List ℕ) (s : Shape) → IsSoundShape s → bytes ≡ spelled_shape s ++ rest → ¬ (IsShapeWithin l s) → IsKnown l s → BadFirst l bytes
+over_known l bytes rest s good whole out known =
+    let h = length_shape l s good known in
     record {
       bad = spelled_shape s;
       more = rest;
@@ -192,10 +202,22 @@ over_shape l bytes rest s good whole out =
         number = h.number;
         others = h.others;
         is = h.is;
-        long = subst (λ (z : List ℕ). shape_length h.number ≡ Some (length z)) (sym h.is) h.long;
+        long = subst (λ (z : List ℕ). shape_length l h.number ≡ Some (length z)) (sym h.is) h.long;
         never = λ t allowed same. out (subst (IsShapeWithin l) (sym (one_shape s t [] [] good allowed.sound (ap (λ (z : List ℕ). z ++ []) same)).0) allowed.within);
       });
     }
+
+over_long : (l : Limits) (bytes rest mac : List ℕ) (longest : ℕ) (long : Bool) → nat_lt 1514 l.frame ≡ long → IsSoundShape (LongNet mac longest) → bytes ≡ spelled_shape (LongNet mac longest) ++ rest → ¬ (IsShapeWithin l (LongNet mac longest)) → BadFirst l bytes
+unfolding spelled_shape
+over_long l bytes rest mac longest true e good whole out = over_known l bytes rest (LongNet mac longest) good whole out (ltb-true 1514 l.frame e)
+over_long l bytes rest mac longest false e good whole out = unknown_shape l 129 bytes ((mac ++ digits 2 longest) ++ rest) whole (rw e refl)
+
+pub over_shape : (l : Limits) (bytes rest : List ℕ) (s : Shape) → IsSoundShape s → bytes ≡ spelled_shape s ++ rest → ¬ (IsShapeWithin l s) → BadFirst l bytes
+over_shape l bytes rest (Net mac) good whole out = over_known l bytes rest (Net mac) good whole out tt
+over_shape l bytes rest (LongNet mac longest) good whole out = over_long l bytes rest mac longest (nat_lt 1514 l.frame) refl good whole out
+over_shape l bytes rest (Block sectors read_only id) good whole out = over_known l bytes rest (Block sectors read_only id) good whole out tt
+over_shape l bytes rest Console good whole out = over_known l bytes rest Console good whole out tt
+over_shape l bytes rest Entropy good whole out = over_known l bytes rest Entropy good whole out tt
 
 -- So many shapes.
 

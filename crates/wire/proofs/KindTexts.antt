@@ -1,13 +1,13 @@
 -- What only a kind of device has: what is spelled is read, and what is read was spelled.
-use Rattle.std.proofs.Common.{◌≡◌, ℕ, suc, ◌+◌, ◌*◌, ◌≤◌, List, [], ◌∷◌, ◌++◌, length, take, drop, nat_lt, not, ◌||◌, Bool, true, false, cond, Option, Some, None, refl, sym, ap, subst, ◌∙◌, append-nil, arith, eqb}
-use Rattle.std.proofs.lemmas.Bool.{eqb-true, eq-eqb, ltb-false, le-ltb}
+use Rattle.std.proofs.Common.{◌≡◌, ℕ, suc, ◌+◌, ◌*◌, ◌≤◌, List, [], ◌∷◌, ◌++◌, length, take, drop, nat_lt, not, ◌||◌, Bool, true, false, cond, Option, Some, None, refl, sym, ap, subst, ◌∙◌, append-nil, arith, eqb, ltb}
+use Rattle.std.proofs.lemmas.Bool.{eqb-false, eqb-true, eq-eqb, le-ltb, lt-ltb, ltb-false, ltb-true, ne_eqb}
 use Rattle.std.proofs.lemmas.List.{take-append-drop, drop_at, length-append, length-drop}
 use Rattle.std.proofs.lemmas.Option.{get_or_from_slice_get, slice_get_within}
 use Rattle.std.specs.List.{AllByRecursion, flat_map}
 use Rattle.std.proofs.lemmas.List.Elements.{recursion_from_All}
 use Rattle.std.specs.Option.{IsSomeAnd, option_map}
 use Rattle.guestmem.proofs.ByteLaws.{IsBytes-drop}
-use Rattle.net.specs.Inbox.{AreFrames, IsFrame}
+use Rattle.net.specs.Inbox.{AreFrames, Inbox, IsFrame, most_waiting}
 use Rattle.console.specs.declared.size.ConsoleSize.{ConsoleSize}
 use Rattle.guestmem.specs.Number.{number_at, IsBytes}
 use Rattle.blk.specs.declared.request.Request.{Request}
@@ -17,14 +17,14 @@ use Rattle.mmio.specs.declared.queue.Queue.{Queue}
 use Rattle.machine.specs.QueuePositions.{is_packed_by}
 use Rattle.blk.specs.Block.{limits_of}
 use Rattle.blk.specs.declared.block.Block as blocks
-use Rattle.machine.specs.Shapes.{made_as}
+use Rattle.machine.specs.Shapes.{made_as, net_as}
 use Rattle.machine.specs.Sound.{IsSoundKind, IsSoundShape}
 use Rattle.blk.specs.Sound.{AreRequestsOf}
 use Rattle.console.specs.Shape.{AreHostBytes, IsSoundConsole}
 use Rattle.machine.specs.declared.kind.Kind.{Kind}
 use Rattle.machine.specs.declared.kind.Kind.TheVariants as kinds
 use Rattle.machine.specs.declared.shape.Shape.{Shape}
-use Rattle.machine.specs.declared.shape.Shape.TheVariants.{Net, Block, Console, Entropy}
+use Rattle.machine.specs.declared.shape.Shape.TheVariants.{Net, LongNet, Block, Console, Entropy}
 use Rattle.wire.specs.Numbers.{Fit, digits}
 use Rattle.wire.specs.RequestText.{request_text, requests_text}
 use Rattle.wire.specs.RequestReading.{request_of}
@@ -32,10 +32,10 @@ use Rattle.wire.specs.Several.{several}
 use Rattle.wire.specs.DeviceBody.{held_text, kind_text, size_numbers, size_text, size_widths}
 use Rattle.wire.specs.FrameReading.{frame_of}
 use Rattle.wire.specs.FrameText.{frame_text, frames_text}
-use Rattle.wire.specs.BodyReading.{block_with, all_of, block_kind_in, console_kind_in, entropy_kind_in, held_of, net_kind_in, kind_in, console_size_from, console_size_of}
+use Rattle.wire.specs.BodyReading.{block_with, all_of, block_kind_in, console_kind_in, entropy_kind_in, held_of, net_kind_in, kind_in, console_size_from, console_size_of, net_with}
 use Rattle.wire.proofs.Choices.{map_found, same_found, not_chosen, neither, so}
 use Rattle.wire.proofs.Digits.{digits-number_at, number_at-digits, numbers-spelled, spelled-numbers, length-digits, IsBytes-digits, IsBytes-append, IsBytes-spelled}
-use Rattle.wire.proofs.FrameLemmas.{frame_of-text, frames_bytes, frames_short, text-frame_of}
+use Rattle.wire.proofs.FrameLemmas.{frame_of-text, frames_bytes, frames_short, text-frame_of, frames_together}
 use Rattle.wire.proofs.Lists.{several-spelled, spelled-several}
 use Rattle.wire.proofs.RequestFits.{RequestsFit, HasFewSegments, requests_fit}
 use Rattle.wire.proofs.RequestLemmas.{Any, FitsRequest, request_of-text, text-request_of, length-request_text, requests_bytes}
@@ -149,32 +149,48 @@ all_read has (Some found) o e = none_left has found.0 found.1 o (eqb (length fou
 
 -- Of a network device.
 
-frames_read : (mac : List ℕ) (frames : List (List ℕ)) → AreFrames frames → net_kind_in mac (frames_text frames) ≡ Some (kinds.Network mac frames)
+-- The longest frame of a network device that is sound.
+net_longest : (mac : List ℕ) (longest : ℕ) (usual : Bool) → eqb longest 1514 ≡ usual → IsSoundShape (cond usual (Net mac) (LongNet mac longest)) → (longest ≤ 65535) × (1514 ≤ longest)
+net_longest mac longest true e good = let same = eqb-true longest 1514 e in (omega (arith, same), omega (arith, same))
+net_longest mac longest false e good = (good.most, omega (arith, good.longer))
+
+-- It is read as such a device.
+read_as : (mac : List ℕ) (longest : ℕ) (text : List ℕ) (usual : Bool) → eqb longest 1514 ≡ usual → 1514 ≤ longest → kind_in (cond usual (Net mac) (LongNet mac longest)) text ≡ net_kind_in mac longest text
+read_as mac longest text true e least = ap (λ (n : ℕ). net_kind_in mac n text) (sym (eqb-true longest 1514 e))
+read_as mac longest text false e least =
+    let other = eqb-false longest 1514 e in
+    rw (lt-ltb 1514 longest (omega (arith, other, least))) refl
+
+frames_read : (mac : List ℕ) (inbox : Inbox) → inbox.longest ≤ 65535 → 1514 ≤ inbox.longest → AreFrames inbox → net_kind_in mac inbox.longest (frames_text inbox.frames) ≡ Some (kinds.Network mac inbox)
 unfolding net_kind_in
-frames_read mac frames are =
-    let count : number_at (frames_text frames) 0 2 ≡ length frames = number_at-digits 2 (length frames) [] (flat_map frame_text frames) (omega (arith, are.few)) in
+frames_read mac inbox fits usual are =
+    let frames = inbox.frames in
+    let together = frames_together inbox fits usual are in
+    let count : number_at (frames_text frames) 0 2 ≡ length frames = number_at-digits 2 (length frames) [] (flat_map frame_text frames) (omega (arith, together.1)) in
     let long : nat_lt (length (frames_text frames)) 2 ≡ false = le-ltb _ _ (omega arith) in
-    let few : nat_lt 64 (length frames) ≡ false = le-ltb _ _ are.few in
-    let all : several frame_of (length frames) (flat_map frame_text frames) ≡ Some (frames, []) =
-    ap (several frame_of (length frames)) (sym (append-nil (flat_map frame_text frames))) ∙ several-spelled frame_of frame_text IsFrame frame_of-text frames [] (recursion_from_All IsFrame frames are.are) in
+    let few : nat_lt (most_waiting inbox.longest) (length frames) ≡ false = le-ltb _ _ are.few in
+    let all : several (frame_of inbox.longest) (length frames) (flat_map frame_text frames) ≡ Some (frames, []) =
+    ap (several (frame_of inbox.longest) (length frames)) (sym (append-nil (flat_map frame_text frames))) ∙ several-spelled (frame_of inbox.longest) frame_text (IsFrame inbox.longest) (frame_of-text inbox.longest fits) frames [] (recursion_from_All (IsFrame inbox.longest) frames are.are) in
     rw (long, count, few, all) refl
 
-frames_own : (mac : List ℕ) (frames : List (List ℕ)) → AreFrames frames → ReadsKind (kinds.Network mac frames)
-frames_own mac frames are =
-    let each = recursion_from_All IsFrame frames are.are in
+frames_own : (mac : List ℕ) (inbox : Inbox) → inbox.longest ≤ 65535 → 1514 ≤ inbox.longest → AreFrames inbox → ReadsKind (kinds.Network mac inbox)
+frames_own mac inbox fits usual are =
+    let frames = inbox.frames in
+    let together = frames_together inbox fits usual are in
+    let each = recursion_from_All (IsFrame inbox.longest) frames are.are in
     record {
-      read = frames_read mac frames are;
-      bytes = IsBytes-append (digits 2 (length frames)) (flat_map frame_text frames) (IsBytes-digits 2 (length frames) (omega (arith, are.few))) (frames_bytes frames each);
-      short = omega (arith, frames_short frames each, are.few);
+      read = read_as mac inbox.longest (frames_text frames) (eqb inbox.longest 1514) refl usual ∙ frames_read mac inbox fits usual are;
+      bytes = IsBytes-append (digits 2 (length frames)) (flat_map frame_text frames) (IsBytes-digits 2 (length frames) (omega (arith, together.1))) (frames_bytes inbox.longest fits frames each);
+      short = omega (arith, frames_short inbox.longest frames each, together.0, together.1);
     }
 
-frames_written : (mac bytes : List ℕ) (o : Kind) → IsBytes bytes → net_kind_in mac bytes ≡ Some o → bytes ≡ kind_text o
+frames_written : (mac : List ℕ) (longest : ℕ) (bytes : List ℕ) (o : Kind) → IsBytes bytes → net_kind_in mac longest bytes ≡ Some o → bytes ≡ kind_text o
 unfolding net_kind_in
-frames_written mac bytes o are e =
-    let good = not_chosen (nat_lt (length bytes) 2 || nat_lt 64 (number_at bytes 0 2)) _ o e in
-    let long = neither (nat_lt (length bytes) 2) (nat_lt 64 (number_at bytes 0 2)) good.0 in
-    let all = all_read (kinds.Network mac) (several frame_of (number_at bytes 0 2) (drop 2 bytes)) o good.1 in
-    let were = spelled-several frame_of frame_text IsFrame text-frame_of (number_at bytes 0 2) (drop 2 bytes) (all.things, []) (IsBytes-drop 2 bytes are) all.found_is in
+frames_written mac longest bytes o are e =
+    let good = not_chosen (nat_lt (length bytes) 2 || nat_lt (most_waiting longest) (number_at bytes 0 2)) _ o e in
+    let long = neither (nat_lt (length bytes) 2) (nat_lt (most_waiting longest) (number_at bytes 0 2)) good.0 in
+    let all = all_read (net_with mac longest) (several (frame_of longest) (number_at bytes 0 2) (drop 2 bytes)) o good.1 in
+    let were = spelled-several (frame_of longest) frame_text (IsFrame longest) (text-frame_of longest) (number_at bytes 0 2) (drop 2 bytes) (all.things, []) (IsBytes-drop 2 bytes are) all.found_is in
     let texts : drop 2 bytes ≡ flat_map frame_text all.things = were.whole ∙ append-nil (flat_map frame_text all.things) in
     let two : digits 2 (length all.things) ≡ take 2 bytes = ap (digits 2) were.count ∙ digits-number_at 2 bytes 0 are (ltb-false (length bytes) 2 long.0) in
     sym (take-append-drop 2 bytes) ∙ ap (λ (x : List ℕ). x ++ drop 2 bytes) (sym two) ∙ ap (λ (x : List ℕ). digits 2 (length all.things) ++ x) texts ∙ ap kind_text (sym all.kind_is)
@@ -212,8 +228,13 @@ requests_written sectors read_only id (count ∷ bytes) o are e =
 
 -- Of any device.
 
+long_written : (mac : List ℕ) (longest : ℕ) (bytes : List ℕ) (o : Kind) (long : Bool) → IsBytes bytes → cond long (net_kind_in mac longest bytes) None ≡ Some o → bytes ≡ kind_text o
+long_written mac longest bytes o true are e = frames_written mac longest bytes o are e
+long_written mac longest bytes o false are e = absurd cc
+
 pub kind_written : (s : Shape) (bytes : List ℕ) (o : Kind) → IsBytes bytes → kind_in s bytes ≡ Some o → bytes ≡ kind_text o
-kind_written (Net mac) bytes o are e = frames_written mac bytes o are e
+kind_written (Net mac) bytes o are e = frames_written mac 1514 bytes o are e
+kind_written (LongNet mac longest) bytes o are e = long_written mac longest bytes o (ltb 1514 longest) are e
 kind_written (Block sectors read_only id) bytes o are e = requests_written sectors read_only id bytes o are e
 kind_written Console bytes o are e = console_written bytes o are e
 kind_written Entropy bytes o are e = pool_written bytes o are e
@@ -227,7 +248,9 @@ queue_requests base len block r (Some q) at few sound are =
     requests_fit base len (is_packed_by r.common) q r.common (limits_of block r.common.features) block.requests few queue are
 
 pub kind_reads : (len : ℕ) (r : Registers) (k : Kind) → IsSoundShape (made_as k) → IsSoundRegisters r → IsSoundKind len r k → ReadsKind k
-kind_reads len r (kinds.Network mac frames) shape sound are = frames_own mac frames are
+kind_reads len r (kinds.Network mac inbox) shape sound are =
+    let longest = net_longest mac inbox.longest (eqb inbox.longest 1514) refl shape in
+    frames_own mac inbox longest.0 longest.1 are
 kind_reads len r (kinds.Block block) shape sound are =
     requests_own block.sectors block.read_only block.id block.requests (queue_requests r.ram_base len block r (queue_at r 0) refl shape.few sound are)
 kind_reads len r (kinds.Console size held) shape sound are = console_own size held are
@@ -237,10 +260,16 @@ kind_reads len r (kinds.Entropy pool) shape sound are = pool_own pool are
 all_made : {A : Type 0} (has : List A → Kind) (shape : Shape) → ((things : List A) → made_as (has things) ≡ shape) → (found : Option (List A × List ℕ)) (o : Kind) → all_of has found ≡ Some o → made_as o ≡ shape
 all_made has shape each found o e = let all = all_read has found o e in ap made_as all.kind_is ∙ each all.things
 
-frames_made : (mac bytes : List ℕ) (o : Kind) → net_kind_in mac bytes ≡ Some o → made_as o ≡ Net mac
+frames_made : (mac : List ℕ) (longest : ℕ) (bytes : List ℕ) (o : Kind) → net_kind_in mac longest bytes ≡ Some o → made_as o ≡ net_as mac longest
 unfolding net_kind_in
-frames_made mac bytes o e =
-    all_made (kinds.Network mac) (Net mac) (λ things. refl) (several frame_of (number_at bytes 0 2) (drop 2 bytes)) o (not_chosen (nat_lt (length bytes) 2 || nat_lt 64 (number_at bytes 0 2)) _ o e).1
+frames_made mac longest bytes o e =
+    all_made (net_with mac longest) (net_as mac longest) (λ things. refl) (several (frame_of longest) (number_at bytes 0 2) (drop 2 bytes)) o (not_chosen (nat_lt (length bytes) 2 || nat_lt (most_waiting longest) (number_at bytes 0 2)) _ o e).1
+
+long_made : (mac : List ℕ) (longest : ℕ) (bytes : List ℕ) (o : Kind) (long : Bool) → ltb 1514 longest ≡ long → cond long (net_kind_in mac longest bytes) None ≡ Some o → made_as o ≡ LongNet mac longest
+long_made mac longest bytes o true is e =
+    let more = ltb-true 1514 longest is in
+    frames_made mac longest bytes o e ∙ rw (ne_eqb longest 1514 (λ (same : longest ≡ 1514). omega (arith, same, more))) refl
+long_made mac longest bytes o false is e = absurd cc
 
 requests_made : (sectors : ℕ) (read_only : Bool) (id bytes : List ℕ) (o : Kind) → block_kind_in sectors read_only id bytes ≡ Some o → made_as o ≡ Block sectors read_only id
 unfolding block_kind_in
@@ -253,7 +282,8 @@ unfolding console_kind_in
 console_made bytes o e = ap made_as (sym (map_found (kinds.Console (console_size_of bytes)) (held_of (drop 4 bytes)) o (not_chosen (nat_lt (length bytes) 4) _ o e).1).2)
 
 pub kind_made : (s : Shape) (bytes : List ℕ) (o : Kind) → kind_in s bytes ≡ Some o → made_as o ≡ s
-kind_made (Net mac) bytes o e = frames_made mac bytes o e
+kind_made (Net mac) bytes o e = frames_made mac 1514 bytes o e
+kind_made (LongNet mac longest) bytes o e = long_made mac longest bytes o (ltb 1514 longest) refl e
 kind_made (Block sectors read_only id) bytes o e = requests_made sectors read_only id bytes o e
 kind_made Console bytes o e = console_made bytes o e
 kind_made Entropy bytes o e = ap made_as (sym (map_found kinds.Entropy (held_of bytes) o e).2)

@@ -1,7 +1,7 @@
 -- The record of a page, with its bytes or as a page of zeros.
 use Rattle.std.proofs.Common.{◌≡◌, ℕ, Bool, true, false, ◌&&◌, ◌==◌, inl, inr, List, [], ◌∷◌, length, refl, sym, ◌∙◌, arith}
 use Rattle.std.specs.Prelude.{IsTrue, not}
-use Rattle.std.proofs.lemmas.Bool.{eqb-true}
+use Rattle.std.proofs.lemmas.Bool.{eqb-false, eqb-true}
 use Rattle.guestmem.specs.Zeros.{are_zeros}
 use Rattle.machine.proofs.Numbering.{either_way}
 use Rattle.wire.specs.Records.{page, zero_page, is_zero_page, page_record, IsOf}
@@ -40,7 +40,7 @@ bytes_alike n k a b e = cc
 pub one_page : (version n k : ℕ) (a b : List ℕ) → length a ≡ length b → page_record version n a ≡ page_record version k b → a ≡ b
 one_page version n k a b len e = elim (either_way (is_zero_page version a)) as (λ _. a ≡ b) [
   | inl za ↦ elim (either_way (is_zero_page version b)) as (λ _. a ≡ b) [
-    | inl zb ↦ zeros_same a b (both_true (version == 2) (are_zeros a) za).1 (both_true (version == 2) (are_zeros b) zb).1 len
+    | inl zb ↦ zeros_same a b (both_true (not (version == 1)) (are_zeros a) za).1 (both_true (not (version == 1)) (are_zeros b) zb).1 len
     | inr fb ↦ absurd (not_both n k b (sym (as_zeros version n a za) ∙ e ∙ as_page version k b fb))
   ]
   | inr fa ↦ elim (either_way (is_zero_page version b)) as (λ _. a ≡ b) [
@@ -49,16 +49,20 @@ one_page version n k a b len e = elim (either_way (is_zero_page version a)) as (
   ]
 ]
 
+not_so : (b : Bool) → not b ≡ true → b ≡ false
+not_so true e = absurd cc
+not_so false e = refl
+
 -- The version has the record of a page.
 pub has_page_record : (version n : ℕ) (bytes : List ℕ) → IsOf version (page_record version n bytes)
 has_page_record version n bytes = elim (either_way (is_zero_page version bytes)) as (λ _. IsOf version (page_record version n bytes)) [
-  | inl z ↦ rw (as_zeros version n bytes z) (eqb-true version 2 (both_true (version == 2) (are_zeros bytes) z).0)
+  | inl z ↦ rw (as_zeros version n bytes z) (eqb-false version 1 (not_so (version == 1) (both_true (not (version == 1)) (are_zeros bytes) z).0))
   | inr f ↦ rw (as_page version n bytes f) f
 ]
 
--- What a page with these bytes is in version 2.
-pub page_is_of : (version n : ℕ) (b : List ℕ) (zeros : Bool) → version ≡ 2 → zeros ≡ are_zeros b → (IsTrue (not zeros) → IsOf version (page n b)) × (IsOf version (page n b) → IsTrue (not zeros))
-page_is_of version n b zeros second is = rw (second, is) (by_zeros (are_zeros b))
+-- What a page with these bytes is since version 2.
+pub page_is_of : (version n : ℕ) (b : List ℕ) (zeros : Bool) → (version == 1) ≡ false → zeros ≡ are_zeros b → (IsTrue (not zeros) → IsOf version (page n b)) × (IsOf version (page n b) → IsTrue (not zeros))
+page_is_of version n b zeros later is = rw (later, is) (by_zeros (are_zeros b))
   where
     by_zeros : (z : Bool) → (IsTrue (not z) → z ≡ false) × (z ≡ false → IsTrue (not z))
     by_zeros true = (λ e. cc, λ e. cc)

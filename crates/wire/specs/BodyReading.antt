@@ -7,7 +7,8 @@ use Rattle.blk.specs.declared.requests.TheConstants.{REQUESTS_MAX}
 use Rattle.chains.specs.declared.position.Positions.{Positions}
 use Rattle.console.specs.declared.host_bytes.TheConstants.{HOST_BYTES_MAX}
 use Rattle.console.specs.declared.size.ConsoleSize.{ConsoleSize}
-use Rattle.net.specs.declared.limits.TheConstants.{INBOX_MAX}
+use Rattle.net.specs.Inbox.{most_waiting}
+use Rattle.net.specs.declared.limits.TheConstants.{FRAME_MAX}
 use Rattle.mmio.specs.State.{first_queue, first_common}
 use Rattle.mmio.specs.declared.common.Common.{Common}
 use Rattle.mmio.specs.declared.queue.Queue.{Queue}
@@ -22,7 +23,7 @@ use Rattle.machine.specs.State.{DeviceState}
 use Rattle.machine.specs.declared.kind.Kind.{Kind}
 use Rattle.machine.specs.declared.kind.Kind.TheVariants as kinds
 use Rattle.machine.specs.declared.shape.Shape.{Shape}
-use Rattle.machine.specs.declared.shape.Shape.TheVariants.{Net, Block, Console, Entropy}
+use Rattle.machine.specs.declared.shape.Shape.TheVariants.{Net, LongNet, Block, Console, Entropy}
 
 abbrev pub common_from : List ℕ → Common
 common_from (a ∷ b ∷ c ∷ d ∷ e ∷ f ∷ g ∷ rest) = record { status = a; interrupts = b; device_select = c; driver_select = d; features = e; queue_select = f; generation = g }
@@ -77,11 +78,15 @@ abbrev pub all_of : {A : Type 0} → (List A → Kind) → Option (List A × Lis
 all_of has None = None
 all_of has (Some found) = if length found.1 == 0 then Some (has found.0) else None
 
--- A network device with this MAC: its frames.
-unfoldable pub net_kind_in : List ℕ → List ℕ → Option Kind
-net_kind_in mac bytes =
-    if nat_lt (length bytes) 2 || nat_lt INBOX_MAX (number_at bytes 0 2) then None
-    else all_of (kinds.Network mac) (several frame_of (number_at bytes 0 2) (drop 2 bytes))
+-- A network device with this MAC, this longest frame, and these frames.
+abbrev pub net_with : List ℕ → ℕ → List (List ℕ) → Kind
+net_with mac longest frames = kinds.Network mac (record { longest = longest; frames = frames })
+
+-- A network device with this MAC and this longest frame: its frames.
+unfoldable pub net_kind_in : List ℕ → ℕ → List ℕ → Option Kind
+net_kind_in mac longest bytes =
+    if nat_lt (length bytes) 2 || nat_lt (most_waiting longest) (number_at bytes 0 2) then None
+    else all_of (net_with mac longest) (several (frame_of longest) (number_at bytes 0 2) (drop 2 bytes))
 
 -- A block device that was made as this, with these requests.
 abbrev pub block_with : ℕ → Bool → List ℕ → List Request → Kind
@@ -115,7 +120,8 @@ entropy_kind_in bytes = option_map kinds.Entropy (held_of bytes)
 
 -- The kind of a device of this shape, with its state in the bytes after its queues.
 abbrev pub kind_in : Shape → List ℕ → Option Kind
-kind_in (Net mac) bytes = net_kind_in mac bytes
+kind_in (Net mac) bytes = net_kind_in mac FRAME_MAX bytes
+kind_in (LongNet mac longest) bytes = if nat_lt FRAME_MAX longest then net_kind_in mac longest bytes else None
 kind_in (Block sectors read_only id) bytes = block_kind_in sectors read_only id bytes
 kind_in Console bytes = console_kind_in bytes
 kind_in Entropy bytes = entropy_kind_in bytes

@@ -66,7 +66,7 @@ size_text s = spelled size_widths (size_numbers s)
 -- requests in the order of taking; of a console its size and the bytes held for its driver; of an entropy device the bytes of
 -- its pool.
 abbrev pub kind_text : Kind → List ℕ
-kind_text (Network mac frames) = frames_text frames
+kind_text (Network mac inbox) = frames_text inbox.frames
 kind_text (Block block) = requests_text block.requests
 kind_text (Console size held) = size_text size ++ held_text held
 kind_text (Entropy pool) = held_text pool

@@ -1,5 +1,5 @@
 -- The records of a stream. The encoding of each is a head and a body.
-use Rattle.std.specs.Prelude.{◌≡◌, ◌<◌, ◌^◌, ℕ, Bool, true, false, ◌==◌, ◌&&◌, if◌then◌else◌, List, [], ◌++◌, length, drop, Option, Some, None, option_map}
+use Rattle.std.specs.Prelude.{◌≡◌, ◌≢◌, not, ◌<◌, ◌^◌, ℕ, Bool, true, false, ◌==◌, ◌&&◌, if◌then◌else◌, List, [], ◌++◌, length, drop, Option, Some, None, option_map}
 use Rattle.guestmem.specs.Number.{IsBytes}
 use Rattle.guestmem.specs.Zeros.{are_zeros}
 use Rattle.wire.specs.RecordHeads.{spelled_head}
@@ -70,7 +70,7 @@ HasSpelling (zero_page n) = n < 2 ^ 32
 
 -- Whether a page with these bytes is encoded as a page of zeros: where they are all 0, since version 2.
 abbrev pub is_zero_page : ℕ → List ℕ → Bool
-is_zero_page version bytes = (version == 2) && are_zeros bytes
+is_zero_page version bytes = not (version == 1) && are_zeros bytes
 
 -- The record of a page, in a version of the stream.
 abbrev pub page_record : ℕ → ℕ → List ℕ → Record
@@ -79,7 +79,7 @@ page_record version n bytes = if is_zero_page version bytes then zero_page n els
 -- A version has this record. So a page has one encoding in each.
 abbrev pub IsOf : ℕ → Record → Type 0
 IsOf version (page n bytes) = is_zero_page version bytes ≡ false
-IsOf version (zero_page n) = version ≡ 2
+IsOf version (zero_page n) = version ≢ 1
 IsOf version _ = Unit {0}
 
 -- The first `len` bytes are the encoding of this record, which the version has.

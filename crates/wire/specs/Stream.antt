@@ -14,7 +14,7 @@ use Rattle.machine.specs.State.{DeviceState, MachineState}
 use Rattle.machine.specs.Shapes.{made_as}
 use Rattle.machine.specs.declared.shape.Shape.{Shape}
 use Rattle.wire.specs.DeviceBody.{body, IsDeviceOf}
-use Rattle.wire.specs.Header.{IsVersion, Opening, header}
+use Rattle.wire.specs.Header.{IsVersion, Opening, header, version_of}
 use Rattle.wire.specs.Records.{Record, page, sector, round_end, device, commit, zero_page, page_record, spelled_record, HasSpelling, IsOf}
 
 abbrev pub shapes_in : List DeviceState → List Shape
@@ -75,7 +75,7 @@ abbrev pub record_in : ℕ → List ℕ → List (List Sector) → Item → Reco
 record_in version ram disks (items.page n) = page_record version n (page_of ram n)
 record_in version ram disks (items.sector dev n) = sector dev n (content_of (sector_on (slice_get disks dev) n))
 
--- The record of an item in version 2, in which machines are sent.
+-- The record of an item as machines are sent: version 3 has those of version 2.
 abbrev pub record_of : MachineState → Item → Record
 record_of m i = record_in 2 m.ram m.disks i
 
@@ -129,9 +129,9 @@ saved_in version m = before_commit version (pages_of m) (records_in version m (s
 unfoldable pub whole_in : ℕ → MachineState → List ℕ
 whole_in version m = saved_in version m ++ spelled_record (commit (sha256 (saved_in version m)))
 
--- What is saved of a machine, up to the digest and with it: in version 2.
+-- What is saved of a machine, up to the digest and with it: in the version in which it is sent.
 abbrev pub saved : MachineState → List ℕ
-saved m = saved_in 2 m
+saved m = saved_in (version_of (shapes_in m.devices)) m
 
 abbrev pub whole : MachineState → List ℕ
-whole m = whole_in 2 m
+whole m = whole_in (version_of (shapes_in m.devices)) m

@@ -31,6 +31,7 @@ use machine::{DeviceState, Kind, Shape, is_base, offered};
 use mmio::{
     Common, FEATURES_OK, QUEUE_COUNT_MAX, Queue, RING_PACKED, is_sound_common, is_sound_queue,
 };
+use net::FRAME_MAX;
 use std::alloc::Global;
 
 /// Decodes the body of a device of this shape, in a stream of this version of a machine with `ram_len` bytes of RAM from the
@@ -96,7 +97,7 @@ fn queue_count(shape: Shape) -> usize
     ensures { result ≡ queues_of shape }
 {
     match shape {
-        Shape::Net { .. } => net::QUEUE_COUNT as usize,
+        Shape::Net { .. } | Shape::LongNet { .. } => net::QUEUE_COUNT as usize,
         Shape::Block { .. } => blk::QUEUE_COUNT as usize,
         Shape::Console => console::QUEUE_COUNT as usize,
         Shape::Entropy => console::entropy::QUEUE_COUNT as usize,
@@ -119,7 +120,7 @@ fn has_zeroes(shape: Shape, common: &Common) -> bool
         Shape::Block { .. } => {
             common.status & FEATURES_OK == FEATURES_OK && accepts_zeroes(common)
         }
-        Shape::Net { .. } | Shape::Console | Shape::Entropy => false,
+        Shape::Net { .. } | Shape::LongNet { .. } | Shape::Console | Shape::Entropy => false,
     }
 }
 
@@ -208,6 +209,10 @@ fn is_sound_shape(shape: Shape) -> bool
         Shape::Net { mac } => {
             recall_bytes(mac.as_slice());
             true
+        }
+        Shape::LongNet { mac, longest } => {
+            recall_bytes(mac.as_slice());
+            longest > FRAME_MAX
         }
         Shape::Block { sectors, id, .. } => is_block_shape(sectors, &id),
         Shape::Console | Shape::Entropy => true,

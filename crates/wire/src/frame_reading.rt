@@ -1,8 +1,7 @@
 //! Decodes the frames in the body of a network device.
 
 ghost use Rattle.std.specs.Prelude.{◌≡◌, ◌≤◌, IfOk, IfSome, MatchOption, None, Some, length};
-ghost use Rattle.net.specs.Inbox.{IsFrame};
-ghost use Rattle.net.specs.declared.limits.TheConstants.{INBOX_MAX};
+ghost use Rattle.net.specs.Inbox.{Inbox, IsFrame, most_waiting};
 ghost use Rattle.wire.specs.FrameReading.{frame_of};
 ghost use Rattle.wire.specs.Several.{several};
 
@@ -15,16 +14,17 @@ use std::alloc::Global;
 #[tactic(auto, using(crate::proofs::Lists::several_go_on, crate::proofs::Lists::several_fail, crate::proofs::Lists::several_end))]
 pub fn frames_at(
     alloc: Global,
+    longest: u16,
     count: u16,
     bytes: &[u8],
 ) -> Result<Option<(Inbox, &[u8])>, NoMemory>
-    requires { count ≤ INBOX_MAX }
-    ensures { IfOk result (λ found. MatchOption found (several frame_of count bytes.now ≡ None) (λ x. several frame_of count bytes.now ≡ Some (x.0, x.1.now))) }
+    requires { count ≤ most_waiting longest }
+    ensures { IfOk result (λ found. MatchOption found (several (frame_of longest) count bytes.now ≡ None) (λ x. (x.0.longest ≡ longest) × (several (frame_of longest) count bytes.now ≡ Some (x.0.frames, x.1.now)))) }
 {
-    let mut inbox = Inbox::new(alloc)?;
+    let mut inbox = Inbox::new(alloc, longest)?;
     let mut rest = bytes;
     for _ in 0..count {
-        let Some((frame, after)) = frame_at(rest) else {
+        let Some((frame, after)) = frame_at(longest, rest) else {
             return Ok(None);
         };
         inbox.push(frame);
@@ -35,11 +35,11 @@ pub fn frames_at(
 
 /// Decodes a length and the frame that follows it; returns the frame and the bytes after it.
 #[tactic(auto, unfolding(crate::specs::FrameReading::frame_of))]
-fn frame_at(bytes: &[u8]) -> Option<(&[u8], &[u8])>
-    ensures read { MatchOption result (frame_of bytes.now ≡ None) (λ x. frame_of bytes.now ≡ Some (x.0.now, x.1.now)) }
-    ensures frame { IfSome result (λ x. IsFrame x.0.now) }
+fn frame_at(longest: u16, bytes: &[u8]) -> Option<(&[u8], &[u8])>
+    ensures read { MatchOption result (frame_of longest bytes.now ≡ None) (λ x. frame_of longest bytes.now ≡ Some (x.0.now, x.1.now)) }
+    ensures frame { IfSome result (λ x. IsFrame longest x.0.now) }
 {
-    if bytes.len() < COUNT_LEN || !is_frame_len(u16_at(bytes, 0) as usize) {
+    if bytes.len() < COUNT_LEN || !is_frame_len(longest, u16_at(bytes, 0) as usize) {
         return None;
     }
     let len = u16_at(bytes, 0) as usize;

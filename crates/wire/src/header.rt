@@ -5,21 +5,26 @@
 
 ghost use Rattle.std.specs.Prelude.{◌≡◌, ◌≤◌, ◌<◌, ◌+◌, ◌*◌, ◌==◌, ◌||◌, ◌↔◌, IsTrue, IfErr, IfOk, IfSome, MatchOption, drop, false, is_some, length, ℕ, List};
 ghost use Rattle.machine.specs.Limits.{AreWithin, usual};
-ghost use Rattle.wire.specs.Header.{Begins, IsVersion, Opening, said};
-ghost use Rattle.wire.specs.HeaderFaults.{IsHeaderPart, MayCount, OnFault, ShowsFault};
+ghost use Rattle.wire.specs.Header.{Begins, Opening, said};
+ghost use Rattle.wire.specs.HeaderFaults.{IsHeaderPart, IsRead, MayCount, OnFault, ShowsFault, limits_in};
 ghost use Rattle.wire.specs.HeaderParts.{FirstShape, ReadShapes};
 
 use crate::header_error::HeaderError;
 use crate::numbers::u32_at;
-use crate::shape_spelling::{shape_at, shape_len};
+use crate::shape_spelling::{has_long, shape_at, shape_len};
 use machine::{DEVICES_MAX, Limits, Shape};
+use net::FRAME_MAX;
 use std::alloc::{AllocError, Global};
 
 /// "VMIG" as a little-endian number.
 pub const MAGIC: u32 = 0x4749_4d56;
 
-/// The version of the stream that is written. It is read, too.
+/// The version in which machines are written, unless they have a device for long frames. It is read, too.
 pub const VERSION: u32 = 2;
+
+/// The version in which a machine with a device for long frames is written: version 2 with one more row of shapes. It is read where
+/// the limits allow such a device.
+pub const LONG_VERSION: u32 = 3;
 
 /// The first version of the stream, which is read. It has no records of pages of zeros.
 pub const FIRST_VERSION: u32 = 1;
@@ -30,7 +35,7 @@ pub const FRONT_LEN: usize = 16;
 /// What the header of a stream says.
 #[derive(Debug, Drop)]
 pub struct Header {
-    /// The version of the stream: 1 or 2.
+    /// The version of the stream: 1 to 3.
     pub version: u32,
 
     /// The number of pages of RAM.
@@ -83,7 +88,7 @@ pub fn read_header(
         return Ok(None);
     }
     let version = u32_at(bytes, 4);
-    if !is_version(version) {
+    if !is_version(limits, version) {
         return Err(HeaderError::BadVersion);
     }
     if bytes.len() < FRONT_LEN {
@@ -95,9 +100,13 @@ pub fn read_header(
         return Err(HeaderError::BadShape);
     }
     let (_, rest) = bytes.split_at(FRONT_LEN);
-    let Some((shapes, rest)) = read_shapes(alloc, limits, count, rest)? else {
+    let Some((shapes, rest)) = read_shapes(alloc, limits_in(version, limits), count, rest)? else {
         return Ok(None);
     };
+    // Version 3 is that of the devices which version 2 has not: so a machine has one stream of each version that has it.
+    if version == LONG_VERSION && !has_long(&shapes) {
+        return Err(HeaderError::BadVersion);
+    }
     let len = bytes.len() - rest.len();
     Ok(Some(Header {
         version,
@@ -121,7 +130,7 @@ fn first_shape(limits: Limits, bytes: &[u8]) -> Result<Option<(Shape, &[u8])>, H
     let Some((number, _)) = bytes.split_first() else {
         return Ok(None);
     };
-    let Some(len) = shape_len(*number) else {
+    let Some(len) = shape_len(limits, *number) else {
         return Err(HeaderError::BadShape);
     };
     if bytes.len() < len {
@@ -161,10 +170,24 @@ fn may_count(limits: Limits, pages: u32, count: u32) -> bool
     1 <= pages && pages <= limits.pages && 1 <= count && count <= DEVICES_MAX as u32
 }
 
-/// Whether there is this version of the stream.
-pub fn is_version(version: u32) -> bool
-    ensures known { IsTrue result ↔ IsVersion version }
-    ensures is { result ≡ (version == 1 || version == 2) }
+/// Whether a host with these limits reads this version of the stream.
+pub fn is_version(limits: Limits, version: u32) -> bool
+    ensures known { IsTrue result ↔ IsRead limits version }
 {
-    version == FIRST_VERSION || version == VERSION
+    version == FIRST_VERSION
+        || version == VERSION
+        || version == LONG_VERSION && limits.frame > FRAME_MAX
+}
+
+/// What these limits allow in a stream of this version: no device for long frames before version 3.
+fn limits_in(version: u32, limits: Limits) -> Limits
+    ensures { result ≡ limits_in version limits }
+{
+    if version >= LONG_VERSION {
+        return limits;
+    }
+    Limits {
+        frame: FRAME_MAX,
+        ..limits
+    }
 }

@@ -13,7 +13,7 @@ pub enum HeaderError {
     #[error("bad magic: not a machine stream")]
     BadMagic,
 
-    /// The version is neither 1 nor 2. Reported at the eighth byte.
+    /// There is no such version, or it is 3 and the limits allow no device for long frames. Reported at the eighth byte.
     #[error("unsupported stream version")]
     BadVersion,
 

@@ -14,7 +14,7 @@ use blk::{Block, ID_SIZE, REQUESTS_MAX};
 use console::{HOST_BYTES_MAX, HostBytes};
 use guestmem::NoMemory;
 use machine::{Kind, Shape};
-use net::INBOX_MAX;
+use net::{FRAME_MAX, most_waiting};
 use std::alloc::Global;
 
 /// Decodes the last part of a body. `None` if the bytes do not encode one for this shape. Fails only if memory is refused.
@@ -22,7 +22,11 @@ pub fn kind_at(alloc: Global, shape: Shape, bytes: &[u8]) -> Result<Option<Kind>
     ensures { IfOk result (λ found. MatchOption found (kind_in shape bytes.now ≡ None) (λ kind. kind_in shape bytes.now ≡ Some kind)) }
 {
     match shape {
-        Shape::Net { mac } => net_kind_at(alloc, mac, bytes),
+        Shape::Net { mac } => net_kind_at(alloc, mac, FRAME_MAX, bytes),
+        Shape::LongNet { mac, longest } if longest > FRAME_MAX => {
+            net_kind_at(alloc, mac, longest, bytes)
+        }
+        Shape::LongNet { .. } => Ok(None),
         Shape::Block {
             sectors,
             read_only,
@@ -34,15 +38,20 @@ pub fn kind_at(alloc: Global, shape: Shape, bytes: &[u8]) -> Result<Option<Kind>
 }
 
 #[tactic(auto, unfolding(crate::specs::BodyReading::net_kind_in))]
-fn net_kind_at(alloc: Global, mac: [u8; 6], bytes: &[u8]) -> Result<Option<Kind>, NoMemory>
-    ensures { IfOk result (λ found. MatchOption found (net_kind_in mac bytes.now ≡ None) (λ kind. net_kind_in mac bytes.now ≡ Some kind)) }
+fn net_kind_at(
+    alloc: Global,
+    mac: [u8; 6],
+    longest: u16,
+    bytes: &[u8],
+) -> Result<Option<Kind>, NoMemory>
+    ensures { IfOk result (λ found. MatchOption found (net_kind_in mac longest bytes.now ≡ None) (λ kind. net_kind_in mac longest bytes.now ≡ Some kind)) }
 {
-    if bytes.len() < COUNT_LEN || u16_at(bytes, 0) as usize > INBOX_MAX {
+    if bytes.len() < COUNT_LEN || u16_at(bytes, 0) as usize > most_waiting(longest) {
         return Ok(None);
     }
     let count = u16_at(bytes, 0);
     let (_, rest) = bytes.split_at(COUNT_LEN);
-    let Some((inbox, after)) = frames_at(alloc, count, rest)? else {
+    let Some((inbox, after)) = frames_at(alloc, longest, count, rest)? else {
         return Ok(None);
     };
     if !after.is_empty() {

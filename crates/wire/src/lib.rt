@@ -59,7 +59,8 @@ pub use device_reading::{decode_device, decode_device_at};
 pub use digesting::{Digesting, Eager, Nowhere};
 pub use fault_writer::FaultWriter;
 pub use header::{
-    FIRST_VERSION, FRONT_LEN, Header, MAGIC, VERSION, decode_header, is_version, read_header,
+    FIRST_VERSION, FRONT_LEN, Header, LONG_VERSION, MAGIC, VERSION, decode_header, is_version,
+    read_header,
 };
 pub use header_error::HeaderError;
 pub use lengths::{device_len, header_len, page_len};

@@ -1,13 +1,13 @@
 //! Decodes the records of a stream.
 //!
-//! The version is a parameter of `decode_record`, and may be any number: one that is not 2 has the records of version 1. A
+//! The version is a parameter of `decode_record`, and may be any number: one that is not 1 has the records of version 2. A
 //! header of another version is refused before.
 
 ghost use Rattle.std.specs.Prelude.{◌≡◌, ◌≤◌, ◌↔◌, IsTrue, IfSome, MatchOption, length};
 ghost use Rattle.wire.specs.RecordHeads.{body_len};
 ghost use Rattle.wire.specs.Records.{BeginsRecord, BeginsNoRecord, IsOf, record_with, told};
 
-use crate::header::VERSION;
+use crate::header::FIRST_VERSION;
 use crate::record_head::{FoundHead, RecordHead, read_head};
 use guestmem::{PAGE_SIZE, is_zero};
 
@@ -43,18 +43,18 @@ pub enum Record<'a> {
     ZeroPage(u32),
 }
 
-/// Whether this version of the stream has the record of this head and this body: version 2 has a record for a page of zeros, and
-/// no other encoding of such a page.
+/// Whether this version of the stream has the record of this head and this body: since version 2 there is a record for a page of zeros,
+/// and no other encoding of such a page.
 pub fn has_record(version: u32, head: RecordHead, body: &[u8]) -> bool
     requires { length body.now ≡ body_len head }
     ensures { IsTrue result ↔ IsOf version (record_with head body.now) }
 {
     match head {
         RecordHead::Page { .. } => match body.first_chunk::<PAGE_SIZE>() {
-            Some(page) => version != VERSION || !is_zero(page),
+            Some(page) => version == FIRST_VERSION || !is_zero(page),
             None => true,
         },
-        RecordHead::ZeroPage { .. } => version == VERSION,
+        RecordHead::ZeroPage { .. } => version != FIRST_VERSION,
         _ => true,
     }
 }

@@ -1,12 +1,14 @@
 //! Shapes in the header of a stream: the device ID, and what it has.
 
 ghost use Rattle.std.specs.Prelude.{◌≡◌, MatchOption, None, Some};
-ghost use Rattle.wire.specs.Header.{shape_length};
-ghost use Rattle.wire.specs.ShapeReading.{block_shape_of, net_shape_of, shape_of};
+ghost use Rattle.std.specs.List.{list_any};
+ghost use Rattle.wire.specs.Header.{is_long, shape_length};
+ghost use Rattle.wire.specs.ShapeReading.{block_shape_of, long_net_shape_of, net_shape_of, shape_of};
 
-use crate::numbers::{u8_at, u64_at};
+use crate::numbers::{u8_at, u16_at, u64_at};
 use blk::SECTORS_GREATEST;
-use machine::Shape;
+use machine::{Limits, Shape};
+use net::FRAME_MAX;
 
 /// The device ID with which the shape of a network device begins.
 pub const NET_ID: u8 = 1;
@@ -20,8 +22,14 @@ pub const CONSOLE_ID: u8 = 3;
 /// The device ID that is the shape of an entropy device.
 pub const ENTROPY_ID: u8 = 4;
 
+/// The number with which the shape of a network device for long frames begins. Since version 3.
+pub const LONG_NET_ID: u8 = 129;
+
 /// The length of the shape of a network device, in bytes: the ID, and 6 of its MAC.
 pub const NET_SHAPE: usize = 7;
+
+/// The length of the shape of a network device for long frames, in bytes: the number, 6 of its MAC, 2 of its longest frame.
+pub const LONG_NET_SHAPE: usize = 9;
 
 /// The length of the shape of a block device, in bytes: the ID, 8 of its sectors, 1 that says whether it is read-only, 20 of its id.
 pub const BLOCK_SHAPE: usize = 30;
@@ -32,16 +40,17 @@ pub const CONSOLE_SHAPE: usize = 1;
 /// The length of the shape of an entropy device, in bytes.
 pub const ENTROPY_SHAPE: usize = 1;
 
-/// The encoded length of a shape whose first byte, the number of the kind of device, is this. `None` if no kind has
-/// this number.
-pub fn shape_len(number: u8) -> Option<usize>
-    ensures { MatchOption result (shape_length number ≡ None) (λ len. shape_length number ≡ Some len) }
+/// The encoded length of a shape whose first byte, the number of the kind of device, is this. `None` if no kind that the limits allow
+/// has this number.
+pub fn shape_len(limits: Limits, number: u8) -> Option<usize>
+    ensures { MatchOption result (shape_length limits number ≡ None) (λ len. shape_length limits number ≡ Some len) }
 {
     match number {
         NET_ID => Some(NET_SHAPE),
         BLOCK_ID => Some(BLOCK_SHAPE),
         CONSOLE_ID => Some(CONSOLE_SHAPE),
         ENTROPY_ID => Some(ENTROPY_SHAPE),
+        LONG_NET_ID if limits.frame > FRAME_MAX => Some(LONG_NET_SHAPE),
         _ => None,
     }
 }
@@ -59,6 +68,7 @@ pub fn shape_at(bytes: &[u8]) -> Option<(Shape, &[u8])>
         BLOCK_ID => block_shape_at(rest),
         CONSOLE_ID => Some((Shape::Console, rest)),
         ENTROPY_ID => Some((Shape::Entropy, rest)),
+        LONG_NET_ID => long_net_shape_at(rest),
         _ => None,
     }
 }
@@ -74,6 +84,21 @@ fn net_shape_at(bytes: &[u8]) -> Option<(Shape, &[u8])>
     let mut mac = [0; 6];
     mac.copy_from_slice(front);
     Some((Shape::Net { mac }, rest))
+}
+
+#[tactic(auto, unfolding(crate::specs::ShapeReading::long_net_shape_of))]
+fn long_net_shape_at(bytes: &[u8]) -> Option<(Shape, &[u8])>
+    ensures { MatchOption result (long_net_shape_of bytes.now ≡ None) (λ x. long_net_shape_of bytes.now ≡ Some (x.0, x.1.now)) }
+{
+    if bytes.len() < 8 || u16_at(bytes, 6) <= FRAME_MAX {
+        return None;
+    }
+    let longest = u16_at(bytes, 6);
+    let (front, _) = bytes.split_at(6);
+    let (_, rest) = bytes.split_at(8);
+    let mut mac = [0; 6];
+    mac.copy_from_slice(front);
+    Some((Shape::LongNet { mac, longest }, rest))
 }
 
 #[tactic(auto, unfolding(crate::specs::ShapeReading::block_shape_of))]
@@ -100,4 +125,17 @@ fn block_shape_at(bytes: &[u8]) -> Option<(Shape, &[u8])>
         },
         rest,
     ))
+}
+
+/// Whether one of these is a network device for long frames.
+pub(crate) fn has_long(shapes: &[Shape]) -> bool
+    ensures { result ≡ list_any is_long shapes.now }
+{
+    shapes.iter().any(|shape| is_long(*shape))
+}
+
+fn is_long(shape: Shape) -> bool
+    ensures { result ≡ is_long shape }
+{
+    matches!(shape, Shape::LongNet { .. })
 }

@@ -12,12 +12,12 @@
 ghost use Rattle.std.specs.Prelude.{◌≡◌, ◌∷◌, ◌++◌, take, ◌≤◌, ◌<◌, ◌^◌, ◌/◌, ◌%◌, ℕ, List, IsTrue, OnOk, length};
 ghost use Rattle.wire.specs.DeviceBody.{body, held_text, kind_text, queues_text};
 ghost use Rattle.wire.specs.Numbers.{digits};
-ghost use Rattle.wire.specs.Header.{front, header, opening_of, spelled_shape, spelled_shapes};
+ghost use Rattle.wire.specs.Header.{front, header, opening_of, spelled_shape, spelled_shapes, version_of};
 ghost use Rattle.wire.specs.Records.{commit, page, page_record, round_end, device, zero_page, spelled_record};
 ghost use Rattle.wire.specs.Sinks.{Appends, Takes};
 
 use crate::frame_writing::{frames_len, write_frames};
-use crate::header::{FRONT_LEN, MAGIC, VERSION};
+use crate::header::{FRONT_LEN, LONG_VERSION, MAGIC, VERSION};
 use crate::numbers::{COUNT_LEN, count_bytes};
 use crate::record_head::{
     COMMIT_TAG, DEVICE_HEAD, HEAD_MAX, PAGE_HEAD, PAGE_RECORD, ROUND_END_HEAD, RecordHead,
@@ -25,7 +25,7 @@ use crate::record_head::{
 };
 use crate::registers_text::{COMMON_LEN, QUEUE_LEN, common_bytes, queue_bytes};
 use crate::request_writing::{requests_len, write_requests};
-use crate::shape_spelling::{BLOCK_ID, CONSOLE_ID, ENTROPY_ID, NET_ID};
+use crate::shape_spelling::{BLOCK_ID, CONSOLE_ID, ENTROPY_ID, LONG_NET_ID, NET_ID, has_long};
 use crate::sink::{Sink, SinkFault};
 use crate::size_text::{SIZE_LEN, size_bytes};
 use byteorder::{ByteOrder, LittleEndian};
@@ -48,20 +48,30 @@ pub fn encode_header<S: Sink>(pages: u32, shapes: &[Shape], out: &mut S) -> Resu
     ensures taken { OnOk result (Takes (S.sum out.old) (header (opening_of pages shapes.now)) (S.sum out.new)) }
 {
     let count = (shapes.len() % COUNT_END) as u32;
-    out.put(&front_bytes(pages, count))?;
+    out.put(&front_bytes(version_of(shapes), pages, count))?;
     write_shapes(shapes, out)
 }
 
 #[tactic(auto, unfolding(crate::specs::Header::front))]
-fn front_bytes(pages: u32, count: u32) -> [u8; FRONT_LEN]
-    ensures { result ≡ front 2 pages count }
+fn front_bytes(version: u32, pages: u32, count: u32) -> [u8; FRONT_LEN]
+    ensures { result ≡ front version pages count }
 {
     let mut bytes = [0; FRONT_LEN];
     LittleEndian::write_u32(&mut bytes, MAGIC);
-    LittleEndian::write_u32(&mut bytes[4..], VERSION);
+    LittleEndian::write_u32(&mut bytes[4..], version);
     LittleEndian::write_u32(&mut bytes[8..], pages);
     LittleEndian::write_u32(&mut bytes[12..], count);
     bytes
+}
+
+/// The version in which a machine with these devices is written.
+fn version_of(shapes: &[Shape]) -> u32
+    ensures { result ≡ version_of shapes.now }
+{
+    if has_long(shapes) {
+        return LONG_VERSION;
+    }
+    VERSION
 }
 
 #[tactic(auto, using(crate::proofs::Saving::text_more))]
@@ -84,6 +94,11 @@ fn write_shape<S: Sink>(shape: Shape, out: &mut S) -> Result<(), SinkFault>
         Shape::Net { mac } => {
             out.put(&[NET_ID])?;
             out.put(&mac)
+        }
+        Shape::LongNet { mac, longest } => {
+            out.put(&[LONG_NET_ID])?;
+            out.put(&mac)?;
+            out.put(&count_bytes(longest))
         }
         Shape::Block {
             sectors,

@@ -24,6 +24,7 @@ use crate::state::DeviceState;
 use blk::Disk;
 use dirtylog::BitSet;
 use guestmem::{NoMemory, PAGE_SIZE, Ram, recall_bytes};
+use net::FRAME_MAX;
 use std::alloc::Global;
 
 impl<D: Disk + Drop> Machine<D> {
@@ -286,6 +287,7 @@ fn is_beyond(limits: Limits, shape: Shape) -> bool
 {
     match shape {
         Shape::Block { sectors, .. } => sectors == 0 || sectors > limits.sectors as u64,
+        Shape::LongNet { longest, .. } => longest <= FRAME_MAX || longest > limits.frame,
         Shape::Net { .. } | Shape::Console | Shape::Entropy => false,
     }
 }
@@ -304,7 +306,7 @@ fn recall_one(shape: Shape)
     ensures { HasBytes shape }
 {
     match shape {
-        Shape::Net { mac } => recall_bytes(mac.as_slice()),
+        Shape::Net { mac } | Shape::LongNet { mac, .. } => recall_bytes(mac.as_slice()),
         Shape::Block { id, .. } => recall_bytes(id.as_slice()),
         Shape::Console | Shape::Entropy => {}
     }

@@ -5,6 +5,7 @@ use Rattle.wire.proofs.frame_reading.frames_at.Given as goal
 
 abbrev pub invariant-loop : goal.invariant-loop
 invariant-loop l = record {
-  many : length l.inbox ≡ l.counter;
-  whole : in_front l.inbox (several frame_of (l.count - l.counter) l.rest) ≡ several frame_of l.count l.bytes;
+  longest : l.inbox.longest ≡ l.longest;
+  many : length l.inbox.frames ≡ l.counter;
+  whole : in_front l.inbox.frames (several (frame_of l.longest) (l.count - l.counter) l.rest) ≡ several (frame_of l.longest) l.count l.bytes;
 }

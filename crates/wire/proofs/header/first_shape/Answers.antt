@@ -31,7 +31,7 @@ returns-then-bytes-len-clause-first c =
 pub returns-clause-first : goal.returns-clause-first
 returns-clause-first c =
     let e : c.args.bytes.now ≡ c.in-Some-split_first.number.now ∷ c.in-Some-split_first.field-0-1.now = search rules in
-    let some = some_length c.in-Some-split_first.number.now c.in-Some-shape_len.len c.in-Some-shape_len.ensures in
+    let some = some_length c.args.limits c.in-Some-split_first.number.now c.in-Some-shape_len.len c.in-Some-shape_len.ensures in
     (refl, beyond_shape c.args.limits c.in-Some-split_first.number.now c.in-Some-shape_len.len c.args.bytes.now c.in-Some-split_first.field-0-1.now c.in_default.ensures e c.in-Some-shape_len.ensures some (omega arith))
 
 pub returns-in-Some-clause-few : goal.returns-in-Some-clause-few
@@ -41,5 +41,5 @@ returns-in-Some-clause-few c =
 
 pub returns-then-bytes-len-clause-few : goal.returns-then-bytes-len-clause-few
 returns-then-bytes-len-clause-few c =
-    let few = few_length c.in-Some-split_first.number.now c.in-Some-shape_len.len c.in-Some-shape_len.ensures in
+    let few = few_length c.args.limits c.in-Some-split_first.number.now c.in-Some-shape_len.len c.in-Some-shape_len.ensures in
     omega (arith, few)

@@ -1,10 +1,12 @@
-use Rattle.std.proofs.Common.{◌≡◌, refl, arith}
+use Rattle.std.proofs.Common.{◌≡◌, ℕ, ap, arith, refl, subst, sym}
 use Rattle.chains.specs.declared.looking.Wanted.TheVariants.{Request, Room}
 use Rattle.blk.specs.Take.{take_step}
 use Rattle.blk.specs.declared.request.TheConstants.{HEADER_SIZE}
 use Rattle.console.specs.Receive as console
 use Rattle.net.specs.Receive as net
-use Rattle.machine.specs.DeviceStep.{serve}
+use Rattle.chains.specs.Served.{HasRun, scene}
+use Rattle.machine.specs.DeviceStep.{network_with, serve}
+use Rattle.machine.specs.declared.kind.Kind.{Kind}
 use Rattle.machine.specs.declared.kind.Kind.TheVariants.{Network, Block, Console, Entropy}
 use Rattle.machine.proofs.Turns.{run_whole}
 use Rattle.machine.proofs.kind.Kind.serve.Goals as goal
@@ -14,9 +16,13 @@ returns-else-visit-gt0-clause-served g c =
     let first : c.args.visit.number ≡ 0 = omega (arith, c.if-visit-gt0.false) in
     let q = g.R.Ring.state c.args.ring.now in
     let new_q = g.R.Ring.state c.receive.new.ring in
+    let old = c.in-Network.inbox in
+    let new = c.receive.new.inbox in
+    let is : network_with c.in-Network.mac old new.frames ≡ Network c.in-Network.mac new = ap (λ (n : ℕ). Network c.in-Network.mac (record { longest = n; frames = new.frames })) (sym c.receive.ensures.longest) in
     rw (c.in-Network.is, first)
-    (run_whole (Network c.in-Network.mac) g.L.TouchLog.after c.args.ram.now c.receive.new.ram c.args.log.now c.receive.new.log q new_q c.in-Network.inbox c.receive.new.inbox Room net.receive_step
-    (λ ram q kind seen. serve c.args.visit.features kind 0 ram q seen) c.receive.result c.args.sent.now.items (λ seen. refl) (c.receive.ensures.served c.args.sent.now.items))
+    (subst (λ (kind : Kind). HasRun g.L.TouchLog.after (scene c.args.ram.now c.args.log.now q (Network c.in-Network.mac old)) (scene c.receive.new.ram c.receive.new.log new_q kind) Room (λ ram q kind seen. serve c.args.visit.features kind 0 ram q seen) c.receive.result c.args.sent.now.items) is
+    (run_whole (network_with c.in-Network.mac old) g.L.TouchLog.after c.args.ram.now c.receive.new.ram c.args.log.now c.receive.new.log q new_q old.frames new.frames Room net.receive_step
+    (λ ram q kind seen. serve c.args.visit.features kind 0 ram q seen) c.receive.result c.args.sent.now.items (λ seen. refl) (c.receive.ensures.served c.args.sent.now.items)))
 
 pub returns-else-visit-gt0-2-clause-served : goal.returns-else-visit-gt0-2-clause-served
 returns-else-visit-gt0-2-clause-served g c =
