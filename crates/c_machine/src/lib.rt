@@ -16,6 +16,7 @@
 
 mod description;
 mod device_shape;
+mod frames;
 mod images;
 mod making;
 mod mapping;
@@ -27,6 +28,7 @@ pub mod status;
 
 pub use description::{Description, FRAME_MAX, SENT_MAX, message_of};
 pub use device_shape::{DeviceShape, are_zeros};
+pub use frames::has_longer_frames;
 pub use images::count_in;
 pub use making::{machine_on, own_disks, shapes_of, zero_disks};
 pub use mapping::{give_back, mapped_disks};
