@@ -67,10 +67,10 @@ opens_early opening before tail tag more e least most none = record {
   complete = λ late. absurd (omega (arith, most, late.0));
 }
 
-opens_zeros : (opening : Opened) (before : List Record) (tail more : List ℕ) → tail ≡ 6 ∷ more → devices_in before ≡ 0 → opening.version ≡ 2 → Opens opening before tail 6 more
-opens_zeros opening before tail more whole none second = record {
+opens_zeros : (opening : Opened) (before : List Record) (tail more : List ℕ) → tail ≡ 6 ∷ more → devices_in before ≡ 0 → opening.version ≢ 1 → Opens opening before tail 6 more
+opens_zeros opening before tail more whole none later = record {
   whole = whole;
-  may = record { least = omega arith; most = omega arith; early = λ low. none; missing = λ four. absurd (omega (arith, four)); since = λ six. second };
+  may = record { least = omega arith; most = omega arith; early = λ low. none; missing = λ four. absurd (omega (arith, four)); since = λ six. later };
   complete = λ late. absurd (omega (arith, late.1));
 }
 

@@ -305,12 +305,9 @@ is_body version shape base ram_len bytes o are form read sound has =
     let made = kind_made shape (drop (26 + 36 * queues_of shape) bytes) o read in
     record { shape_is = made; sound = sound; has = λ first. ap (λ s. has_zeroes s (common_of bytes)) made ∙ has first; is = body_written base ram_len shape bytes o are form read }
 
--- Version 2 has every device.
+-- Version 2 has every body.
 second_has : (d : DeviceState) → IsDeviceOf 2 d
 second_has d first = absurd (omega (arith, first))
-
-pub second_has_all : (ds : List DeviceState) → All (IsDeviceOf 2) ds
-second_has_all ds k d below first = absurd (omega (arith, first))
 
 -- One body is of one sound device, and it is short.
 pub one_body : {base : ℕ} (ram_len : ℕ) (d e : DeviceState) → made_as d.kind ≡ made_as e.kind → IsSoundDevice base ram_len d → IsSoundDevice base ram_len e → body d ≡ body e → d ≡ e
