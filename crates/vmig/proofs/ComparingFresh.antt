@@ -149,17 +149,8 @@ or_right false b is = is
 
 pub shapes_are_long : (pages : ℕ) (shapes : List Shape) → new_refusal pages shapes (disk_sizes shapes) ≡ None → All IsLong shapes
 shapes_are_long pages shapes exists =
-    let bytes = PAGE_SIZE * pages in
-    let within = (not_refused (is_beyond_limits usual 0 bytes shapes) (are_same (disk_sizes shapes) (disk_sizes shapes)) exists).within in
-    all_long usual shapes (
-        or_right (nat_lt DEVICES_MAX (length shapes)) (are_beyond usual shapes) (
-            or_right (length shapes == 0) (nat_lt DEVICES_MAX (length shapes) || are_beyond usual shapes) (
-                or_right (not (is_ram_size usual bytes)) (length shapes == 0 || nat_lt DEVICES_MAX (length shapes) || are_beyond usual shapes) (
-                    or_right (not (is_base 0 bytes)) (not (is_ram_size usual bytes) || length shapes == 0 || nat_lt DEVICES_MAX (length shapes) || are_beyond usual shapes) within
-                )
-            )
-        )
-    )
+    let within = (not_refused (is_beyond_limits usual 0 (PAGE_SIZE * pages) shapes) (are_same (disk_sizes shapes) (disk_sizes shapes)) exists).within in
+    all_long usual shapes (or_right _ _ (or_right _ _ (or_right _ _ (or_right _ _ within))))
 
 -- A rehearsal of it over such disks.
 pub is_rehearsed : {D E : Type 0} (c : Contents) (machine : Seen) (shapes : List Shape) (events : List LiveEvent) (disks : List (List (List ℕ))) (rehearsal : Rehearsal D E) → IsFreshMachine c machine → shapes ≡ c.shapes → events ≡ c.events → disks ≡ zero_disks shapes
