@@ -128,6 +128,6 @@ saved_in_parts m =
     let head = header (opening_of (pages_of m) (shapes_in m.devices)) in
     append_assoc head (texts (records_below m (pages_of m))) (sectors_text m ++ device_texts 0 m.devices)
     ∙ ap (λ t. head ++ t) (
-        sym (append_assoc (texts (records_below m (pages_of m))) (sectors_text m) (device_texts 0 m.devices)) ∙ ap (λ t. t ++ device_texts 0 m.devices) (sym (items_in_parts m))
-        ∙ ap (λ rs. texts rs ++ device_texts 0 m.devices) (sym (sent_records m (size_of (layout_of m))))
+    sym (append_assoc (texts (records_below m (pages_of m))) (sectors_text m) (device_texts 0 m.devices)) ∙ ap (λ t. t ++ device_texts 0 m.devices) (sym (items_in_parts m))
+    ∙ ap (λ rs. texts rs ++ device_texts 0 m.devices) (sym (sent_records m (size_of (layout_of m))))
     )
