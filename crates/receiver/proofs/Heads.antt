@@ -1,5 +1,5 @@
 -- Headers as far as they came, and their faults for what is said of RAM and disks.
-use Rattle.std.proofs.Common.{◌≡◌, ℕ, ◌⊎◌, List, sym, ap, subst, ◌∙◌}
+use Rattle.std.proofs.Common.{◌≡◌, ℕ, List, sym, ap, subst, ◌∙◌}
 use Rattle.machine.specs.Limits.{AreWithin, usual}
 use Rattle.machine.specs.Shapes.{disk_sizes}
 use Rattle.machine.specs.declared.limits.Limits.{Limits}

@@ -14,7 +14,6 @@ use Rattle.wire.proofs.Digits.{length-digits, number_at-append}
 use Rattle.wire.proofs.Spelling.{head_same, tail_same}
 use Rattle.wire.proofs.Unique.{cons_same}
 use Rattle.machine.specs.declared.limits.Limits.{Limits}
-use Rattle.machine.specs.declared.shape.Shape.{Shape}
 use Rattle.receiver.specs.Good.{devices_in}
 use Rattle.wire.specs.HeaderFaults.{IsBadShape, IsBadVersion, IsNoShape, IsPlain, IsRead, IsShapeFor, Says, limits_in}
 use Rattle.receiver.specs.Faults.{Opens, IsFault, IsRecordFault, IsHeaderFault, Fault}
