@@ -1,15 +1,16 @@
 -- The fresh machine of a trace, of which a machine without disks tells whether there is one.
-use Rattle.std.proofs.Common.{◌≡◌, ℕ, ◌*◌, Bool, true, false, not, if◌then◌else◌, List, [], ◌∷◌, length, map, replicate, Option, Some, None, Result, Ok, Err, IfSome, IfErr, MatchOption, refl, ap, sym, subst, ◌∙◌}
+use Rattle.std.proofs.Common.{◌≡◌, ℕ, ◌*◌, ◌||◌, All, Bool, true, false, not, if◌then◌else◌, List, [], ◌∷◌, length, map, replicate, Option, Some, None, Result, Ok, Err, IfSome, IfErr, MatchOption, refl, ap, sym, subst, ◌∙◌}
+use Rattle.std.specs.Prelude.{◌==◌, nat_lt}
 use Rattle.std.specs.List.{AllByRecursion}
 use Rattle.std.proofs.lemmas.List.Elements.{All-from_recursion}
 use Rattle.guestmem.specs.declared.limits.TheConstants.{PAGE_SIZE}
 use Rattle.machine.proofs.Fresh.{all_long}
 use Rattle.machine.proofs.MadeAs.{IsLong}
 use Rattle.machine.specs.Limits.{usual}
-use Rattle.machine.specs.First.{are_same, dealt_marks, first_machine, is_beyond_limits, marks_in, new_refusal}
+use Rattle.machine.specs.First.{are_beyond, are_same, dealt_marks, first_machine, is_base, is_beyond_limits, is_ram_size, marks_in, new_refusal}
+use Rattle.machine.specs.declared.machine.TheConstants.{DEVICES_MAX}
 use Rattle.machine.specs.Seen.{Marks, Seen, all_marks, state_of}
-use Rattle.machine.specs.Shapes.{disk_sizes, first_device, made_as}
-use Rattle.machine.specs.State.{DeviceState}
+use Rattle.machine.specs.Shapes.{disk_sizes}
 use Rattle.machine.specs.declared.new_error.NewError.{NewError}
 use Rattle.machine.specs.declared.new_error.NewError.TheVariants.{BadShape, DiskMismatch, NoMemory}
 use Rattle.machine.specs.declared.shape.Shape.{Shape}
@@ -149,8 +150,10 @@ or_right false b is = is
 
 pub shapes_are_long : (pages : ℕ) (shapes : List Shape) → new_refusal pages shapes (disk_sizes shapes) ≡ None → All IsLong shapes
 shapes_are_long pages shapes exists =
-    let within = (not_refused (is_beyond_limits usual 0 (PAGE_SIZE * pages) shapes) (are_same (disk_sizes shapes) (disk_sizes shapes)) exists).within in
-    all_long usual shapes (or_right _ _ (or_right _ _ (or_right _ _ (or_right _ _ within))))
+    let bytes = PAGE_SIZE * pages in
+    let within = (not_refused (is_beyond_limits usual 0 bytes shapes) (are_same (disk_sizes shapes) (disk_sizes shapes)) exists).within in
+    let others = not (is_base 0 bytes) || not (is_ram_size usual bytes) || length shapes == 0 || nat_lt DEVICES_MAX (length shapes) in
+    all_long usual shapes (or_right others (are_beyond usual shapes) within)
 
 -- A rehearsal of it over such disks.
 pub is_rehearsed : {D E : Type 0} (c : Contents) (machine : Seen) (shapes : List Shape) (events : List LiveEvent) (disks : List (List (List ℕ))) (rehearsal : Rehearsal D E) → IsFreshMachine c machine → shapes ≡ c.shapes → events ≡ c.events → disks ≡ zero_disks shapes
