@@ -1,5 +1,5 @@
 -- The calls of an arrival, by cases on the handle.
-use Rattle.std.proofs.Common.{◌≡◌, ℕ, false, List, ap, ◌∙◌, subst, true≢false}
+use Rattle.std.proofs.Common.{◌≡◌, ℕ, Bool, false, List, ap, ◌∙◌, subst, true≢false}
 use Rattle.std.specs.Prelude.{Option, Some, None, is_some}
 use Rattle.vmig_c.specs.Arriving.{Fed, FeedsKept, Finished, FinishesKept, fed_after}
 use Rattle.vmig_c.specs.Kept.{KeptSeen}
