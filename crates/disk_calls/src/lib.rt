@@ -4,7 +4,7 @@
 //! does them when it likes, in any order, and answers each by its number. `Calls` knows which are out. It is no part of a machine, and is
 //! not moved. It sees a machine through the trait `Asks`: the outstanding requests of each device, in the order of taking.
 //!
-//! Three rules keep a guest's sectors right, where a host does a call while the guest goes on:
+//! Three rules keep a guest's sectors right where a host executes calls while the guest runs:
 //! 1. A call is handed out only where it overlaps none of its device that is out, and nothing that an earlier request has left: else two
 //!    writes of one sector end in either order, and a read gives what was there before a write. `Calls::next` keeps it.
 //! 2. A register write or a reset that would drop a request whose call is out is not made: else its write lands over what the driver
