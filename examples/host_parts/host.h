@@ -151,7 +151,7 @@ int wait_for_word(void);
 int move_further(struct host *h);
 /* Whether a part of a move may be made now, or a move is asked for. */
 int move_is_due(const struct host *h);
-/* No move goes on: the thread of the line ends, and the other end is told why. */
+/* Ends the move, if there is one: the thread of its line ends, and the other end is told why. */
 void leave_line(struct host *h, const char *why);
 
 /* target.c: waits for a guest that is moved here, and returns when it is to run. */
