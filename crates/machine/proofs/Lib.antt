@@ -1,4 +1,6 @@
 mod Turns
+mod DiskAnswers
+pub mod DiskEvents
 pub mod DeviceTurns
 mod Advancing
 pub mod Agreeing

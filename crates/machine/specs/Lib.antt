@@ -18,6 +18,7 @@ pub mod NextWork
 pub mod Looked
 pub mod NextBad
 pub mod Outcome
+pub mod Outside
 pub mod PageLog
 pub mod Parked
 pub mod QueuePositions
