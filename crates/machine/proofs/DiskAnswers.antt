@@ -35,13 +35,13 @@ use Rattle.machine.proofs.Outstanding.{rest_inside}
 use Rattle.machine.proofs.Staying.{same_registers, stays_sound}
 
 -- A device whose request awaited the answer, and one by two tests.
-abbrev taken_so : DeviceState → blocks.Block → Answer → Answering → DeviceAnswer
+abbrev pub taken_so : DeviceState → blocks.Block → Answer → Answering → DeviceAnswer
 taken_so d block answer a = record { reply = reply_to_disk answer; writes = a.writes; sets = []; device = record d { kind = Outside (with_requests block a.requests) } }
 
-abbrev by_tests : Bool → Bool → DeviceState → blocks.Block → Answer → Answering → DeviceAnswer
+abbrev pub by_tests : Bool → Bool → DeviceState → blocks.Block → Answer → Answering → DeviceAnswer
 by_tests may taken d block answer a = cond may (cond taken (taken_so d block answer a) (unmoved d Idle)) (unmoved d Idle)
 
-abbrev step_for : DeviceState → blocks.Block → ℕ → Answer → Answering
+abbrev pub step_for : DeviceState → blocks.Block → ℕ → Answer → Answering
 step_for d block pick answer = answer_step d.registers.ram_base block.requests (pick - 1) answer
 
 -- It is never told as a refusal.

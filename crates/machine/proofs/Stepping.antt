@@ -1,5 +1,5 @@
 -- Steps of a device as they are made: its positions are held in an array with room to spare.
-use Rattle.std.proofs.Common.{◌≡◌, ℕ, zero, suc, ◌-◌, ◌<◌, ◌≤◌, Bool, true, false, cond, List, [], ◌∷◌, length, take, set, get_or, Option, Some, None, Result, Ok, Err, refl, ap, ◌∙◌, arith, append-nil}
+use Rattle.std.proofs.Common.{◌≡◌, ℕ, zero, suc, ◌-◌, ◌<◌, ◌≤◌, Bool, true, false, cond, List, [], ◌∷◌, length, take, set, get_or, Option, Some, None, Result, Ok, Err, refl, sym, ap, ◌∙◌, arith, append-nil}
 use Rattle.std.specs.Prelude.{not, slice_get}
 use Rattle.std.proofs.lemmas.Option.{slice_get-get_or, slice_get_past, slice_get_within}
 use Rattle.std.proofs.Math.Seq.{take-set-lt}
@@ -18,6 +18,7 @@ use Rattle.blk.specs.declared.advancing.Advanced.TheVariants as advanced
 use Rattle.blk.specs.declared.block.Block as blocks
 use Rattle.mmio.specs.Interrupts.{used_raised}
 use Rattle.mmio.specs.State.{Registers, first_queue, queue_at, with_common}
+use Rattle.mmio.specs.declared.common.Common.{Common}
 use Rattle.mmio.specs.declared.queue.Queue.{Queue}
 use Rattle.chains.specs.Served.{HasRun, IsServed, scene}
 use Rattle.chains.specs.Service.{Answer, Did, Empty, Malformed, deed_in}
@@ -33,7 +34,7 @@ use Rattle.chains.specs.declared.served.Unserved.TheVariants as why
 use Rattle.machine.specs.DeviceStep.{advances, advanced_at, advanced_by, device_step, is_advance_due, is_outside, looks, looked_at, looked_step, requests_of, reply_of, reply_to, reply_to_advance, registers_after, serve, wanted_of}
 use Rattle.machine.specs.DeviceWork.{IsDeviceStep}
 use Rattle.machine.specs.Outcome.{Outcome, fine, disk_failed, no_memory, disk_does, is_failure, outcome_of}
-use Rattle.machine.specs.Shapes.{made_as, sector_count}
+use Rattle.machine.specs.Shapes.{device_id_of, made_as, offered_of, sector_count}
 use Rattle.machine.specs.Sound.{AreSoundBeside, IsSoundDevice, IsSoundShape}
 use Rattle.machine.specs.State.{DeviceState}
 use Rattle.machine.specs.Stepped.{looked_registers, looked_reply}
@@ -322,3 +323,15 @@ advanced_outside touches number honest ram content block r held pick q a new_ram
 
 pub fine_outside : (a : Advanced) → is_disk_failed a ≡ false → is_failure (reply_to_advance a) ≡ false
 fine_outside a was_fine = failure_by a ∙ was_fine
+
+-- A copy of the registers of a sound device.
+pub copied : {base : ℕ} (len : ℕ) (d : DeviceState) (id offered at : ℕ) (c : Common) (qs : List Queue) → IsSoundDevice base len d → id ≡ device_id_of (made_as d.kind) → offered ≡ offered_of (made_as d.kind) → at ≡ d.registers.ram_base → c ≡ d.registers.common → qs ≡ d.registers.queues
+    → ◌≡◌ {A = Registers} (record { device_id = id; offered = offered; ram_base = at; ram_len = len; common = c; queues = qs }) d.registers
+copied len d id offered at c qs sound id_is offered_is at_is common_is queues_are = λ i. record {
+  device_id = (id_is ∙ sym sound.device_id) i;
+  offered = (offered_is ∙ sym sound.offered) i;
+  ram_base = at_is i;
+  ram_len = (sym sound.ram_len) i;
+  common = common_is i;
+  queues = queues_are i;
+}

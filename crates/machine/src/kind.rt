@@ -311,7 +311,7 @@ impl Kind {
 }
 
 /// Whether queue 0 is ready.
-fn is_first_ready(queues: &[Queue]) -> bool
+pub(crate) fn is_first_ready(queues: &[Queue]) -> bool
     ensures { result ≡ is_first_ready queues.now }
 {
     matches!(queues, [first, ..] if first.is_ready)

@@ -8,6 +8,7 @@ ghost use Rattle.std.specs.Prelude.{◌≡◌, IfSome, Some, map, slice_get};
 ghost use Rattle.blk.specs.Outside.{Did, Failed, Gave};
 ghost use Rattle.machine.specs.Applied.{IsApplied, IsAppliedLogged, MayItems};
 ghost use Rattle.machine.specs.Calls.{HasCalled};
+ghost use Rattle.machine.specs.Dropping.{drops_of};
 ghost use Rattle.machine.specs.Outside.{IsFilled, MayAsk, disk_call_of, disk_reply};
 ghost use Rattle.machine.specs.Seen.{state_of};
 ghost use Rattle.machine.specs.Shapes.{made_as};
@@ -51,6 +52,19 @@ impl<D: Disk> Machine<D> {
         self.devices[dev]
             .state()
             .written_bytes(pick, &self.ram, buf)
+    }
+
+    /// Whether this register write would drop requests that may have asked something of a disk outside: a reset of their device, or QueueReady 0
+    /// of their queue. While a call is out for one of them, do not make it (crate `disk_calls`). Nothing is written.
+    pub fn drops_requests(&self, dev: u8, offset: u32, width: u8, value: u32) -> bool
+        ensures { result ≡ drops_of (state_of self.now) dev offset width value }
+    {
+        let dev = dev as usize;
+        if dev >= self.devices.len() {
+            return false;
+        }
+        let state = self.devices[dev].state();
+        state.drops_requests(self.ram.len(), offset, width, value)
     }
 
     /// A disk outside gave these bytes: whole sectors, from the first one that is asked for on. The result says whether the request that the pick

@@ -1,6 +1,6 @@
 //! A device whose disk is outside of the machine: what it asks of the disk, what the disk answers, and its steps that need no disk.
 
-ghost use Rattle.std.specs.Prelude.{◌≡◌, ◌++◌, ℕ, List, [], Bool, IfSome, Some, None, true, false, drop, length};
+ghost use Rattle.std.specs.Prelude.{◌≡◌, ◌++◌, ℕ, List, [], Bool, IfSome, Some, None, true, false, drop, length, nat_lt};
 ghost use Rattle.guestmem.specs.Item.{MayPages};
 ghost use Rattle.guestmem.specs.Later.{IsLater};
 ghost use Rattle.guestmem.specs.Rises.{Touches};
@@ -12,22 +12,26 @@ ghost use Rattle.blk.specs.declared.request.Request.{Request};
 ghost use Rattle.machine.specs.AnyRing.{decoder_in};
 ghost use Rattle.machine.specs.DeviceStep.{advanced_at, is_outside, looked_at};
 ghost use Rattle.machine.specs.DeviceWork.{IsDeviceStep};
+ghost use Rattle.machine.specs.Dropping.{drops_requests};
 ghost use Rattle.machine.specs.Outcome.{is_failure};
-ghost use Rattle.machine.specs.Outside.{MayAsk, TakesAnswer, asking_request, asking_requests, changes_sectors, outside_call};
+ghost use Rattle.machine.specs.Outside.{MayAsk, TakesAnswer, asking_request, asking_requests, changes_sectors, outside_call, outside_requests};
 ghost use Rattle.machine.specs.Shapes.{made_as};
 ghost use Rattle.machine.specs.Sound.{IsSoundDevice};
 ghost use Rattle.machine.specs.Stepped.{reply_in};
 
 use crate::any_ring::AnyRing;
-use crate::kind::Kind;
+use crate::kind::{Kind, is_first_ready};
 use crate::outside_call::OutsideCall;
 use crate::reply::Refusal;
-use crate::state::{DeviceState, is_due, raise_if, reply_to_advance};
+use crate::state::{
+    DeviceState, device_id, is_due, offered, queue_count, raise_if, reply_to_advance,
+};
 use crate::stepped::Stepped;
 use crate::work::Work;
 use blk::{FLUSH, Job, Request, What};
 use chains::Ring;
 use guestmem::{Ram, TouchLog};
+use mmio::Regs;
 use std::alloc::Global;
 
 impl DeviceState {
@@ -152,6 +156,39 @@ impl DeviceState {
             Kind::Network { .. } | Kind::Block(_) | Kind::Console { .. } | Kind::Entropy(_) => {
                 Err(Refusal::WrongKind)
             }
+        }
+    }
+
+    /// Whether this register write would drop requests that may have asked something of a disk outside, in a machine whose RAM has `ram_len`
+    /// bytes. It is tried on a copy of the registers.
+    pub(crate) fn drops_requests(&self, ram_len: u64, offset: u32, width: u8, value: u32) -> bool
+        requires sound { IsSoundDevice self.now.registers.ram_base ram_len self.now }
+        ensures { result ≡ drops_requests self.now offset width value }
+    {
+        if !self.has_outside_requests() {
+            return false;
+        }
+        let shape = self.kind.shape();
+        let mut registers = Regs::new_at(
+            device_id(shape),
+            offered(shape),
+            queue_count(shape),
+            self.registers.ram_base(),
+            ram_len,
+        );
+        registers.restore(self.registers.common(), self.registers.queues());
+        let _effect = registers.write(offset, width, value);
+        !is_first_ready(registers.queues())
+    }
+
+    /// Whether there are outstanding requests of a device whose disk is outside.
+    fn has_outside_requests(&self) -> bool
+        ensures { result ≡ nat_lt 0 (length (outside_requests self.now.kind)) }
+    {
+        match &self.kind {
+            Kind::Outside(block) => block.requests.len() > 0,
+            Kind::Network { .. } | Kind::Block(_) | Kind::Console { .. } | Kind::Entropy(_) =>
+                false,
         }
     }
 
