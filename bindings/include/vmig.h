@@ -217,7 +217,8 @@ extern "C" {
 #define VMIG_NONNULL_(...)
 #endif
 
-/* The version of this library. The streams that it writes are of version 2; it reads those of versions 1 and 2. */
+/* The version of this library. It reads streams of versions 1 to 3. It writes version 3 where a device is for frames of more than
+ * 1,514 bytes, and else version 2. */
 #define VMIG_VERSION "1.0.0"
 #define VMIG_VERSION_MAJOR 1
 #define VMIG_VERSION_MINOR 0
@@ -244,7 +245,7 @@ enum {
     VMIG_OUT_OF_RAM = 2,                /* the access is not all in RAM; of pages: there is no such page */
     VMIG_TOO_LONG = 3,                  /* an access to RAM of more than 4,096 bytes */
     VMIG_WRONG_KIND = 4,                /* a device of this kind has no such call, or no disk */
-    VMIG_BAD_FRAME = 5,                 /* a frame of fewer than 14 or more than 1,514 bytes */
+    VMIG_BAD_FRAME = 5,                 /* a frame of fewer than 14 bytes, or of more than the longest of its device */
 
     /* Refused: the call. */
     VMIG_NO_SECTOR = 7,                 /* the disk has no such sector */
@@ -269,13 +270,14 @@ enum {
 
     /* Refused: what arrives. The arrival is over, and the handle waits for vmig_free or vmig_release. */
     VMIG_STREAM_BAD_MAGIC = 33,         /* it does not begin with "VMIG" */
-    VMIG_STREAM_BAD_VERSION = 34,       /* a stream whose version is neither 1 nor 2 */
+    VMIG_STREAM_BAD_VERSION = 34,       /* a version after 3; or version 3, to an arrival that names no longest frame, or, at the
+                                         * header's end, of a machine without a device for long ones */
     VMIG_STREAM_BAD_SHAPE = 35,         /* it announces what no machine can be, or, to an arrival without VMIG_LARGE, what none
                                          * without this flag can be */
     VMIG_STREAM_MISMATCH = 36,          /* at the header: not the shapes, images or pages of RAM that the arrival names; or RAM
                                          * from its base on would pass the last address */
     VMIG_STREAM_BAD_TAG = 37,           /* a tag that may not come there */
-    VMIG_STREAM_BAD_PAGE = 38,          /* there is no such page, or its 4,096 bytes are all 0 in version 2 */
+    VMIG_STREAM_BAD_PAGE = 38,          /* there is no such page, or, since version 2, its 4,096 bytes are all 0 */
     VMIG_STREAM_BAD_SECTOR = 39,        /* there is no such sector */
     VMIG_STREAM_BAD_ROUND = 40,         /* the end of a round that is not the next */
     VMIG_STREAM_BAD_DEVICE = 41,        /* a device that is not the next, or cannot be: so it is of most arrivals whose base is not
@@ -338,7 +340,8 @@ typedef struct vmig_shape {
     uint8_t mac[6];                     /* of a network device */
     uint64_t sectors;                   /* of a disk: 1 to 2,097,152 sectors of 512 bytes, to 4,294,967,295 with VMIG_LARGE */
     uint8_t id[20];                     /* of a disk: the id that it returns to a driver */
-    uint32_t frame;                     /* 0 */
+    uint32_t frame;                     /* of a network device: how many bytes its longest frame has, 1,515 to 65,535 with
+                                         * VMIG_LARGE; 0: 1,514, and no MTU is offered */
     uint64_t reserved[2];               /* 0 */
 } vmig_shape;                           /* 56 bytes, no padding */
 
@@ -406,11 +409,11 @@ typedef struct vmig_setup {
 
 #define VMIG_SETUP {1, 0, VMIG_NULL_, 0, VMIG_NULL_, 0, VMIG_NULL_, 0, VMIG_NO_RAM, 0, 0, 0, {0, 0, 0, 0}}
 
-/* Flags. VMIG_LARGE: the machine may be as large as its stream can tell, with 4,294,967,295 pages (16 TiB) and as many sectors
- * (2 TiB) of each disk. Without it a machine of more than 16,384 pages (64 MiB), or of a disk of more than 2,097,152 sectors
- * (1 GiB), is refused, made or arriving. Let large RAM be yours: the library fills its own with zeros when it makes a machine, and
- * at vmig_finish the pages that did not come, while the guest stands. vmig_save, and a stop before which nothing was copied, hold
- * the whole stream in memory. */
+/* Flags. VMIG_LARGE: the machine may be as large as its stream can tell, with 4,294,967,295 pages (16 TiB), as many sectors
+ * (2 TiB) of each disk, and frames of 65,535 bytes. Without it a machine of more than 16,384 pages (64 MiB), of a disk of more than
+ * 2,097,152 sectors (1 GiB), or of a device for frames of more than 1,514 bytes is refused, made or arriving. Let large RAM be
+ * yours: the library fills its own with zeros when it makes a machine, and at vmig_finish the pages that did not come, while the
+ * guest stands. vmig_save, and a stop before which nothing was copied, hold the whole stream in memory. */
 #define VMIG_LARGE 1u
 
 /* VMIG_LOG: the pages that calls write are logged, for vmig_written. It takes some instructions more a step, and a bit for each
@@ -437,7 +440,9 @@ typedef struct vmig_arrival {
                                          * is refused, else the driver finds its rings at other bytes. A multiple of 4,096. RAM of
                                          * the library that would reach past the last address is VMIG_STREAM_MISMATCH */
     uint32_t flags;                     /* any of VMIG_LARGE and VMIG_LOG, or 0 */
-    uint32_t frame;                     /* 0 */
+    uint32_t frame;                     /* how many bytes the longest frame of each network device may have, 1,515 to 65,535 with
+                                         * VMIG_LARGE, else VMIG_NOT_KNOWN; a longer one is VMIG_STREAM_TOO_LARGE. 0: 1,514, and
+                                         * then version 3 of the stream, in which longer ones come, is VMIG_STREAM_BAD_VERSION */
     uint64_t most_outside;              /* 0 */
     uint32_t block, zero;               /* 0 */
     uint64_t reserved[2];               /* 0 */
@@ -521,9 +526,13 @@ vmig_status vmig_reg_write(vmig_machine *m, uint8_t dev, uint32_t off, uint8_t w
  * step, a resize, a reset. Tell a controller of changes alone: some take a level that is told again for another interrupt. */
 uint32_t vmig_lines(const vmig_machine *m) VMIG_NONNULL_(1);
 
-/* The host puts bytes in: entropy, text for a console, or one frame of 14 to 1,514 bytes. *kept of its bytes were kept: the first
- * ones, a frame whole or not at all. The rest is still yours. Entropy devices and consoles hold 4,096 bytes, network devices 64
- * frames. Put in entropy before the guest runs, and as it is taken: at an empty pool a request waits, and no step is named for it.
+/* The host puts bytes in: entropy, text for a console, or one frame, of 14 bytes to the longest of its device. *kept of its bytes
+ * were kept: the first ones, a frame whole or not at all. The rest is still yours. Entropy devices and consoles hold 4,096 bytes.
+ * Network devices hold 64 frames, or, where the longest has more than 1,514 bytes, 96,896 / longest: 63 of 1,518, 10 of 9,018, one
+ * of 65,535, and no more of short ones. Put in entropy before the guest runs, and as it is taken: at an empty pool a request waits,
+ * and no step is named for it.
+ *     A network device whose shape names its longest frame offers its driver MTU, which is 18 bytes less: an Ethernet header and a
+ * VLAN tag. Of more than MTU + 14 bytes put in frames with a VLAN tag alone (VIRTIO 1.2, 5.1.4.1).
  * NO_DEVICE, WRONG_KIND (a block device), BAD_FRAME. */
 vmig_status vmig_input(vmig_machine *m, uint8_t dev, const uint8_t *bytes, size_t len, size_t *kept) VMIG_CHECKED_(1, 5);
 
@@ -562,8 +571,8 @@ vmig_status vmig_next(const vmig_machine *m, uint8_t *dev, uint8_t *pick) VMIG_C
  * to be sent, which goes into buf; the bytes of buf after it are as they were. *len becomes the length of a message (SENT), or the
  * used length (COMPLETED), and is as it was with any other status.
  * IDLE (nothing to do, or a pick that names no work of the device), TAKEN, MOVED, BAD_SECTOR, DISK_FAILED, COMPLETED, SENT,
- * DROPPED, NEEDS_RESET. NO_DEVICE, TOO_SMALL (it may send more than size: 1,514 are enough for a network device, 65,536 for a
- * console, and 0 for a block or entropy device and for each pick but 1), NO_MEMORY. */
+ * DROPPED, NEEDS_RESET. NO_DEVICE, TOO_SMALL (it may send more than size: the longest frame is enough for a network device,
+ * 65,536 for a console, and 0 for a block or entropy device and for each pick but 1), NO_MEMORY. */
 vmig_status vmig_step(vmig_machine *m, uint8_t dev, uint8_t pick, uint8_t *buf, size_t size, uint32_t *len) VMIG_CHECKED_(1, 6);
 
 /* A turn of the devices. Begin with VMIG_TURN, keep it with the machine, and set `left` before each turn. */
@@ -698,8 +707,8 @@ vmig_status vmig_save(const vmig_machine *m, uint8_t *buf, size_t size, size_t *
 
 /* A machine will arrive within the limits and in the memory that the arrival names: the only way in. RAM and disks that are not
  * yours are taken as soon as the header of the stream has come and fits.
- * NOT_KNOWN, BAD_RAM (not whole pages, or too many; most_pages beside it), BAD_SHAPE (of shapes), BAD_BASE, BAD_IMAGES (not those
- * of shapes), NO_MEMORY. */
+ * NOT_KNOWN, BAD_RAM (not whole pages, or too many; most_pages beside it), BAD_SHAPE (of shapes, also where one names a longest
+ * frame, and the arrival none), BAD_BASE, BAD_IMAGES (not those of shapes), NO_MEMORY. */
 vmig_status vmig_arrive(vmig_arrival *arrival, vmig_machine *m) VMIG_CHECKED_(1, 2);
 
 /* The next bytes of the stream, in pieces of any size. VMIG_OK: they have no fault so far. VMIG_WHOLE: the stream has ended, and is

@@ -85,7 +85,7 @@ static void take_frames(struct host *h)
     if (h->wire < 0) return;
     int hears = is_driven(h, (unsigned)h->devices.network);
     for (int i = 0; i < FRAMES_A_TURN; i++) {
-        if (h->frame_length == 0) h->frame_length = network_receive(h->wire, h->frame);
+        if (h->frame_length == 0) h->frame_length = network_receive(h->wire, h->frame, devices_longest_frame(&h->devices));
         if (h->frame_length == 0) return;
         if (hears) must(vmig_room(&h->machine, (uint8_t)h->devices.network, &room), "vmig_room");
         if (hears && room == 0) return;

@@ -1,6 +1,7 @@
 #include <stdio.h>
 #include <stdlib.h>
 #include <string.h>
+#include "network.h"
 #include "options.h"
 #include "say.h"
 
@@ -45,6 +46,7 @@ static void take_word(struct options *o, const char *option, const char *word)
     if (text != NULL) *text = word;
     else if (strcmp(option, "--disk") == 0) add_disk(o, word);
     else if (strcmp(option, "--mem") == 0) o->mib = number_of(option, word, 1, RAM_MIB_MAX);
+    else if (strcmp(option, "--mtu") == 0) o->mtu = number_of(option, word, MTU_MIN, MTU_MAX);
     else if (strcmp(option, "--rounds") == 0) o->rounds = number_of(option, word, 1, 1000000);
     else if (strcmp(option, "--few") == 0) o->few = number_of(option, word, 0, 1000000);
     else misused("there is no such option", option);
@@ -56,6 +58,7 @@ static void compare(const struct options *o)
     if (o->kernel != NULL && o->listen != NULL) misused("a guest that is moved here has its kernel already", "--kernel");
     if (o->listen != NULL && (o->initrd != NULL || o->append != NULL)) misused("--initrd and --append belong to --kernel", "--listen");
     if (o->net != NULL && strchr(o->net, ',') == NULL) misused("it is OWN,PEER: two sockets", "--net");
+    if (o->net == NULL && o->mtu != 0) misused("it belongs to --net", "--mtu");
 }
 
 void options_read(struct options *o, int count, char **words)

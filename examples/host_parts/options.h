@@ -10,7 +10,7 @@ enum { DISKS_MAX = WINDOWS - 3 };
 struct options {
     const char *kernel, *initrd, *append, *listen, *connect, *net;
     const char *disks[DISKS_MAX];
-    unsigned count_disks, mib, rounds, few;
+    unsigned count_disks, mib, mtu, rounds, few;  /* mtu: 0 where none is offered */
     int stats, no_reboot;
 };
 

@@ -113,6 +113,18 @@ static void begins(struct host *h)
     }
 }
 
+/* What is left to be sent, where all of it is. */
+static void ask_left(struct host *h)
+{
+    vmig_left left;
+
+    expect("begin", vmig_send_begin(&h->machine), VMIG_OK);
+    LEAST("what is left", IDLE_TURNS, expect("left", vmig_send_left(&h->machine, &left), VMIG_OK));
+    expect("pages that are due", left.due_pages, h->pages);
+    expect("sectors that are due", left.due_sectors, h->sectors);
+    expect("abort", vmig_send_abort(&h->machine), VMIG_OK);
+}
+
 /* Some pages all over RAM are marked. */
 static void mark_some(struct host *h)
 {
@@ -253,6 +265,7 @@ static void run(struct host *h, const char *what, uint8_t *to)
     if (strcmp(what, "times") == 0) {
         loans(h);
         begins(h);
+        ask_left(h);
         let_arrive(h);
     }
     if (strcmp(what, "move") == 0) move(h, to);

@@ -157,7 +157,7 @@ static void refuse_a_large_one(void)
     is_refused(VMIG_STREAM_BAD_SHAPE, header, 16, 16, NULL, NULL);
     header[8] = header[9] = 0;
     expect("no page", vmig_stream_describe(header, sizeof header, &announced), VMIG_STREAM_BAD_SHAPE);
-    header[4] = 3;
+    header[4] = 4;
     expect("of another version", vmig_stream_describe(header, sizeof header, &announced), VMIG_STREAM_BAD_VERSION);
     header[0] = 'v';
     expect("of another kind", vmig_stream_describe(header, sizeof header, &announced), VMIG_STREAM_BAD_MAGIC);

@@ -230,6 +230,32 @@ void large()
     EXPECT(arrived.describe().pages == pages && arrived.describe().flags == VMIG_LARGE);
 }
 
+// One whose frames are longer arrives where it is said how long they may be.
+void long_frames()
+{
+    vmig_shape shape = {VMIG_NETWORK, 0, {2, 0, 0, 0, 0, 1}, 0, {}, 9018, {}};
+    std::vector<std::uint8_t> stream(1 << 16), frame(9018);
+    vmig_setup setup = VMIG_SETUP;
+    vmig_arrival arrival = VMIG_ARRIVAL;
+    machine m, arrived;
+    std::size_t len = 0, kept = 0;
+
+    setup.pages = 1, setup.shapes = &shape, setup.count = 1, setup.flags = VMIG_LARGE;
+    EXPECT(m.make(&setup), status::ok);
+    EXPECT(m.describe().shapes[0].frame == 9018 && m.describe().message == 9018);
+    EXPECT(m.input(0, frame.data(), frame.size(), &kept), status::ok);
+    EXPECT(m.save(stream.data(), stream.size(), &len), status::ok);
+    arrival.most_pages = 1, arrival.flags = VMIG_LARGE, arrival.frame = 9017;
+    EXPECT(arrived.arrive(&arrival), status::ok);
+    EXPECT(arrived.feed(stream.data(), len), status::stream_too_large);
+    arrived.free();
+    arrival.frame = 9018;
+    EXPECT(arrived.arrive(&arrival), status::ok);
+    EXPECT(arrived.feed(stream.data(), len), status::whole);
+    EXPECT(arrived.finish(), status::ok);
+    EXPECT(arrived.describe().shapes[0].frame == 9018);
+}
+
 }  // namespace
 
 int main()
@@ -238,6 +264,7 @@ int main()
     idle_and_lent();
     moved();
     large();
+    long_frames();
     EXPECT(vmig::version() == VMIG_VERSION_NUMBER);
     std::printf(failures == 0 ? "calls: all as expected\n" : "calls: %d not as expected\n", failures);
     return failures != 0;

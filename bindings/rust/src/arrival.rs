@@ -53,6 +53,7 @@ pub struct ArrivalBuilder {
     devices: Vec<Device>,
     most_pages: u32,
     most_sectors: u64,
+    longest_frame: u16,
     base: u64,
     flags: u32,
     parts: Parts,
@@ -68,6 +69,12 @@ impl ArrivalBuilder {
     /// The most sectors of all disks together, in memory of the library. Images are their own limit, and this is not looked at beside them.
     pub fn most_sectors(self, most_sectors: u64) -> ArrivalBuilder {
         ArrivalBuilder { most_sectors, ..self }
+    }
+
+    /// The most bytes of a frame of its network devices, 1,515 at least, of a machine that may be [`large`](Self::large). Where this is not
+    /// said it is 1,514, and a stream with a [`Device::LongNetwork`] is refused as `StreamBadVersion`.
+    pub fn longest_frame(self, longest_frame: u16) -> ArrivalBuilder {
+        ArrivalBuilder { longest_frame, ..self }
     }
 
     /// One more device: the machine of the stream has exactly those that are named. Where none is named it may have any.
@@ -112,7 +119,7 @@ impl ArrivalBuilder {
         ArrivalBuilder { flags: self.flags | raw::LOG, ..self }
     }
 
-    /// The arrival begins. Refusals, in their order: `BadRam` (the memory is not whole pages, or has too many; or `most_pages` beside it),
+    /// The arrival begins. Refusals, in their order: `NotKnown` (a longest frame of less than 1,515 bytes, or of no large machine), `BadRam` (the memory is not whole pages, or has too many; or `most_pages` beside it),
     /// `BadShape`, `BadBase`, `BadImages` (not those of the devices), `NoMemory`.
     pub fn begin(mut self) -> Result<Arrival, Refused<ArrivalBuilder>> {
         match self.arrive() {
@@ -142,6 +149,7 @@ impl ArrivalBuilder {
             ram: self.parts.memory.as_mut().map_or(raw::NO_RAM, Memory::slot),
             base: self.base,
             flags: self.flags,
+            frame: self.longest_frame.into(),
             ..raw::ARRIVAL
         };
         // SAFETY: the slices are valid for the call, and the handle is of no machine. RAM and images are owned by what the machine's owner

@@ -69,8 +69,8 @@ impl MachineBuilder {
         self
     }
 
-    /// RAM may have up to 4,294,967,295 pages (16 TiB), and each disk as many sectors (2 TiB). Large RAM should be a [`Memory`]: the library
-    /// fills what it allocates for itself.
+    /// RAM may have up to 4,294,967,295 pages (16 TiB), each disk as many sectors (2 TiB), and a network device frames of 65,535 bytes
+    /// ([`Device::LongNetwork`]). Large RAM should be a [`Memory`]: the library fills what it allocates for itself.
     pub fn large(self) -> MachineBuilder {
         MachineBuilder { flags: self.flags | raw::LARGE, ..self }
     }

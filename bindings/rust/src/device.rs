@@ -7,10 +7,18 @@ use crate::raw;
 #[derive(Clone, Copy, Debug, PartialEq, Eq, Hash)]
 #[non_exhaustive]
 pub enum Device {
-    /// A network device with this MAC.
+    /// A network device with this MAC, for frames of up to 1,514 bytes.
     Network {
         /// The address of its card.
         mac: [u8; 6],
+    },
+
+    /// A network device for longer frames, of a large machine. It offers its driver MTU, of 18 bytes less than the longest frame.
+    LongNetwork {
+        /// The address of its card.
+        mac: [u8; 6],
+        /// How many bytes its longest frame has: 1,515 at least.
+        longest: u16,
     },
 
     /// A block device of 1 to 2,097,152 sectors of 512 bytes, of a large machine to 4,294,967,295.
@@ -47,6 +55,7 @@ impl Device {
         let none = raw::Shape::default();
         match self {
             Device::Network { mac } => raw::Shape { kind: raw::NETWORK, mac, ..none },
+            Device::LongNetwork { mac, longest } => raw::Shape { kind: raw::NETWORK, mac, frame: longest.into(), ..none },
             Device::Block { sectors, read_only, id } => raw::Shape { kind: raw::BLOCK, sectors, read_only: read_only.into(), id, ..none },
             Device::Console => raw::Shape { kind: raw::CONSOLE, ..none },
             Device::Entropy => raw::Shape { kind: raw::ENTROPY, ..none },
@@ -56,7 +65,8 @@ impl Device {
     /// `None` of a kind that this crate does not know.
     pub(crate) fn of(shape: &raw::Shape) -> Option<Device> {
         match shape.kind {
-            raw::NETWORK => Some(Device::Network { mac: shape.mac }),
+            raw::NETWORK if shape.frame == 0 => Some(Device::Network { mac: shape.mac }),
+            raw::NETWORK => Some(Device::LongNetwork { mac: shape.mac, longest: u16::try_from(shape.frame).ok()? }),
             raw::BLOCK => Some(Device::Block { sectors: shape.sectors, read_only: shape.read_only != 0, id: shape.id }),
             raw::CONSOLE => Some(Device::Console),
             raw::ENTROPY => Some(Device::Entropy),
@@ -83,7 +93,8 @@ mod tests {
     #[test]
     fn a_device_is_its_shape() {
         let disk = Device::Block { sectors: 7, read_only: true, id: *b"abcdefghijklmnopqrst" };
-        for device in [Device::Network { mac: [1, 2, 3, 4, 5, 6] }, disk, Device::disk(9), Device::Console, Device::Entropy] {
+        let long = Device::LongNetwork { mac: [1, 2, 3, 4, 5, 6], longest: 9018 };
+        for device in [Device::Network { mac: [1, 2, 3, 4, 5, 6] }, long, disk, Device::disk(9), Device::Console, Device::Entropy] {
             assert_eq!(Device::of(&device.shape()), Some(device));
         }
     }

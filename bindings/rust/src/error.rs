@@ -22,7 +22,7 @@ pub enum Error {
     /// The call does not apply to this kind of device, or it has no disk.
     WrongKind = raw::WRONG_KIND,
 
-    /// A frame has fewer than 14 or more than 1,514 bytes.
+    /// A frame has fewer than 14 bytes, or more than the longest of its device.
     BadFrame = raw::BAD_FRAME,
 
     /// The disk has no such sector.
@@ -139,7 +139,7 @@ const TEXTS: &[(Error, &str)] = &[
     (Error::OutOfRam, "the access is outside RAM"),
     (Error::TooLong, "the access is longer than 4,096 bytes"),
     (Error::WrongKind, "the call does not apply to this kind of device"),
-    (Error::BadFrame, "invalid frame length: not 14 to 1,514 bytes"),
+    (Error::BadFrame, "invalid frame length: not 14 bytes to the longest of the device"),
     (Error::NoSector, "no such sector"),
     (Error::NoMachine, "no machine"),
     (Error::InUse, "the handle has a machine already"),

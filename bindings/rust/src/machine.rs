@@ -245,7 +245,7 @@ impl Machine {
         unsafe { raw::vmig_lines(&self.held) }
     }
 
-    /// The host puts bytes in: entropy, text for a console, or one frame of 14 to 1,514 bytes. It tells how many were kept: the first ones, a
+    /// The host puts bytes in: entropy, text for a console, or one frame, of 14 bytes to the longest of its device. It tells how many were kept: the first ones, a
     /// frame whole or not at all.
     pub fn input(&mut self, dev: u8, bytes: &[u8]) -> Result<usize, Error> {
         let mut kept = 0;

@@ -26,7 +26,7 @@ pub struct Shape {
     pub sectors: u64,
     /// Of a disk: the id that it returns to a driver.
     pub id: [u8; 20],
-    /// 0.
+    /// Of a network device: how many bytes its longest frame has; 0: 1,514.
     pub frame: u32,
     /// 0.
     pub reserved: [u64; 2],
@@ -171,7 +171,7 @@ pub struct Arrival {
     pub base: u64,
     /// `LARGE`, `LOG`, both, or 0.
     pub flags: u32,
-    /// 0.
+    /// How many bytes the longest frame of a network device may have; 0: 1,514.
     pub frame: u32,
     /// 0.
     pub most_outside: u64,
@@ -326,7 +326,7 @@ pub const OUT_OF_RAM: u32 = 2;
 pub const TOO_LONG: u32 = 3;
 /// A device of this kind has no such call, or no disk.
 pub const WRONG_KIND: u32 = 4;
-/// A frame of fewer than 14 or more than 1,514 bytes.
+/// A frame of fewer than 14 bytes, or of more than the longest of its device.
 pub const BAD_FRAME: u32 = 5;
 /// The disk has no such sector.
 pub const NO_SECTOR: u32 = 7;

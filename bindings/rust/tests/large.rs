@@ -39,6 +39,28 @@ fn a_disk_is_large_where_that_is_asked_for() {
     assert_eq!(more.error, Error::BadShape);
 }
 
+/// Frames are as long as a device is made for, and arrive where as long ones are allowed.
+#[test]
+fn long_frames_arrive_where_they_are_allowed() {
+    let long = Device::LongNetwork { mac: [2, 0, 0, 0, 0, 1], longest: 9018 };
+    let refused = Machine::builder().pages(1).device(long).build().unwrap_err();
+    assert_eq!(refused.error, Error::BadShape);
+    let mut machine = refused.value.large().build().unwrap();
+    assert_eq!((machine.room(0), machine.message_len(), machine.devices()), (Ok(10), 9018, Ok(vec![long])));
+    assert_eq!((machine.input(0, &[1; 9018]), machine.input(0, &[1; 9019])), (Ok(9018), Err(Error::BadFrame)));
+    let stream = machine.save().unwrap();
+    assert_eq!(announced(&stream).unwrap().unwrap().devices, [long]);
+    let usual = || Arrival::builder().most_pages(1);
+    assert_eq!(usual().longest_frame(9018).begin().unwrap_err().error, Error::NotKnown);
+    assert_eq!(usual().large().longest_frame(1514).begin().unwrap_err().error, Error::NotKnown);
+    assert_eq!(usual().large().device(long).begin().unwrap_err().error, Error::BadShape);
+    assert_eq!(usual().large().begin().unwrap().feed(&stream), Err(Error::StreamBadVersion));
+    assert_eq!(usual().large().longest_frame(9017).begin().unwrap().feed(&stream), Err(Error::StreamTooLarge));
+    let mut arrival = usual().large().longest_frame(9018).device(long).begin().unwrap();
+    assert_eq!(arrival.feed(&stream), Ok(true));
+    assert_eq!(arrival.finish().unwrap().save().unwrap(), stream);
+}
+
 /// The stream of a large machine whose device has a queue and a buffer in the last pages, and whose last page was written.
 fn stream() -> Vec<u8> {
     let memory = Memory::zeros(PAGES).unwrap();

@@ -1,5 +1,6 @@
 pub mod Description
 pub mod Expected
+pub mod Frames
 pub mod Images
 pub mod Made
 pub mod Making

@@ -51,10 +51,11 @@ are_known flags = not (nat_lt 3 flags)
 abbrev pub limits_for : ℕ → Limits
 limits_for flags = if asks_large flags then greatest else usual
 
--- Frames as long as an arrival allows by name: 0 are the usual ones.
+-- How large a machine may be whose header is read: where an arrival names a longest frame, a header may tell any.
 abbrev pub arrival_limits : ℕ → ℕ → Limits
-arrival_limits flags frame = if frame == 0 then record (limits_for flags) { frame = 1514 } else record (limits_for flags) { frame = frame % 65536 }
+arrival_limits flags frame = record (limits_for flags) { frame = if frame == 0 then usual.frame else greatest.frame }
 
+-- It names none, or, for a large machine, one of 1,515 to 65,535 bytes.
 abbrev pub is_known_frame : ℕ → ℕ → Bool
 is_known_frame flags frame = frame == 0 || (asks_large flags && (nat_lt 1514 frame && nat_lt frame 65536))
 

@@ -5,7 +5,8 @@
 //!
 //! # What the layer above may rely on
 //! - `setup_refusal` and `arrival_refusal` say why a struct is refused, in one order, and change nothing (`specs/Made`, `specs/Expected`).
-//!   How large a machine may be its flags say (`limits_for`).
+//!   How large a machine may be its flags say (`limits_for`), and whether a header may tell of long frames the arrival (`arrival_limits`).
+//! - `has_longer_frames` says whether a device is for longer frames than an arrival names (`specs/Frames`).
 //! - `machine_on` makes the machine over the memory in a slot, which is taken, or over zeros; where memory is refused the slot is as it was,
 //!   and the disks come back. Disks lie in memory of the library (`own_disks`) or in images of the caller (`mapped_disks`), which
 //!   `give_back` puts back where they lay.
@@ -16,6 +17,7 @@
 
 mod description;
 mod device_shape;
+mod frames;
 mod images;
 mod making;
 mod mapping;
@@ -27,6 +29,7 @@ pub mod status;
 
 pub use description::{Description, FRAME_MAX, SENT_MAX, message_of};
 pub use device_shape::{DeviceShape, are_zeros};
+pub use frames::has_longer_frames;
 pub use images::count_in;
 pub use making::{machine_on, own_disks, shapes_of, zero_disks};
 pub use mapping::{give_back, mapped_disks};

@@ -100,7 +100,7 @@ pub struct Expected<'a, 'i> {
     /// What else is asked for: any of `LARGE` and `LOG`.
     pub flags: u32,
 
-    /// 0, until a later version gives it a meaning.
+    /// The most bytes that a frame of its network devices may have, 1,515 to 65,535, with `LARGE`. 0 are 1,514.
     pub frame: u32,
 
     /// 0, until a later version gives it a meaning.
@@ -183,20 +183,19 @@ pub fn limits_for(flags: u32) -> Limits
     Limits::usual()
 }
 
-/// The limits of a machine that arrives: those of its flags, and frames as long as are allowed by name.
+/// The limits within which the header of a machine is read that arrives: those of its flags, and frames of any length where a longest one
+/// is allowed by name.
 pub fn arrival_limits(flags: u32, frame: u32) -> Limits
     ensures { result ≡ arrival_limits flags frame }
 {
-    let limits = limits_for(flags);
-    if frame == 0 {
-        return Limits {
-            frame: FRAME_MAX as u16,
-            ..limits
-        };
-    }
+    let frames = if frame == 0 {
+        Limits::usual()
+    } else {
+        Limits::greatest()
+    };
     Limits {
-        frame: (frame % FRAME_END) as u16,
-        ..limits
+        frame: frames.frame,
+        ..limits_for(flags)
     }
 }
 
@@ -270,7 +269,7 @@ fn is_known_arrival(expected: &mut Expected) -> bool
         && are_zeros(&expected.reserved)
 }
 
-/// Whether an arrival with these flags may allow frames of so many bytes: 0 are the usual ones, and longer ones are large.
+/// Whether an arrival with these flags may name such a longest frame: none, or one that a device for long frames can have.
 fn is_known_frame(flags: u32, frame: u32) -> bool
     ensures { result ≡ is_known_frame flags frame }
 {

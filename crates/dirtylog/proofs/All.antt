@@ -26,7 +26,7 @@ all_full count len room whole = record {
   above = λ k h. past_words (full count) k (omega (arith, length-replicate count (2 ^ 64 - 1), h, room.fit, room.tight, whole));
 }
 
-last_is : (used : ℕ) → used ≤ 64 → (2 ^ 64 - 1) / 2 ^ (64 - used) ≡ 2 ^ used - 1
+pub last_is : (used : ℕ) → used ≤ 64 → (2 ^ 64 - 1) / 2 ^ (64 - used) ≡ 2 ^ used - 1
 last_is used h =
     let back : 64 - (64 - used) ≡ used = omega arith in
     ones_shr 64 (64 - used) (omega arith) ∙ rw back refl

@@ -7,3 +7,4 @@ mod Flags
 mod Levels
 mod Finding
 mod MemberLaws
+pub mod WordCounts

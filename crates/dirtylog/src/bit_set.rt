@@ -4,7 +4,9 @@ ghost use Rattle.std.specs.Prelude.{◌≡◌, ◌<◌, ◌≤◌, ◌↔◌, �
 ghost use Rattle.dirtylog.specs.Members.{has, HasNone, IsLeastFrom, LooksThrough, member_count};
 ghost use Rattle.dirtylog.specs.Words.{HasRoomFor};
 
-use crate::bits::{WORD_BITS, clear_all, clear_bit, has_bit, set_all, set_bit, unmark, zeros};
+use crate::bits::{
+    WORD_BITS, clear_all, clear_bit, count_ones, has_bit, set_all, set_bit, unmark, zeros,
+};
 use crate::scan::{Reader, find_bit};
 use std::alloc::{AllocError, Global};
 use std::marker::Model;
@@ -142,17 +144,13 @@ impl BitSet {
         self.members
     }
 
-    /// How many members are below this number. It looks at each number below it.
+    /// How many members are below this number. It looks at each word of 64 numbers below it.
     pub fn count_below(&self, n: u64) -> u64
         requires { n ≤ length self.now }
         ensures below { result ≡ member_count (take n self.now) }
         ensures rest { member_count self.now ≡ result + member_count (drop n self.now) }
     {
-        let mut count = 0;
-        for k in 0..n {
-            count += self.contains(k) as u64;
-        }
-        count
+        count_ones(&self.words, n)
     }
 
     /// Gives all members to another set of the same length, which has none. Afterwards this one has none.

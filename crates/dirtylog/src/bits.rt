@@ -1,7 +1,8 @@
 //! Bits in words of 64.
 
-ghost use Rattle.std.specs.Prelude.{◌≡◌, ◌<◌, ◌*◌, ◌==◌, length, replicate, get_or, IfOk};
-ghost use Rattle.dirtylog.specs.Words.{bit_in, AreAll, HasRoomFor, IsUnmarked, IsWithBit};
+ghost use Rattle.std.specs.Prelude.{◌≡◌, ◌<◌, ◌≤◌, ◌*◌, ◌%◌, ◌^◌, ◌==◌, count_ones as ones, length, replicate, get_or, IfOk};
+ghost use Rattle.dirtylog.specs.Members.{member_count};
+ghost use Rattle.dirtylog.specs.Words.{bit_in, flags_of, AreAll, HasRoomFor, IsUnmarked, IsWithBit};
 
 use std::alloc::{AllocError, Global};
 
@@ -14,6 +15,31 @@ pub(crate) fn has_bit(words: &[u64], n: u64) -> bool
     ensures { result ≡ (bit_in words.now n == 1) }
 {
     words[(n / WORD_BITS) as usize] >> (n % WORD_BITS) & 1 == 1
+}
+
+/// How many of the lowest `count` bits of a word are set.
+fn ones_below(word: u64, count: u64) -> u64
+    requires some { 0 < count }
+    requires few { count ≤ 64 }
+    ensures { result ≡ ones (word % 2 ^ count) }
+{
+    (word & (u64::MAX >> (WORD_BITS - count))).count_ones() as u64
+}
+
+/// How many of the bits below bit n are set.
+pub(crate) fn count_ones(words: &[u64], n: u64) -> u64
+    requires { n ≤ 64 * length words.now }
+    ensures { result ≡ member_count (flags_of words.now n) }
+{
+    let mut count = 0;
+    for at in 0..n / WORD_BITS {
+        count += ones_below(words[at as usize], WORD_BITS);
+    }
+    let rest = n % WORD_BITS;
+    if rest != 0 {
+        count += ones_below(words[(n / WORD_BITS) as usize], rest);
+    }
+    count
 }
 
 /// Sets bit n.

@@ -2,7 +2,6 @@
 use Rattle.std.specs.Prelude.{◌≡◌, ℕ, ◌-◌, ◌++◌, ◌<◌, ◌≤◌, List, length, ◌==◌, replicate, if◌then◌else◌}
 use Rattle.guestmem.specs.Number.{IsBytes, little_bytes}
 use Rattle.net.specs.declared.limits.TheConstants.{FRAME_GREATEST, FRAME_MAX}
-use Rattle.net.specs.declared.shape.TheConstants.{TAGGED_HEADER}
 
 -- A MAC has 6 bytes.
 pub record IsMac (mac : List ℕ) : Type 0 where
@@ -15,9 +14,9 @@ pub record IsLongNet (mac : List ℕ) (longest : ℕ) : Type 0 where
   pub longer : FRAME_MAX < longest
   pub most : longest ≤ FRAME_GREATEST
 
--- The most bytes of a payload: what the longest frame has beside an Ethernet header with a VLAN tag.
+-- The most bytes of a payload: what the longest frame has beside an Ethernet header with a VLAN tag, 14 bytes and 4.
 abbrev pub mtu_of : ℕ → ℕ
-mtu_of longest = longest - TAGGED_HEADER
+mtu_of longest = longest - 18
 
 -- The configuration space (VIRTIO 1.2, 5.1.4): the MAC; and of a device for long frames `status` and `max_virtqueue_pairs`, which
 -- are 0, and the MTU.

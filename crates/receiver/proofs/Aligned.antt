@@ -1,5 +1,5 @@
 -- Whole good records in the same bytes are the same.
-use Rattle.std.proofs.Common.{◌≡◌, ℕ, false, ◌+◌, ◌*◌, ◌^◌, ◌<◌, ◌≤◌, ◌⊎◌, inl, inr, Some, None, List, [], ◌∷◌, ◌++◌, length, drop, refl, sym, ap, ◌∙◌, append_assoc, append-nil, arith}
+use Rattle.std.proofs.Common.{◌≡◌, ◌≢◌, ℕ, false, ◌+◌, ◌*◌, ◌^◌, ◌<◌, ◌≤◌, ◌⊎◌, inl, inr, Some, None, List, [], ◌∷◌, ◌++◌, length, drop, refl, sym, ap, ◌∙◌, append_assoc, append-nil, arith}
 use Rattle.std.proofs.lemmas.List.{length-drop}
 use Rattle.std.specs.List.{AllByRecursion}
 use Rattle.wire.specs.Numbers.{digits}
@@ -67,10 +67,10 @@ opens_early opening before tail tag more e least most none = record {
   complete = λ late. absurd (omega (arith, most, late.0));
 }
 
-opens_zeros : (opening : Opened) (before : List Record) (tail more : List ℕ) → tail ≡ 6 ∷ more → devices_in before ≡ 0 → opening.version ≡ 2 → Opens opening before tail 6 more
-opens_zeros opening before tail more whole none second = record {
+opens_zeros : (opening : Opened) (before : List Record) (tail more : List ℕ) → tail ≡ 6 ∷ more → devices_in before ≡ 0 → opening.version ≢ 1 → Opens opening before tail 6 more
+opens_zeros opening before tail more whole none later = record {
   whole = whole;
-  may = record { least = omega arith; most = omega arith; early = λ low. none; missing = λ four. absurd (omega (arith, four)); since = λ six. second };
+  may = record { least = omega arith; most = omega arith; early = λ low. none; missing = λ four. absurd (omega (arith, four)); since = λ six. later };
   complete = λ late. absurd (omega (arith, late.1));
 }
 

@@ -1,11 +1,11 @@
 -- Headers as far as they came, and their faults for what is said of RAM and disks.
-use Rattle.std.proofs.Common.{◌≡◌, ℕ, ◌⊎◌, List, sym, ap, subst, ◌∙◌}
+use Rattle.std.proofs.Common.{◌≡◌, ℕ, List, sym, ap, subst, ◌∙◌}
 use Rattle.machine.specs.Limits.{AreWithin, usual}
 use Rattle.machine.specs.Shapes.{disk_sizes}
 use Rattle.machine.specs.declared.limits.Limits.{Limits}
 use Rattle.machine.specs.declared.shape.Shape.{Shape}
 use Rattle.wire.specs.Header.{Begins, Opening}
-use Rattle.wire.specs.HeaderFaults.{IsBadCount, IsBadShape, IsHeaderPart, OnFault, ShowsFault}
+use Rattle.wire.specs.HeaderFaults.{IsHeaderPart, OnFault, ShowsFault}
 use Rattle.wire.specs.declared.header_error.HeaderError.{HeaderError}
 use Rattle.wire.specs.declared.header_error.HeaderError.TheVariants as heads
 use Rattle.wire.proofs.HeaderParts.{begun_without_fault, header_same, says_of}
@@ -15,15 +15,11 @@ use Rattle.receiver.specs.declared.ram_terms.RamTerms.{RamTerms}
 use Rattle.receiver.specs.declared.recv_error.RecvError.{RecvError}
 use Rattle.receiver.specs.declared.recv_error.RecvError.TheVariants as errors
 
--- BadShape, as a header shows it.
-abbrev Misshapen : Limits → List ℕ → ℕ → Type 0
-Misshapen limits bytes at = IsBadCount limits bytes at ⊎ IsBadShape limits bytes at
-
 -- A header that is not whole, with no fault.
 no_fault_yet : (limits : Limits) (bytes : List ℕ) → IsHeaderPart limits bytes → (ram : RamTerms) (sizes : List ℕ) (k : RecvError) (at : ℕ) → ram.limits ≡ limits → ¬ (IsHeaderFault ram sizes bytes k at)
 no_fault_yet limits bytes p ram sizes errors.BadMagic at is h = p.no_fault heads.BadMagic at h
-no_fault_yet limits bytes p ram sizes errors.BadVersion at is h = p.no_fault heads.BadVersion at h
-no_fault_yet limits bytes p ram sizes errors.BadShape at is h = p.no_fault heads.BadShape at (subst (λ (l : Limits). Misshapen l bytes at) is h)
+no_fault_yet limits bytes p ram sizes errors.BadVersion at is h = p.no_fault heads.BadVersion at (subst (λ (l : Limits). ShowsFault l heads.BadVersion bytes at) is h)
+no_fault_yet limits bytes p ram sizes errors.BadShape at is h = p.no_fault heads.BadShape at (subst (λ (l : Limits). ShowsFault l heads.BadShape bytes at) is h)
 no_fault_yet limits bytes p ram sizes errors.ShapeMismatch at is h = p.no_header h.opening h.more h.begins
 no_fault_yet limits bytes p ram sizes _ at is h = h
 
@@ -33,8 +29,8 @@ waits_head limits bytes p = record { no_header = p.no_header; no_fault = no_faul
 -- A fault of the header is one whatever else is said of RAM and disks.
 told_so : (limits : Limits) (bytes : List ℕ) (k : HeaderError) → OnFault k ((at : ℕ) × ShowsFault limits k bytes at) → TellsHead (recv_error_of k) (ShowsHeaderFault limits bytes (recv_error_of k))
 told_so limits bytes heads.BadMagic h = λ ram sizes is. h
-told_so limits bytes heads.BadVersion h = λ ram sizes is. h
-told_so limits bytes heads.BadShape h = λ ram sizes is. subst (λ (l : Limits). (at : ℕ) × Misshapen l bytes at) (sym is) h
+told_so limits bytes heads.BadVersion h = λ ram sizes is. subst (λ (l : Limits). (at : ℕ) × ShowsFault l heads.BadVersion bytes at) (sym is) h
+told_so limits bytes heads.BadShape h = λ ram sizes is. subst (λ (l : Limits). (at : ℕ) × ShowsFault l heads.BadShape bytes at) (sym is) h
 told_so limits bytes heads.NoMemory h = tt
 
 pub told_head : (limits : Limits) (bytes : List ℕ) (k : HeaderError) (e : RecvError) → e ≡ recv_error_of k → OnFault k ((at : ℕ) × ShowsFault limits k bytes at) → TellsHead e (ShowsHeaderFault limits bytes e)

@@ -1,7 +1,7 @@
 -- What a receiver knows of its bytes.
 use Rattle.std.proofs.Common.{◌≡◌, ℕ, ◌+◌, ◌*◌, ◌/◌, ◌≤◌, ◌⊎◌, inl, inr, Some, None, Option, Bool, true, false, List, [], ◌∷◌, ◌++◌, length, map, get_or, refl, sym, ap, subst, ◌∙◌, append_assoc, append-nil, arith}
-use Rattle.std.specs.List.{AllByRecursion}
-use Rattle.std.specs.Prelude.{All, is_some}
+use Rattle.std.specs.List.{AllByRecursion, list_any}
+use Rattle.std.specs.Prelude.{All, ◌↔◌, is_some}
 use Rattle.std.proofs.lemmas.List.{length-append}
 use Rattle.std.proofs.lemmas.List.Elements.{All-from_recursion}
 use Rattle.sha2.specs.Sha256.{sha256}
@@ -237,7 +237,10 @@ sent_stream ds held opening i w are =
             sym (ap (last_named item) h.split ∙ last_entries item 0 h.entries i.devices.items)
             ∙ rw disks (some_shown (get_or i.named (number_of (opened_layout opening) item) false) (record_in opening.version i.ram.bytes (dealt_sectors opening.shapes h.sectors) item) (last_named item w.before) (h.taken.last item here) (w.complete.items item here));
         sound = sound;
-        devices = All-from_recursion (IsDeviceOf opening.version) i.devices.items h.has;
+        devices = record {
+          each = All-from_recursion (IsDeviceOf opening.version) i.devices.items h.has;
+          late = subst (λ (ss : List Shape). (opening.version ≡ 3) ↔ (list_any told.is_long ss ≡ true)) (sym (whole_shapes h all)) h.head.has;
+        };
         whole = rw size (w.whole ∙ ap (λ (x : List ℕ). x ++ spelled_record (commit (sha256 x))) front);
       };
     }

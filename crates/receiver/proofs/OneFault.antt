@@ -5,6 +5,7 @@ use Rattle.std.specs.Prelude.{All}
 use Rattle.std.specs.List.{AllByRecursion}
 use Rattle.sha2.specs.Sha256.{sha256}
 use Rattle.sha2.proofs.Facts256.{length-sha256}
+use Rattle.guestmem.specs.Number.{number_at}
 use Rattle.wire.specs.Header.{spelled_shapes}
 use Rattle.receiver.specs.Opened.{Opened, opened_header, said_by, terms_at}
 use Rattle.wire.specs.Header as told
@@ -22,8 +23,9 @@ use Rattle.receiver.specs.declared.recv_error.RecvError.{RecvError}
 use Rattle.receiver.specs.declared.recv_error.RecvError.TheVariants as errors
 use Rattle.receiver.proofs.Quiet.{no_page}
 use Rattle.receiver.proofs.Aligned.{one_opening, LongerRecords, records_led, good_spell, next_good, no_fault_here}
-use Rattle.wire.specs.HeaderFaults.{IsBadMagic, IsBadVersion, IsBadCount, IsBadShape, IsNoShape, IsShapeFor}
-use Rattle.wire.proofs.HeaderParts.{are_sound, header_same, says_of, shapes_led, sound_behind, LongerShapes, bad_lengths, no_bad_spelled}
+use Rattle.wire.specs.HeaderFaults.{IsBadMagic, IsBadVersion, IsBadCount, IsBadShape, IsNoShape, IsPlain, IsShapeFor, limits_in}
+use Rattle.wire.specs.declared.header_error.HeaderError.TheVariants as heads
+use Rattle.wire.proofs.HeaderParts.{are_sound, begun_without_fault, header_same, plain_not_bad, says_of, shapes_led, shapes_same, sound_behind, LongerShapes, bad_lengths, no_bad_spelled}
 use Rattle.receiver.proofs.Heads.{no_header_fault}
 
 abbrev pub Same : RecvError → ℕ → RecvError → ℕ → Type 0
@@ -164,23 +166,42 @@ shapes_one limits ss ts bad other x y h k n m (inr l) =
 
 one_magic : (ram : RamTerms) (sizes bytes : List ℕ) (p : ℕ) → IsBadMagic bytes p → (j : RecvError) (q : ℕ) → IsHeaderFault ram sizes bytes j q → Same errors.BadMagic p j q
 one_magic ram sizes bytes p f errors.BadMagic q h = (refl, f.there ∙ sym h.there)
-one_magic ram sizes bytes p f errors.BadVersion q h = absurd (f.never h.magic)
+one_magic ram sizes bytes p f errors.BadVersion q (inl h) = absurd (f.never h.magic)
+one_magic ram sizes bytes p f errors.BadVersion q (inr h) = absurd (f.never h.says.magic)
 one_magic ram sizes bytes p f errors.BadShape q (inl h) = absurd (f.never h.says.magic)
 one_magic ram sizes bytes p f errors.BadShape q (inr h) = absurd (f.never h.says.magic)
 one_magic ram sizes bytes p f errors.ShapeMismatch q h = absurd (f.never (says_of h.begins).magic)
 one_magic ram sizes bytes p f _ q h = absurd h
 
-one_version : (ram : RamTerms) (sizes bytes : List ℕ) (p : ℕ) → IsBadVersion bytes p → (j : RecvError) (q : ℕ) → IsHeaderFault ram sizes bytes j q → Same errors.BadVersion p j q
+one_version : (ram : RamTerms) (sizes bytes : List ℕ) (p : ℕ) → IsBadVersion ram.limits bytes p → (j : RecvError) (q : ℕ) → IsHeaderFault ram sizes bytes j q → Same errors.BadVersion p j q
 one_version ram sizes bytes p f errors.BadMagic q h = absurd (h.never f.magic)
-one_version ram sizes bytes p f errors.BadVersion q h = (refl, f.there ∙ sym h.there)
+one_version ram sizes bytes p f errors.BadVersion q (inl h) = (refl, f.there ∙ sym h.there)
+one_version ram sizes bytes p f errors.BadVersion q (inr h) = absurd (f.never h.says.known)
 one_version ram sizes bytes p f errors.BadShape q (inl h) = absurd (f.never h.says.known)
 one_version ram sizes bytes p f errors.BadShape q (inr h) = absurd (f.never h.says.known)
-one_version ram sizes bytes p f errors.ShapeMismatch q h = absurd (f.never (says_of h.begins).known)
+one_version ram sizes bytes p f errors.ShapeMismatch q h = absurd (begun_without_fault ram.limits bytes h.opening h.more h.within h.begins heads.BadVersion p (inl f))
 one_version ram sizes bytes p f _ q h = absurd h
+
+plain_place : (l : Limits) (bytes : List ℕ) (p q : ℕ) → IsPlain l bytes p → IsPlain l bytes q → p ≡ q
+plain_place l bytes p q f h =
+    let count : length f.shapes ≡ length h.shapes = sym f.says.count_is ∙ h.says.count_is in
+    let led = shapes_led f.shapes h.shapes f.more h.more (are_sound l f.shapes f.sound) (are_sound l h.shapes h.sound) (sym f.whole ∙ h.whole) in
+    let same = shapes_same f.shapes h.shapes f.more h.more count led in
+    omega (arith, f.there, h.there, ap (λ (ss : List Shape). length (spelled_shapes ss)) same)
+
+one_plain : (ram : RamTerms) (sizes bytes : List ℕ) (p : ℕ) → IsPlain ram.limits bytes p → (j : RecvError) (q : ℕ) → IsHeaderFault ram sizes bytes j q → Same errors.BadVersion p j q
+one_plain ram sizes bytes p f errors.BadMagic q h = absurd (h.never f.says.magic)
+one_plain ram sizes bytes p f errors.BadVersion q (inl h) = absurd (h.never f.says.known)
+one_plain ram sizes bytes p f errors.BadVersion q (inr h) = (refl, plain_place ram.limits bytes p q f h)
+one_plain ram sizes bytes p f errors.BadShape q (inl h) = absurd (h.never (rw (sym h.says.pages_are ∙ f.says.pages_are, sym h.says.count_is ∙ f.says.count_is) f.may))
+one_plain ram sizes bytes p f errors.BadShape q (inr h) = absurd (plain_not_bad ram.limits bytes p q f h)
+one_plain ram sizes bytes p f errors.ShapeMismatch q h = absurd (begun_without_fault ram.limits bytes h.opening h.more h.within h.begins heads.BadVersion p (inr f))
+one_plain ram sizes bytes p f _ q h = absurd h
 
 one_count : (ram : RamTerms) (sizes bytes : List ℕ) (p : ℕ) → IsBadCount ram.limits bytes p → (j : RecvError) (q : ℕ) → IsHeaderFault ram sizes bytes j q → Same errors.BadShape p j q
 one_count ram sizes bytes p f errors.BadMagic q h = absurd (h.never f.says.magic)
-one_count ram sizes bytes p f errors.BadVersion q h = absurd (h.never f.says.known)
+one_count ram sizes bytes p f errors.BadVersion q (inl h) = absurd (h.never f.says.known)
+one_count ram sizes bytes p f errors.BadVersion q (inr h) = absurd (f.never (rw (sym f.says.pages_are ∙ h.says.pages_are, sym f.says.count_is ∙ h.says.count_is) h.may))
 one_count ram sizes bytes p f errors.BadShape q (inl h) = (refl, f.there ∙ sym h.there)
 one_count ram sizes bytes p f errors.BadShape q (inr h) = absurd (f.never (rw (sym f.says.pages_are ∙ h.says.pages_are, sym f.says.count_is ∙ h.says.count_is) h.may))
 one_count ram sizes bytes p f errors.ShapeMismatch q h = absurd (no_header_fault (terms_at (record { base = 0; limits = ram.limits })) (disk_sizes h.opening.shapes) bytes h.opening h.more h.begins h.within refl tt errors.BadShape p (inl f))
@@ -188,9 +209,12 @@ one_count ram sizes bytes p f _ q h = absurd h
 
 one_shape_fault : (ram : RamTerms) (sizes bytes : List ℕ) (p : ℕ) → IsBadShape ram.limits bytes p → (j : RecvError) (q : ℕ) → IsHeaderFault ram sizes bytes j q → Same errors.BadShape p j q
 one_shape_fault ram sizes bytes p f errors.BadMagic q h = absurd (h.never f.says.magic)
-one_shape_fault ram sizes bytes p f errors.BadVersion q h = absurd (h.never f.says.known)
+one_shape_fault ram sizes bytes p f errors.BadVersion q (inl h) = absurd (h.never f.says.known)
+one_shape_fault ram sizes bytes p f errors.BadVersion q (inr h) = absurd (plain_not_bad ram.limits bytes q p h f)
 one_shape_fault ram sizes bytes p f errors.BadShape q (inl h) = absurd (h.never (rw (sym h.says.pages_are ∙ f.says.pages_are, sym h.says.count_is ∙ f.says.count_is) f.may))
-one_shape_fault ram sizes bytes p f errors.BadShape q (inr h) = (refl, omega (arith, f.there, h.there, shapes_one ram.limits f.shapes h.shapes f.bad h.bad f.more h.more f.sound h.sound f.never h.never (shapes_led f.shapes h.shapes (f.bad ++ f.more) (h.bad ++ h.more) (are_sound ram.limits f.shapes f.sound) (are_sound ram.limits h.shapes h.sound) (sym f.whole ∙ h.whole))))
+one_shape_fault ram sizes bytes p f errors.BadShape q (inr h) =
+    let limits = limits_in (number_at bytes 4 4) ram.limits in
+    (refl, omega (arith, f.there, h.there, shapes_one limits f.shapes h.shapes f.bad h.bad f.more h.more f.sound h.sound f.never h.never (shapes_led f.shapes h.shapes (f.bad ++ f.more) (h.bad ++ h.more) (are_sound limits f.shapes f.sound) (are_sound limits h.shapes h.sound) (sym f.whole ∙ h.whole))))
 one_shape_fault ram sizes bytes p f errors.ShapeMismatch q h = absurd (no_header_fault (terms_at (record { base = 0; limits = ram.limits })) (disk_sizes h.opening.shapes) bytes h.opening h.more h.begins h.within refl tt errors.BadShape p (inr f))
 one_shape_fault ram sizes bytes p f _ q h = absurd h
 
@@ -199,7 +223,7 @@ header_length {o = o} {p = p} a b = omega (arith, length_header o, length_header
 
 one_mismatch : (ram : RamTerms) (sizes bytes : List ℕ) (p : ℕ) → IsMismatch ram sizes bytes p → (j : RecvError) (q : ℕ) → IsHeaderFault ram sizes bytes j q → Same errors.ShapeMismatch p j q
 one_mismatch ram sizes bytes p f errors.BadMagic q h = absurd (h.never (says_of f.begins).magic)
-one_mismatch ram sizes bytes p f errors.BadVersion q h = absurd (h.never (says_of f.begins).known)
+one_mismatch ram sizes bytes p f errors.BadVersion q h = absurd (begun_without_fault ram.limits bytes f.opening f.more f.within f.begins heads.BadVersion q h)
 one_mismatch ram sizes bytes p f errors.BadShape q (inl h) = absurd (no_header_fault (terms_at (record { base = 0; limits = ram.limits })) (disk_sizes f.opening.shapes) bytes f.opening f.more f.begins f.within refl tt errors.BadShape q (inl h))
 one_mismatch ram sizes bytes p f errors.BadShape q (inr h) = absurd (no_header_fault (terms_at (record { base = 0; limits = ram.limits })) (disk_sizes f.opening.shapes) bytes f.opening f.more f.begins f.within refl tt errors.BadShape q (inr h))
 one_mismatch ram sizes bytes p f errors.ShapeMismatch q h = (refl, f.there ∙ header_length f.begins h.begins ∙ sym h.there)
@@ -207,7 +231,8 @@ one_mismatch ram sizes bytes p f _ q h = absurd h
 
 one_header_fault : (ram : RamTerms) (sizes bytes : List ℕ) (k : RecvError) (p : ℕ) → IsHeaderFault ram sizes bytes k p → (j : RecvError) (q : ℕ) → IsHeaderFault ram sizes bytes j q → Same k p j q
 one_header_fault ram sizes bytes errors.BadMagic p f = one_magic ram sizes bytes p f
-one_header_fault ram sizes bytes errors.BadVersion p f = one_version ram sizes bytes p f
+one_header_fault ram sizes bytes errors.BadVersion p (inl f) = one_version ram sizes bytes p f
+one_header_fault ram sizes bytes errors.BadVersion p (inr f) = one_plain ram sizes bytes p f
 one_header_fault ram sizes bytes errors.BadShape p (inl f) = one_count ram sizes bytes p f
 one_header_fault ram sizes bytes errors.BadShape p (inr f) = one_shape_fault ram sizes bytes p f
 one_header_fault ram sizes bytes errors.ShapeMismatch p f = one_mismatch ram sizes bytes p f

@@ -1,9 +1,10 @@
 -- Faults stand in longer bytes too, and in shorter ones up to their places.
 use Rattle.std.proofs.Common.{◌≡◌, ℕ, ◌≤◌, inl, inr, List, [], ◌∷◌, ◌++◌, length, drop, refl, sym, ap, ◌∙◌, append_assoc, arith, subst}
+use Rattle.std.specs.Prelude.{All}
 use Rattle.std.proofs.lemmas.List.{length-append, length-drop, drop-append-le}
 use Rattle.sha2.specs.Sha256.{sha256}
 use Rattle.sha2.proofs.Facts256.{length-sha256}
-use Rattle.wire.specs.Header.{spelled_shapes, IsVersion}
+use Rattle.wire.specs.Header.{spelled_shapes}
 use Rattle.receiver.specs.Opened.{Opened, opened_header}
 use Rattle.wire.specs.Header as told
 use Rattle.wire.specs.Numbers.{digits}
@@ -12,8 +13,9 @@ use Rattle.wire.specs.Stream.{texts}
 use Rattle.wire.proofs.Digits.{length-digits, number_at-append}
 use Rattle.wire.proofs.Spelling.{head_same, tail_same}
 use Rattle.wire.proofs.Unique.{cons_same}
+use Rattle.machine.specs.declared.limits.Limits.{Limits}
 use Rattle.receiver.specs.Good.{devices_in}
-use Rattle.wire.specs.HeaderFaults.{Says}
+use Rattle.wire.specs.HeaderFaults.{IsBadShape, IsBadVersion, IsNoShape, IsPlain, IsRead, IsShapeFor, Says, limits_in}
 use Rattle.receiver.specs.Faults.{Opens, IsFault, IsRecordFault, IsHeaderFault, Fault}
 use Rattle.receiver.specs.declared.ram_terms.RamTerms.{RamTerms}
 use Rattle.receiver.specs.declared.recv_error.RecvError.{RecvError}
@@ -85,40 +87,125 @@ holds_here opening before tail c errors.Trailing p le h =
     record { byte = h.byte; more = b.w; opens = opens_at opening before (tail ++ c) tail 5 _ _ h.opens (b.left ∙ ap (λ (x : List ℕ). 5 ∷ x) (append_assoc (sha256 (opened_header opening ++ texts before)) (h.byte ∷ []) b.w)); there = h.there }
 holds_here opening before tail c _ p le h = absurd h
 
-says_on : (b c : List ℕ) (pages count : ℕ) → Says b pages count → Says (b ++ c) pages count
-says_on b c pages count h = record {
+says_on : (l : Limits) (b c : List ℕ) (pages count : ℕ) → Says l b pages count → Says l (b ++ c) pages count
+says_on l b c pages count h = record {
   long = omega (arith, h.long, length-append b c);
   magic = number_at-append 0 4 b c (omega (arith, h.long)) ∙ h.magic;
-  known = subst IsVersion (sym (number_at-append 4 4 b c (omega (arith, h.long)))) h.known;
+  known = subst (IsRead l) (sym (number_at-append 4 4 b c (omega (arith, h.long)))) h.known;
   pages_are = number_at-append 8 4 b c (omega (arith, h.long)) ∙ h.pages_are;
   count_is = number_at-append 12 4 b c (omega (arith, h.long)) ∙ h.count_is;
 }
 
-says_at : (b c : List ℕ) (pages count : ℕ) → 16 ≤ length b → Says (b ++ c) pages count → Says b pages count
-says_at b c pages count long h = record {
+says_at : (l : Limits) (b c : List ℕ) (pages count : ℕ) → 16 ≤ length b → Says l (b ++ c) pages count → Says l b pages count
+says_at l b c pages count long h = record {
   long = long;
   magic = sym (number_at-append 0 4 b c (omega (arith, long))) ∙ h.magic;
-  known = subst IsVersion (number_at-append 4 4 b c (omega (arith, long))) h.known;
+  known = subst (IsRead l) (number_at-append 4 4 b c (omega (arith, long))) h.known;
   pages_are = sym (number_at-append 8 4 b c (omega (arith, long))) ∙ h.pages_are;
   count_is = sym (number_at-append 12 4 b c (omega (arith, long))) ∙ h.count_is;
 }
 
+-- The faults at a version and at a shape.
+version_stays : (l : Limits) (b c : List ℕ) (p : ℕ) → IsBadVersion l b p → IsBadVersion l (b ++ c) p
+version_stays l b c p h = record {
+  long = omega (arith, h.long, length-append b c);
+  magic = number_at-append 0 4 b c (omega (arith, h.long)) ∙ h.magic;
+  never = λ e. h.never (subst (IsRead l) (number_at-append 4 4 b c (omega (arith, h.long))) e);
+  there = h.there;
+}
+
+version_holds : (l : Limits) (b c : List ℕ) (p : ℕ) → p ≤ length b → IsBadVersion l (b ++ c) p → IsBadVersion l b p
+version_holds l b c p le h = record {
+  long = omega (arith, le, h.there);
+  magic = sym (number_at-append 0 4 b c (omega (arith, le, h.there))) ∙ h.magic;
+  never = λ e. h.never (subst (IsRead l) (sym (number_at-append 4 4 b c (omega (arith, le, h.there)))) e);
+  there = h.there;
+}
+
+plain_stays : (l : Limits) (b c : List ℕ) (p : ℕ) → IsPlain l b p → IsPlain l (b ++ c) p
+plain_stays l b c p h = record {
+  pages = h.pages;
+  shapes = h.shapes;
+  more = h.more ++ c;
+  says = says_on l b c h.pages (length h.shapes) h.says;
+  may = h.may;
+  sound = h.sound;
+  whole = drop-append-le 16 b c h.says.long ∙ ap (λ (x : List ℕ). x ++ c) h.whole ∙ append_assoc (spelled_shapes h.shapes) h.more c;
+  late = number_at-append 4 4 b c (omega (arith, h.says.long)) ∙ h.late;
+  never = h.never;
+  there = h.there;
+}
+
+plain_holds : (l : Limits) (b c : List ℕ) (p : ℕ) → p ≤ length b → IsPlain l (b ++ c) p → IsPlain l b p
+plain_holds l b c p le h =
+    let long : 16 ≤ length b = omega (arith, le, h.there) in
+    let d = behind (drop 16 b) c (spelled_shapes h.shapes) h.more (sym (drop-append-le 16 b c long) ∙ h.whole) (omega (arith, le, h.there, length-drop 16 b)) in
+    record {
+      pages = h.pages;
+      shapes = h.shapes;
+      more = d.w;
+      says = says_at l b c h.pages (length h.shapes) long h.says;
+      may = h.may;
+      sound = h.sound;
+      whole = d.left;
+      late = sym (number_at-append 4 4 b c (omega (arith, long))) ∙ h.late;
+      never = h.never;
+      there = h.there;
+    }
+
+shape_stays : (l : Limits) (b c : List ℕ) (p : ℕ) → IsBadShape l b p → IsBadShape l (b ++ c) p
+shape_stays l b c p h =
+    let same = ap (λ (v : ℕ). limits_in v l) (sym (number_at-append 4 4 b c (omega (arith, h.says.long)))) in
+    record {
+      pages = h.pages;
+      count = h.count;
+      shapes = h.shapes;
+      bad = h.bad;
+      more = h.more ++ c;
+      says = says_on l b c h.pages h.count h.says;
+      may = h.may;
+      fewer = h.fewer;
+      sound = subst (λ (x : Limits). All (IsShapeFor x) h.shapes) same h.sound;
+      whole = drop-append-le 16 b c h.says.long ∙ ap (λ (x : List ℕ). x ++ c) h.whole ∙ append_assoc (spelled_shapes h.shapes) (h.bad ++ h.more) c ∙ ap (λ (x : List ℕ). spelled_shapes h.shapes ++ x) (append_assoc h.bad h.more c);
+      never = subst (λ (x : Limits). IsNoShape x h.bad) same h.never;
+      there = h.there;
+    }
+
+shape_holds : (l : Limits) (b c : List ℕ) (p : ℕ) → p ≤ length b → IsBadShape l (b ++ c) p → IsBadShape l b p
+shape_holds l b c p le h =
+    let long : 16 ≤ length b = omega (arith, le, h.there) in
+    let d = behind (drop 16 b) c (spelled_shapes h.shapes ++ h.bad) h.more (sym (drop-append-le 16 b c long) ∙ h.whole ∙ sym (append_assoc (spelled_shapes h.shapes) h.bad h.more)) (omega (arith, le, h.there, length-drop 16 b, length-append (spelled_shapes h.shapes) h.bad)) in
+    let same = ap (λ (v : ℕ). limits_in v l) (number_at-append 4 4 b c (omega (arith, long))) in
+    record {
+      pages = h.pages;
+      count = h.count;
+      shapes = h.shapes;
+      bad = h.bad;
+      more = d.w;
+      says = says_at l b c h.pages h.count long h.says;
+      may = h.may;
+      fewer = h.fewer;
+      sound = subst (λ (x : Limits). All (IsShapeFor x) h.shapes) same h.sound;
+      whole = d.left ∙ append_assoc (spelled_shapes h.shapes) h.bad d.w;
+      never = subst (λ (x : Limits). IsNoShape x h.bad) same h.never;
+      there = h.there;
+    }
+
 pub header_stays : (ram : RamTerms) (sizes b c : List ℕ) (k : RecvError) (p : ℕ) → IsHeaderFault ram sizes b k p → IsHeaderFault ram sizes (b ++ c) k p
 header_stays ram sizes b c errors.BadMagic p h = record { long = omega (arith, h.long, length-append b c); never = λ e. h.never (sym (number_at-append 0 4 b c (omega (arith, h.long))) ∙ e); there = h.there }
-header_stays ram sizes b c errors.BadVersion p h = record { long = omega (arith, h.long, length-append b c); magic = number_at-append 0 4 b c (omega (arith, h.long)) ∙ h.magic; never = λ e. h.never (subst IsVersion (number_at-append 4 4 b c (omega (arith, h.long))) e); there = h.there }
-header_stays ram sizes b c errors.BadShape p (inl h) = inl (record { pages = h.pages; count = h.count; says = says_on b c h.pages h.count h.says; never = h.never; there = h.there })
-header_stays ram sizes b c errors.BadShape p (inr h) = inr (record { pages = h.pages; count = h.count; shapes = h.shapes; bad = h.bad; more = h.more ++ c; says = says_on b c h.pages h.count h.says; may = h.may; fewer = h.fewer; sound = h.sound; whole = drop-append-le 16 b c h.says.long ∙ ap (λ (x : List ℕ). x ++ c) h.whole ∙ append_assoc (spelled_shapes h.shapes) (h.bad ++ h.more) c ∙ ap (λ (x : List ℕ). spelled_shapes h.shapes ++ x) (append_assoc h.bad h.more c); never = h.never; there = h.there })
+header_stays ram sizes b c errors.BadVersion p (inl h) = inl (version_stays ram.limits b c p h)
+header_stays ram sizes b c errors.BadVersion p (inr h) = inr (plain_stays ram.limits b c p h)
+header_stays ram sizes b c errors.BadShape p (inl h) = inl (record { pages = h.pages; count = h.count; says = says_on ram.limits b c h.pages h.count h.says; never = h.never; there = h.there })
+header_stays ram sizes b c errors.BadShape p (inr h) = inr (shape_stays ram.limits b c p h)
 header_stays ram sizes b c errors.ShapeMismatch p h = record { opening = h.opening; more = h.more ++ c; begins = record { good = h.begins.good; whole = ap (λ (x : List ℕ). x ++ c) h.begins.whole ∙ append_assoc (told.header h.opening) h.more c }; never = h.never; within = h.within; there = h.there }
 header_stays ram sizes b c _ p h = absurd h
 
 header_holds : (ram : RamTerms) (sizes b c : List ℕ) (k : RecvError) (p : ℕ) → p ≤ length b → IsHeaderFault ram sizes (b ++ c) k p → IsHeaderFault ram sizes b k p
 header_holds ram sizes b c errors.BadMagic p le h = record { long = omega (arith, le, h.there); never = λ e. h.never (number_at-append 0 4 b c (omega (arith, le, h.there)) ∙ e); there = h.there }
-header_holds ram sizes b c errors.BadVersion p le h = record { long = omega (arith, le, h.there); magic = sym (number_at-append 0 4 b c (omega (arith, le, h.there))) ∙ h.magic; never = λ e. h.never (subst IsVersion (sym (number_at-append 4 4 b c (omega (arith, le, h.there)))) e); there = h.there }
-header_holds ram sizes b c errors.BadShape p le (inl h) = inl (record { pages = h.pages; count = h.count; says = says_at b c h.pages h.count (omega (arith, le, h.there)) h.says; never = h.never; there = h.there })
-header_holds ram sizes b c errors.BadShape p le (inr h) =
-    let long : 16 ≤ length b = omega (arith, le, h.there) in
-    let d = behind (drop 16 b) c (spelled_shapes h.shapes ++ h.bad) h.more (sym (drop-append-le 16 b c long) ∙ h.whole ∙ sym (append_assoc (spelled_shapes h.shapes) h.bad h.more)) (omega (arith, le, h.there, length-drop 16 b, length-append (spelled_shapes h.shapes) h.bad)) in
-    inr (record { pages = h.pages; count = h.count; shapes = h.shapes; bad = h.bad; more = d.w; says = says_at b c h.pages h.count long h.says; may = h.may; fewer = h.fewer; sound = h.sound; whole = d.left ∙ append_assoc (spelled_shapes h.shapes) h.bad d.w; never = h.never; there = h.there })
+header_holds ram sizes b c errors.BadVersion p le (inl h) = inl (version_holds ram.limits b c p le h)
+header_holds ram sizes b c errors.BadVersion p le (inr h) = inr (plain_holds ram.limits b c p le h)
+header_holds ram sizes b c errors.BadShape p le (inl h) = inl (record { pages = h.pages; count = h.count; says = says_at ram.limits b c h.pages h.count (omega (arith, le, h.there)) h.says; never = h.never; there = h.there })
+header_holds ram sizes b c errors.BadShape p le (inr h) = inr (shape_holds ram.limits b c p le h)
 header_holds ram sizes b c errors.ShapeMismatch p le h =
     let d = behind b c (told.header h.opening) h.more h.begins.whole (omega (arith, le, h.there)) in
     record { opening = h.opening; more = d.w; begins = record { good = h.begins.good; whole = d.left }; within = h.within; never = h.never; there = h.there }

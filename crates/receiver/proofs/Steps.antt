@@ -1,6 +1,7 @@
 -- One record more.
 use Rattle.std.proofs.Common.{◌≡◌, ◌≢◌, ℕ, zero, suc, ◌+◌, ◌*◌, ◌^◌, ◌<◌, ◌≤◌, Bool, true, false, List, [], ◌∷◌, ◌++◌, Some, None, length, take, drop, get_or, replicate, refl, sym, ap, ◌∙◌, append_assoc, append-nil, arith}
 use Rattle.std.specs.Prelude.{set, All, IsTrue}
+use Rattle.std.proofs.lemmas.Bool.{ne_eqb}
 use Rattle.std.proofs.lemmas.List.Elements.{All-get_or, All-from_get_or}
 use Rattle.std.specs.List.{AllByRecursion}
 use Rattle.std.proofs.lemmas.List.{length-append, length-replicate}
@@ -140,13 +141,13 @@ unfolding are_zeros
 zeros_long zero = refl
 zeros_long (suc n) = zeros_long n
 
-pub more_zeros : (ds : List DiskState) (front : List ℕ) (opening : Opened) (before : List Record) (i j : Intake) (n : ℕ) → HasRead ds opening before i front → devices_in before ≡ 0 → n < 2 ^ 32 → opening.version ≡ 2
+pub more_zeros : (ds : List DiskState) (front : List ℕ) (opening : Opened) (before : List Record) (i j : Intake) (n : ℕ) → HasRead ds opening before i front → devices_in before ≡ 0 → n < 2 ^ 32 → opening.version ≢ 1
     → 4096 * n + 4096 ≤ length i.ram.bytes → j.ram.bytes ≡ put_page i.ram.bytes n (replicate 4096 0) → j.named ≡ set i.named n true → j.rounds ≡ i.rounds → j.terms ≡ i.terms → j.shapes.items ≡ i.shapes.items → j.devices.items ≡ i.devices.items → j.firsts.items ≡ i.firsts.items → j.bad.items ≡ i.bad.items
     → HasRead ds opening (before ++ zero_page n ∷ []) j (front ++ spelled_record (zero_page n))
-more_zeros ds front opening before i j n h none few second =
+more_zeros ds front opening before i j n h none few later =
     let b : List ℕ = replicate 4096 0 in
-    let zeros : is_zero_page opening.version b ≡ true = rw second (zeros_long 4096) in
-    more_page_as ds front opening before i j n b (zero_page n) h none (λ low. record { spells = few; has = second; may = (low, none) }) (λ low. record { spells = few; has = second; stands = low })
+    let zeros : is_zero_page opening.version b ≡ true = rw (ne_eqb opening.version 1 later) (zeros_long 4096) in
+    more_page_as ds front opening before i j n b (zero_page n) h none (λ low. record { spells = few; has = later; may = (low, none) }) (λ low. record { spells = few; has = later; stands = low })
     (numbered_zeros 1 before n) (rounds_zeros before n) (names_zeros n) (as_zeros opening.version n b zeros) (length-replicate {A = ℕ} 4096 0)
 
 pub more_round : (ds : List DiskState) (front : List ℕ) (opening : Opened) (before : List Record) (i j : Intake) (n : ℕ) → HasRead ds opening before i front → devices_in before ≡ 0 → n < 2 ^ 32 → n ≡ i.rounds + 1
@@ -270,14 +271,14 @@ pub tag_here : {ds : List DiskState} {front : List ℕ} {opening : Opened} {befo
 tag_here a b tag h e f m =
     let count = ap length h.shapes_are in
     let devices = devices_are h in
-    record { least = m.least; most = m.most; early = λ low. omega (arith, f, devices, m.early low); missing = λ four. omega (arith, e, f, count, devices, m.missing four); since = λ six. sym h.version_is ∙ m.since six }
+    record { least = m.least; most = m.most; early = λ low. omega (arith, f, devices, m.early low); missing = λ four. omega (arith, e, f, count, devices, m.missing four); since = λ six first. m.since six (h.version_is ∙ first) }
 
 pub tag_there : {ds : List DiskState} {front : List ℕ} {opening : Opened} {before : List Record} {i : Intake} (a b tag : ℕ) → HasRead ds opening before i front → a ≡ length i.shapes.items → b ≡ length i.devices.items
     → MayTag opening.version (length opening.shapes) (devices_in before) tag → MayTag i.terms.version a b tag
 tag_there a b tag h e f m =
     let count = ap length h.shapes_are in
     let devices = devices_are h in
-    record { least = m.least; most = m.most; early = λ low. omega (arith, f, devices, m.early low); missing = λ four. omega (arith, e, f, count, devices, m.missing four); since = λ six. h.version_is ∙ m.since six }
+    record { least = m.least; most = m.most; early = λ low. omega (arith, f, devices, m.early low); missing = λ four. omega (arith, e, f, count, devices, m.missing four); since = λ six first. m.since six (sym h.version_is ∙ first) }
 
 pub named_all : {ds : List DiskState} {front : List ℕ} {opening : Opened} {before : List Record} {i : Intake} → HasRead ds opening before i front → All (λ (b : Bool). b ≡ true) i.named → AreNamed (opened_layout opening) before
 named_all {opening = opening} {i = i} h all item has =

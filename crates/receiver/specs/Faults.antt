@@ -4,7 +4,7 @@ use Rattle.std.specs.Prelude.{◌≡◌, ◌≢◌, ◌<◌, ◌≤◌, ◌^◌,
 use Rattle.sha2.specs.Sha256.{sha256}
 use Rattle.wire.specs.DeviceBody.{IsBodyOf}
 use Rattle.wire.specs.Header as told
-use Rattle.wire.specs.HeaderFaults.{IsBadCount, IsBadMagic, IsBadShape, IsBadVersion}
+use Rattle.wire.specs.HeaderFaults.{IsBadCount, IsBadMagic, IsBadShape, IsBadVersion, IsPlain}
 use Rattle.wire.specs.Numbers.{digits}
 use Rattle.wire.specs.Records.{Record, is_zero_page}
 use Rattle.wire.specs.Stream.{rounds, texts}
@@ -42,7 +42,7 @@ pub record MayTag (version count devices tag : ℕ) : Type 0 where
   pub most : tag ≤ 6
   pub early : IsEarly tag → devices ≡ 0
   pub missing : tag ≡ 4 → devices < count
-  pub since : tag ≡ 6 → version ≡ 2
+  pub since : tag ≡ 6 → version ≢ 1
 
 -- What must come before a device (tag 4) or the digest (tag 5): each item, and before the digest each device.
 pub record IsComplete (opening : Opened) (before : List Record) (tag : ℕ) : Type 0 where
@@ -187,7 +187,7 @@ pub record IsMismatch (ram : RamTerms) (sizes bytes : List ℕ) (at : ℕ) : Typ
 
 abbrev pub IsHeaderFault : RamTerms → List ℕ → List ℕ → RecvError → ℕ → Type 0
 IsHeaderFault ram sizes bytes BadMagic at = IsBadMagic bytes at
-IsHeaderFault ram sizes bytes BadVersion at = IsBadVersion bytes at
+IsHeaderFault ram sizes bytes BadVersion at = IsBadVersion ram.limits bytes at ⊎ IsPlain ram.limits bytes at
 IsHeaderFault ram sizes bytes BadShape at = IsBadCount ram.limits bytes at ⊎ IsBadShape ram.limits bytes at
 IsHeaderFault ram sizes bytes ShapeMismatch at = IsMismatch ram sizes bytes at
 IsHeaderFault ram sizes bytes _ at = ⊥

@@ -23,12 +23,12 @@ use Rattle.machine.specs.declared.event.Event.{Event}
 use Rattle.machine.proofs.Effects.{all_sizes_stay, untouched}
 use Rattle.machine.proofs.Numbering.{either_way, has_item, is_below, is_past, item_back, item_there, number_back, number_below, same_layout}
 use Rattle.machine.proofs.Within.{sound_by}
-use Rattle.wire.specs.Header.{header, opening_of}
+use Rattle.wire.specs.Header.{header, opening_of, version_of}
 use Rattle.wire.specs.Records as records
 use Rattle.wire.specs.Records.{Record, commit, page_record, round_end, spelled_record}
 use Rattle.wire.specs.Sinks.{Covers, Digested, SinkState}
 use Rattle.wire.specs.Stream.{IsStream, content_of, device_texts, last_named, or_else, record_of, rounds, shapes_in, texts}
-use Rattle.wire.proofs.Bodies.{second_has_all}
+use Rattle.wire.proofs.SentVersions.{sent_devices, sent_entries, sent_known, sent_record}
 use Rattle.wire.proofs.ItemRecords.{named-append, named-snoc}
 use Rattle.wire.proofs.Whole.{each-snoc}
 use Rattle.sender.specs.Calls.{AfterBegin, AfterCopy, AfterRound, AfterStop, AreCleared, BeginsFirstRound, Does, EndsRound, Fails, Guests, IsSent, Serves, Wrote, in_either}
@@ -409,19 +409,20 @@ closed s t k gone g =
       ram = g.ram;
       devices = g.devices;
       stream = rw devices (record {
-        version = 2;
+        version = version_of (shapes_in m.devices);
         entries = g.entries;
         by = record {
-          known = record { least = omega arith; most = omega arith };
-          each = g.body.each;
+          known = sent_known (shapes_in m.devices);
+          each = sent_entries (shapes_in m.devices) (layout_of m) g.entries g.body.each;
           numbered = g.body.numbered;
           last = λ it there.
               let number = number_of (layout_of m) it in
               let below : number < size_of (layout_of m) = number_below (layout_of m) it there in
               let Q : items.Item → Type 0 = λ x. last_named x g.entries ≡ Some (record_of m x) in
-              subst Q (item_back (layout_of m) it there) (g.fresh number below (gone number (subst (λ (x : Layout). number < size_of x) l below)));
+              subst Q (item_back (layout_of m) it there) (g.fresh number below (gone number (subst (λ (x : Layout). number < size_of x) l below)))
+              ∙ ap Some (sym (sent_record (shapes_in m.devices) m.ram m.disks it));
           sound = g.sound;
-          devices = second_has_all m.devices;
+          devices = sent_devices m.devices;
           whole = whole;
         };
       });

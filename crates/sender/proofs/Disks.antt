@@ -8,7 +8,7 @@ use Rattle.machine.specs.Shapes.{sector_count, made_as}
 use Rattle.machine.specs.Sound.{IsSound, IsSoundDevice, IsSoundShape}
 use Rattle.machine.specs.State.{DeviceState, MachineState}
 use Rattle.machine.specs.declared.shape.Shape.{Shape}
-use Rattle.machine.specs.declared.shape.Shape.TheVariants.{Net, Block, Console, Entropy}
+use Rattle.machine.specs.declared.shape.Shape.TheVariants.{Net, LongNet, Block, Console, Entropy}
 use Rattle.machine.proofs.Numbering.{has_item, shape_counts}
 use Rattle.sender.specs.Items.{size_on}
 
@@ -25,6 +25,7 @@ size_told m shapes dev other sound are below =
 
 pub few_in : (shape : Shape) → IsSoundShape shape → sector_count shape ≤ 4294967295
 few_in (Net mac) sound = omega arith
+few_in (LongNet mac longest) sound = omega arith
 few_in (Block sectors read_only id) sound = omega (arith, sound.few)
 few_in Console sound = omega arith
 few_in Entropy sound = omega arith

@@ -7,9 +7,10 @@ use Rattle.machine.specs.Layout.{firsts_from, item_at, layout_of, pages_of, size
 use Rattle.machine.specs.State.{MachineState}
 use Rattle.machine.proofs.Numbering.{is_below, item_back}
 use Rattle.wire.specs.Records.{page_record, spelled_record}
-use Rattle.wire.specs.Header.{header, opening_of}
-use Rattle.wire.specs.Stream.{device_texts, record_of, records_below, saved, shapes_in, texts, records_in}
+use Rattle.wire.specs.Header.{header, opening_of, version_of}
+use Rattle.wire.specs.Stream.{device_texts, record_in, record_of, records_below, saved, shapes_in, texts, records_in}
 use Rattle.wire.proofs.Saving.{one_record}
+use Rattle.wire.proofs.SentVersions.{sent_record}
 use Rattle.wire.proofs.Whole.{texts-snoc}
 use Rattle.sender.specs.Items.{disk_text, first_sector, front_text, records_from, sectors_before, sectors_text, size_on}
 
@@ -113,9 +114,20 @@ items_in_parts m =
     let whole : size_of (layout_of m) ≡ pages_of m + sectors_before m (length m.disks) = ap (λ n. size_from n (map length m.disks)) e ∙ shifted (map length m.disks) (pages_of m) 0 ∙ ap (λ sizes. pages_of m + size_from 0 sizes) (sym all) in
     ap (λ n. texts (records_below m n)) whole ∙ below_both m (pages_of m) (sectors_before m (length m.disks))
 
+-- Machines are sent in a version that has the records of version 2.
+sent_records : (m : MachineState) (n : ℕ) → records_in (version_of (shapes_in m.devices)) m n ≡ records_below m n
+unfolding records_in
+sent_records m zero = refl
+sent_records m (suc n) =
+    let item = item_at (layout_of m) n in
+    ap (λ rs. rs ++ record_in (version_of (shapes_in m.devices)) m.ram m.disks item ∷ []) (sent_records m n) ∙ ap (λ r. records_below m n ++ r ∷ []) (sent_record (shapes_in m.devices) m.ram m.disks item)
+
 -- The parts in their order are what is saved.
 pub saved_in_parts : (m : MachineState) → front_text m ++ (sectors_text m ++ device_texts 0 m.devices) ≡ saved m
 saved_in_parts m =
     let head = header (opening_of (pages_of m) (shapes_in m.devices)) in
     append_assoc head (texts (records_below m (pages_of m))) (sectors_text m ++ device_texts 0 m.devices)
-    ∙ ap (λ t. head ++ t) (sym (append_assoc (texts (records_below m (pages_of m))) (sectors_text m) (device_texts 0 m.devices)) ∙ ap (λ t. t ++ device_texts 0 m.devices) (sym (items_in_parts m)))
+    ∙ ap (λ t. head ++ t) (
+    sym (append_assoc (texts (records_below m (pages_of m))) (sectors_text m) (device_texts 0 m.devices)) ∙ ap (λ t. t ++ device_texts 0 m.devices) (sym (items_in_parts m))
+    ∙ ap (λ rs. texts rs ++ device_texts 0 m.devices) (sym (sent_records m (size_of (layout_of m))))
+    )

@@ -14,11 +14,11 @@ use Rattle.machine.specs.declared.event.Event.{Event}
 use Rattle.machine.specs.declared.reply.Reply.{Reply}
 use Rattle.machine.specs.declared.shape.Shape.{Shape}
 use Rattle.machine.proofs.Numbering.{either_way, item_back, item_there, number_back, number_below, same_layout}
-use Rattle.wire.specs.Header.{header, opening_of}
+use Rattle.wire.specs.Header.{header, opening_of, version_of}
 use Rattle.wire.specs.Records.{Record, commit, device, is_zero_page, page, page_record, round_end, sector, spelled_record, zero_page}
 use Rattle.wire.specs.Stream.{AreNumbered, IsEntry, IsStream, device_texts, last_named, record_of, rounds, shapes_in, texts}
 use Rattle.guestmem.specs.Page.{page_of}
-use Rattle.wire.proofs.Bodies.{second_has_all}
+use Rattle.wire.proofs.SentVersions.{sent_devices, sent_entries, sent_known, sent_record}
 use Rattle.wire.proofs.PageRecords.{as_page, as_zeros}
 use Rattle.wire.proofs.Whole.{each-snoc, is_item_entry, numbered_item}
 use Rattle.sender.specs.History.{AllAllowed, Allowed, AllowedBy, History, IsItsChange, IsStaleItem, entries, is_due, is_stale, machine_after, next_phase, nothing, phase_of, text, then_came, went}
@@ -222,19 +222,20 @@ module _ (m : MachineState) (h : History) (a : AllAllowed m h) (sound : IsSound 
       let body = chosen_body mid (shapes_in m.devices) stale n k (text m h) (entries m h) sound_here (omega arith) (subst P (sym layout_here) b) in
       let heads : header (opening_of (pages_of m) (shapes_in m.devices)) ≡ header (opening_of (pages_of mid) (shapes_in mid.devices)) = sym header_here in
       record {
-        version = 2;
+        version = version_of (shapes_in mid.devices);
         entries = entries m h ++ xs;
         by = record {
-          known = record { least = omega arith; most = omega arith };
-          each = body.each;
+          known = sent_known (shapes_in mid.devices);
+          each = sent_entries (shapes_in mid.devices) (layout_of mid) (entries m h ++ xs) body.each;
           numbered = body.numbered;
           last = λ i has.
               let within : IsItemIn (layout_of m) i = subst (λ l. IsItemIn l i) layout_here has in
               let number = number_of (layout_of m) i in
               let Q : items.Item → Type 0 = λ x. last_named x (entries m (then_came h Stop (r.Stopped pages sectors) c)) ≡ Some (record_of mid x) in
-              subst Q (item_back (layout_of m) i within) (fresh_is_last m (then_came h Stop (r.Stopped pages sectors) c) number (a, may, none) (number_below (layout_of m) i within) (and_not (is_stale (layout_of m) h number)));
+              subst Q (item_back (layout_of m) i within) (fresh_is_last m (then_came h Stop (r.Stopped pages sectors) c) number (a, may, none) (number_below (layout_of m) i within) (and_not (is_stale (layout_of m) h number)))
+              ∙ ap Some (sym (sent_record (shapes_in mid.devices) mid.ram mid.disks i));
           sound = sound_here;
-          devices = second_has_all mid.devices;
+          devices = sent_devices mid.devices;
           whole = closed_same (text m h) (header (opening_of (pages_of mid) (shapes_in mid.devices))) (texts (entries m h)) (texts (entries m h ++ xs)) (texts xs) (device_texts 0 mid.devices) (λ y. spelled_record (commit (sha256 y)))
               (b.text_is ∙ ap (λ (y : List ℕ). y ++ texts (entries m h)) heads) (texts-append (entries m h) xs);
         };

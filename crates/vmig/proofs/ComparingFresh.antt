@@ -1,14 +1,16 @@
 -- The fresh machine of a trace, of which a machine without disks tells whether there is one.
-use Rattle.std.proofs.Common.{◌≡◌, ℕ, ◌*◌, Bool, true, false, not, if◌then◌else◌, List, [], ◌∷◌, length, map, replicate, Option, Some, None, Result, Ok, Err, IfSome, IfErr, MatchOption, refl, ap, sym, subst, ◌∙◌}
+use Rattle.std.proofs.Common.{◌≡◌, ℕ, ◌*◌, ◌||◌, All, Bool, true, false, not, if◌then◌else◌, List, [], ◌∷◌, length, map, replicate, Option, Some, None, Result, Ok, Err, IfSome, IfErr, MatchOption, refl, ap, sym, subst, ◌∙◌}
+use Rattle.std.specs.Prelude.{◌==◌, nat_lt}
 use Rattle.std.specs.List.{AllByRecursion}
 use Rattle.std.proofs.lemmas.List.Elements.{All-from_recursion}
 use Rattle.guestmem.specs.declared.limits.TheConstants.{PAGE_SIZE}
-use Rattle.machine.proofs.MadeAs.{first_as}
+use Rattle.machine.proofs.Fresh.{all_long}
+use Rattle.machine.proofs.MadeAs.{IsLong}
 use Rattle.machine.specs.Limits.{usual}
-use Rattle.machine.specs.First.{are_same, dealt_marks, first_machine, is_beyond_limits, marks_in, new_refusal}
+use Rattle.machine.specs.First.{are_beyond, are_same, dealt_marks, first_machine, is_base, is_beyond_limits, is_ram_size, marks_in, new_refusal}
+use Rattle.machine.specs.declared.machine.TheConstants.{DEVICES_MAX}
 use Rattle.machine.specs.Seen.{Marks, Seen, all_marks, state_of}
-use Rattle.machine.specs.Shapes.{disk_sizes, first_device, made_as}
-use Rattle.machine.specs.State.{DeviceState}
+use Rattle.machine.specs.Shapes.{disk_sizes}
 use Rattle.machine.specs.declared.new_error.NewError.{NewError}
 use Rattle.machine.specs.declared.new_error.NewError.TheVariants.{BadShape, DiskMismatch, NoMemory}
 use Rattle.machine.specs.declared.shape.Shape.{Shape}
@@ -142,10 +144,16 @@ pub tells_memory : (c : Contents) (shapes : List Shape) (fault : Fault) → shap
 tells_memory c shapes fault of none is = tells c shapes fault of (memory_by (new_refusal c.pages shapes (disk_sizes shapes)) fault none is)
 
 -- Its disks fit, whatever it then answers.
-pub first_shapes : (base ram_len : ℕ) (shapes : List Shape) → map (λ (d : DeviceState). made_as d.kind) (map (first_device base ram_len) shapes) ≡ shapes
-first_shapes base ram_len [] = refl
-first_shapes base ram_len (shape ∷ shapes) =
-    ap (λ first. first ∷ map (λ (d : DeviceState). made_as d.kind) (map (first_device base ram_len) shapes)) (first_as shape) ∙ ap (λ xs. shape ∷ xs) (first_shapes base ram_len shapes)
+or_right : (a b : Bool) → (a || b) ≡ false → b ≡ false
+or_right true b is = cc
+or_right false b is = is
+
+pub shapes_are_long : (pages : ℕ) (shapes : List Shape) → new_refusal pages shapes (disk_sizes shapes) ≡ None → All IsLong shapes
+shapes_are_long pages shapes exists =
+    let bytes = PAGE_SIZE * pages in
+    let within = (not_refused (is_beyond_limits usual 0 bytes shapes) (are_same (disk_sizes shapes) (disk_sizes shapes)) exists).within in
+    let others = not (is_base 0 bytes) || not (is_ram_size usual bytes) || length shapes == 0 || nat_lt DEVICES_MAX (length shapes) in
+    all_long usual shapes (or_right others (are_beyond usual shapes) within)
 
 -- A rehearsal of it over such disks.
 pub is_rehearsed : {D E : Type 0} (c : Contents) (machine : Seen) (shapes : List Shape) (events : List LiveEvent) (disks : List (List (List ℕ))) (rehearsal : Rehearsal D E) → IsFreshMachine c machine → shapes ≡ c.shapes → events ≡ c.events → disks ≡ zero_disks shapes

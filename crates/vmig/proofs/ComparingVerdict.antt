@@ -1,5 +1,6 @@
 -- What came of a machine that was rehearsed to move over disks that are honest and steady.
 use Rattle.std.proofs.Common.{◌≡◌, ◌↔◌, ℕ, List, ◌++◌, length, map, flat_map, Bool, true, false, Option, IsTrue, inl, inr, refl, ap, sym, subst, ◌∙◌}
+use Rattle.machine.proofs.Fresh.{first_shapes}
 use Rattle.machine.specs.Lines.{lines_of}
 use Rattle.machine.specs.Seen.{Marks, Seen, all_marks, state_of}
 use Rattle.machine.specs.Shapes.{disk_sizes}
@@ -13,7 +14,7 @@ use Rattle.sender.specs.declared.event.LiveReply.TheVariants.{Guest}
 use Rattle.traces.specs.Replies.{AppendsBeginning, live_reply_line}
 use Rattle.traces.specs.Trace.{Contents, IsTrace}
 use Rattle.wire.specs.Stream.{shapes_in}
-use Rattle.vmig.proofs.ComparingFresh.{first_shapes}
+use Rattle.vmig.proofs.ComparingFresh.{shapes_are_long}
 use Rattle.vmig.proofs.ComparingSteady.{answered_stays, dealt_steady, honest_if, never_unsteady, played_stays}
 use Rattle.vmig.specs.Comparing.{AreRehearsedLines, AreSteady, HasVerdict, IsFreshMachine, LookAlike, TellsOfRehearsing, WerePlayed, verdict_ending, verdict_line}
 use Rattle.vmig.specs.Faults.{TellsOfOutput}
@@ -24,7 +25,7 @@ use Rattle.vmig.specs.declared.comparing.Verdict.TheVariants as verdicts
 
 -- The machine keeps the shapes of its trace, so its disks fit.
 fits_fresh : (c : Contents) (machine : Seen) → IsFreshMachine c machine → DoFit (disk_sizes c.shapes) machine
-fits_fresh c machine fresh = sym (ap (λ (m : MachineState). disk_sizes (shapes_in m.devices)) fresh.state ∙ ap disk_sizes (first_shapes _ _ c.shapes))
+fits_fresh c machine fresh = sym (ap (λ (m : MachineState). disk_sizes (shapes_in m.devices)) fresh.state ∙ ap disk_sizes (first_shapes _ _ c.shapes (shapes_are_long c.pages c.shapes fresh.exists)))
 
 only_memory : (sizes : List ℕ) (marks : List Marks) (machine : Seen) (e : RecvError) → DoFit sizes machine → AreSteady marks → TellsWhy sizes marks machine e → e ≡ errors.NoMemory
 only_memory sizes marks machine errors.NoMemory fits are why = refl

@@ -151,7 +151,7 @@ headless bytes none m s =
     let opening = opening_in s.version (pages_of m) m.devices in
     let head : List ℕ = header opening in
     let front : List ℕ = texts s.entries ++ device_texts 0 m.devices in
-    none opening _ (record { good = pages_limits s.version m s.by.known s.by.sound; whole = s.by.whole ∙ append_assoc head front _ })
+    none opening _ (record { good = pages_limits s.version m s.by.known s.by.sound s.by.devices; whole = s.by.whole ∙ append_assoc head front _ })
 
 pub head_ends : (ram : RamTerms) (place : Option Ptr) (held : List ℕ) → HasNoHeader held → TellsEnd (AtHead ram place held) Truncated
 head_ends ram place held none = λ b is m. headless b (subst HasNoHeader (sym is) none) m

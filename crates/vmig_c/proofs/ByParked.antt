@@ -6,7 +6,9 @@ use Rattle.blk.proofs.Zeros.{zero_bytes}
 use Rattle.guestmem.specs.Memory.{Memory}
 use Rattle.machine.specs.Applied.{IsApplied}
 use Rattle.machine.specs.Direct.{done_reply}
-use Rattle.machine.specs.Parked.{IsAppliedParked, ParkedSeen, back_with, parked_states}
+use Rattle.machine.specs.Parked.{IsAppliedParked, ParkedSeen, WhateverRam, back_with, parked_states}
+use Rattle.machine.specs.Seen.{state_of}
+use Rattle.machine.specs.Sound.{IsSound}
 use Rattle.machine.specs.declared.event.Event.{Event}
 use Rattle.machine.specs.declared.event.Event.TheVariants.{Resize, Drop}
 use Rattle.machine.specs.declared.reply.Refusal.{Refusal}
@@ -42,14 +44,20 @@ told_so p next e answer status applied is = told p next e (done_reply answer) st
 pub served : (l next : LiveParkedSeen) (e : Event) (reply : LiveReply) (status number n : ℕ) → ServesParked l e reply next → status ≡ live_status reply → number ≡ live_number reply n → IsServedLent l e status number n next
 served l next e reply status number n serves told counted = record { reply = reply; serves = serves; status_is = told; number_is = counted }
 
-few_for : (o : Option MigError) (l next : LiveParkedSeen) (e : Event) (answer : Result Reply MigError) → 1 ≤ length l.parked.versions → length l.parked.versions ≤ 4294967295
-    → MatchOption o (GuestsParked l e (guest_reply answer) next) (λ x. (guest_reply answer ≡ live.Mig x) × (next ≡ l)) → IfOk answer (λ reply. length (sent_in reply) ≤ 65536)
-few_for None l next e (Ok reply) some few after = few_by (back_with l.parked (zero_ram l.parked)) (back_with next.parked (zero_ram l.parked)) e reply (applied_at l.parked next.parked e reply some few after.applied)
-few_for (Some x) l next e (Ok reply) some few after = let other : live.Guest reply ≡ live.Mig x = after.0 in absurd cc
-few_for o l next e (Err x) some few after = tt
+abbrev IsSoundBack : ParkedSeen → Type 0
+IsSoundBack p = WhateverRam p (λ m. IsSound (state_of (back_with p m)))
 
-pub few_told : (l next : LiveParkedSeen) (e : Event) (answer : Result Reply MigError) → 1 ≤ length l.parked.versions → length l.parked.versions ≤ 4294967295 → ServesParked l e (guest_reply answer) next → IfOk answer (λ reply. length (sent_in reply) ≤ 65536)
-few_told l next e answer some few serves = few_for (refusal_for l.phase (Guest e)) l next e answer some few serves
+sound_at : (p : ParkedSeen) → 1 ≤ length p.versions → length p.versions ≤ 4294967295 → IsSoundBack p → IsSound (state_of (back_with p (zero_ram p)))
+sound_at p some few sound = sound (zero_ram p) (record { pages = length-replicate (4096 * length p.versions) 0; some = some; few = few }) (zero_bytes (4096 * length p.versions)) refl
+
+few_for : (o : Option MigError) (l next : LiveParkedSeen) (e : Event) (answer : Result Reply MigError) → 1 ≤ length l.parked.versions → length l.parked.versions ≤ 4294967295 → IsSoundBack l.parked
+    → MatchOption o (GuestsParked l e (guest_reply answer) next) (λ x. (guest_reply answer ≡ live.Mig x) × (next ≡ l)) → IfOk answer (λ reply. length (sent_in reply) ≤ 65536)
+few_for None l next e (Ok reply) some few sound after = few_by (back_with l.parked (zero_ram l.parked)) (back_with next.parked (zero_ram l.parked)) e reply (sound_at l.parked some few sound) (applied_at l.parked next.parked e reply some few after.applied)
+few_for (Some x) l next e (Ok reply) some few sound after = let other : live.Guest reply ≡ live.Mig x = after.0 in absurd cc
+few_for o l next e (Err x) some few sound after = tt
+
+pub few_told : (l next : LiveParkedSeen) (e : Event) (answer : Result Reply MigError) → 1 ≤ length l.parked.versions → length l.parked.versions ≤ 4294967295 → WhateverRam l.parked (λ m. IsSound (state_of (back_with l.parked m))) → ServesParked l e (guest_reply answer) next → IfOk answer (λ reply. length (sent_in reply) ≤ 65536)
+few_told l next e answer some few sound serves = few_for (refusal_for l.phase (Guest e)) l next e answer some few sound serves
 
 -- A size and a drop have no number.
 without : (o : Option MigError) (l next : LiveParkedSeen) (e : Event) (reply : LiveReply) → 1 ≤ length l.parked.versions → length l.parked.versions ≤ 4294967295

@@ -44,7 +44,7 @@ made_of features None is = absurd cc
 
 made_kind : (features : ℕ) (kind : Kind) (k : ℕ) → kind_owed features kind k ≡ Flush → kind_flushes kind k ≡ true
 made_kind features (Block block) k is = made_of features (slice_get block.requests k) is
-made_kind features (Network mac frames) k is = absurd cc
+made_kind features (Network mac inbox) k is = absurd cc
 made_kind features (Console size held) k is = absurd cc
 made_kind features (Entropy pool) k is = absurd cc
 

@@ -43,7 +43,7 @@ write_done dev None shape off width value is = absurd cc
 write_done dev (Some d) shape off width value is = out_done (written_out d.kind off width value)
 
 drop_kind : (dev : ℕ) (d : DeviceState) (kind : Kind) → has_input (made_as kind) ≡ true → status_of (drop_by dev d (drop_of kind)).reply ≡ 0
-drop_kind dev d (Network mac frames) some = refl
+drop_kind dev d (Network mac inbox) some = refl
 drop_kind dev d (Block block) some = absurd (true≢false (sym some))
 drop_kind dev d (Console size held) some = refl
 drop_kind dev d (Entropy pool) some = refl

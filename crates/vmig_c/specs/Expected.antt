@@ -22,7 +22,7 @@ use Rattle.c_machine.specs.declared.setup.Expected.{Expected}
 
 -- The most that may arrive. RAM and images of the caller are their own limit: the machine has to be as they are.
 abbrev pub allowed_of : Expected → Allowed
-allowed_of e = record { limits = arrival_limits e.flags e.frame; pages = if has_ram e then PAGES_GREATEST else e.most_pages; sectors = if has_images e then 2 ^ 64 - 1 else e.most_sectors; base = e.base }
+allowed_of e = record { limits = arrival_limits e.flags e.frame; pages = if has_ram e then PAGES_GREATEST else e.most_pages; sectors = if has_images e then 2 ^ 64 - 1 else e.most_sectors; frame = e.frame; base = e.base }
 
 -- The slot names no memory, or memory that may be RAM.
 abbrev pub IsNoneOrRam : Slot → Type 0

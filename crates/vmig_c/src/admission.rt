@@ -11,8 +11,8 @@ ghost use Rattle.vmig_c.specs.AdmissionSeen as seen;
 ghost use Rattle.vmig_c.specs.Kept.{admission_of};
 
 use crate::status::stream_status;
-use c_machine::count_in;
 use c_machine::status::{STREAM_FAILED, STREAM_MISMATCH, STREAM_TOO_LARGE};
+use c_machine::{count_in, has_longer_frames};
 use guestmem::PAGE_SIZE;
 use machine::{Limits, Shape, is_base};
 use receiver::{RecvError, read_heading_within};
@@ -33,6 +33,9 @@ pub struct Allowed {
 
     /// Of sectors, of all its disks together.
     pub sectors: u64,
+
+    /// Of bytes of a frame of a network device for long ones; 0 where there may be no such device.
+    pub frame: u32,
 
     /// The guest-physical address at which RAM begins.
     pub base: u64,
@@ -150,6 +153,9 @@ fn is_within(allowed: Allowed, pages: u32, shapes: &[Shape]) -> bool
     ensures { result ≡ is_within allowed pages shapes.now }
 {
     if pages > allowed.pages {
+        return false;
+    }
+    if has_longer_frames(allowed.frame, shapes) {
         return false;
     }
     let mut left = allowed.sectors;

@@ -134,6 +134,7 @@ fn allowed(expected: &mut Expected) -> Allowed
         limits,
         pages,
         sectors,
+        frame: expected.frame,
         base: expected.base,
     }
 }

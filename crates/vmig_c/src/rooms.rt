@@ -42,7 +42,9 @@ fn room_of(kind: &Kind) -> Option<usize>
     ensures { result ≡ room_of kind.now }
 {
     match kind {
-        Kind::Network { inbox, .. } => Some(most_waiting(inbox.longest()) - inbox.len()),
+        Kind::Network { inbox, .. } => Some(most_waiting(inbox.longest()).saturating_sub(
+            inbox.len(),
+        )),
         Kind::Block(_) => None,
         Kind::Console { held, .. } => Some(HOST_BYTES_MAX - held.len()),
         Kind::Entropy(pool) => Some(HOST_BYTES_MAX - pool.len()),

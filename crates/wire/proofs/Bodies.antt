@@ -1,6 +1,6 @@
 -- Bodies of devices: what is read was spelled so, and what is spelled so is read.
 use Rattle.std.proofs.Common.{◌≡◌, ℕ, zero, suc, ◌+◌, ◌*◌, ◌<◌, ◌≤◌, Bool, true, false, List, [], ◌∷◌, ◌++◌, length, take, drop, get_or, Some, None, refl, sym, ap, subst, ◌∙◌, append_assoc, drop-drop, arith}
-use Rattle.std.specs.List.{All, AllByRecursion}
+use Rattle.std.specs.List.{AllByRecursion}
 use Rattle.std.proofs.lemmas.Nat.{and_le_l}
 use Rattle.std.proofs.lemmas.List.Elements.{recursion_from_All}
 use Rattle.std.proofs.lemmas.List.{take-append-drop, length-append, length-drop, drop_at}
@@ -305,12 +305,9 @@ is_body version shape base ram_len bytes o are form read sound has =
     let made = kind_made shape (drop (26 + 36 * queues_of shape) bytes) o read in
     record { shape_is = made; sound = sound; has = λ first. ap (λ s. has_zeroes s (common_of bytes)) made ∙ has first; is = body_written base ram_len shape bytes o are form read }
 
--- Version 2 has every device.
+-- Version 2 has every body.
 second_has : (d : DeviceState) → IsDeviceOf 2 d
 second_has d first = absurd (omega (arith, first))
-
-pub second_has_all : (ds : List DeviceState) → All (IsDeviceOf 2) ds
-second_has_all ds k d below first = absurd (omega (arith, first))
 
 -- One body is of one sound device, and it is short.
 pub one_body : {base : ℕ} (ram_len : ℕ) (d e : DeviceState) → made_as d.kind ≡ made_as e.kind → IsSoundDevice base ram_len d → IsSoundDevice base ram_len e → body d ≡ body e → d ≡ e

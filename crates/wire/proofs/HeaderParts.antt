@@ -1,19 +1,19 @@
 -- Headers as far as they came, and their faults.
 use Rattle.std.proofs.Common.{◌≡◌, ◌≢◌, ◌&&◌, nat_lt, Bool, true, false, cond, eqb, ℕ, zero, suc, ◌+◌, ◌<◌, ◌≤◌, ◌⊎◌, inl, inr, List, [], ◌∷◌, ◌++◌, length, take, drop, Option, Some, None, refl, sym, ap, subst, ◌∙◌, append_assoc, append-nil, arith}
 use Rattle.std.specs.Prelude.{All}
-use Rattle.std.specs.List.{AllByRecursion}
+use Rattle.std.specs.List.{AllByRecursion, list_any}
 use Rattle.std.proofs.lemmas.List.{take-append-drop, length-append, length-take, drop_at}
-use Rattle.std.proofs.lemmas.List.Elements.{All-push, recursion_from_All}
+use Rattle.std.proofs.lemmas.List.Elements.{All-from_recursion, All-push, recursion_from_All}
 use Rattle.guestmem.specs.Number.{IsBytes, number_at}
 use Rattle.machine.specs.Limits.{AreWithin, IsShapeWithin, greatest, usual}
 use Rattle.machine.specs.Sound.{IsSoundShape}
 use Rattle.machine.specs.declared.limits.Limits.{Limits}
 use Rattle.machine.specs.declared.shape.Shape.{Shape}
-use Rattle.wire.specs.Header.{front, spelled_shape, spelled_shapes, Begins, Opening, IsVersion, shape_length}
+use Rattle.wire.specs.Header.{front, is_long, spelled_shape, spelled_shapes, Begins, Opening, IsVersion, shape_length}
 use Rattle.machine.specs.declared.shape.Shape.TheVariants.{Net, LongNet, Block, Console, Entropy}
 use Rattle.std.proofs.lemmas.Bool.{ltb-true}
 use Rattle.wire.specs.Numbers.{digits}
-use Rattle.wire.specs.HeaderFaults.{IsBeyond, IsShapeFor, IsUnknown, MayCount, IsBadMagic, IsBadVersion, Says, IsBadCount, IsNoShape, IsBadShape, IsHeaderPart, OnFault, ShowsFault}
+use Rattle.wire.specs.HeaderFaults.{IsBeyond, IsShapeFor, IsUnknown, MayCount, IsBadMagic, IsBadVersion, IsRead, Says, IsBadCount, IsNoShape, IsBadShape, IsPlain, IsHeaderPart, OnFault, ShowsFault, limits_in}
 use Rattle.wire.specs.HeaderParts.{ShapeWaits, BadFirst, FewShapes, ShapesWait, ShapesBad, ShapesRead, OnBad}
 use Rattle.wire.specs.ShapeReading.{shape_of}
 use Rattle.wire.specs.declared.header_error.HeaderError.{HeaderError}
@@ -22,6 +22,7 @@ use Rattle.wire.proofs.Choices.{same_found}
 use Rattle.wire.proofs.HeaderLemmas.{HeadSays, IsKnown, known_within, head_says, head_spelled, head_written, length_shape, no_shape, shape_of-spelled}
 use Rattle.wire.proofs.PartLengths.{length-front}
 use Rattle.wire.proofs.Spelling.{head_same, split_same}
+use Rattle.wire.proofs.Versions.{any_long, for_each_version, for_its_version, long_is_late}
 
 -- One list of shapes is the beginning of the other.
 
@@ -72,6 +73,18 @@ are_sound l ss h k d below = (h k d below).sound
 
 pub are_for : (l : Limits) (bytes : List ℕ) (opening : Opening) (rest : List ℕ) → AreWithin l opening.pages opening.shapes → Begins bytes opening rest → All (IsShapeFor l) opening.shapes
 are_for l bytes opening rest w b k d below = record { sound = b.good.sound k d below; within = w.few_sectors k d below }
+
+-- They are within what the limits allow in its version too, and its version is read.
+in_version : {bytes : List ℕ} {opening : Opening} {rest : List ℕ} (l : Limits) → AreWithin l opening.pages opening.shapes → Begins bytes opening rest → All (IsShapeFor (limits_in opening.version l)) opening.shapes
+in_version {bytes} {opening} {rest} l w b =
+    All-from_recursion (IsShapeFor (limits_in opening.version l)) opening.shapes
+    (for_its_version l opening.version opening.shapes b.good.has.1 (recursion_from_All (IsShapeFor l) opening.shapes (are_for l bytes opening rest w b)))
+
+read_of : {bytes : List ℕ} {opening : Opening} {rest : List ℕ} (l : Limits) → AreWithin l opening.pages opening.shapes → Begins bytes opening rest → IsRead l opening.version
+read_of {bytes} {opening} {rest} l w b = record {
+  known = b.good.known;
+  late = λ third. any_long l opening.shapes (recursion_from_All (IsShapeFor l) opening.shapes (are_for l bytes opening rest w b)) (b.good.has.0 (omega (arith, third, b.good.known.most)));
+}
 
 -- No wrong shape is spelled.
 
@@ -254,26 +267,35 @@ shapes_bad l n count bytes rest ss h lt b = record { few = few_shapes l n count 
 grouped : {bytes : List ℕ} {opening : Opening} {rest : List ℕ} → Begins bytes opening rest → bytes ≡ front opening.version opening.pages (length opening.shapes) ++ (spelled_shapes opening.shapes ++ rest)
 grouped {opening = opening} {rest = rest} b = b.whole ∙ append_assoc (front opening.version opening.pages (length opening.shapes)) (spelled_shapes opening.shapes) rest
 
--- What the first 16 bytes of a header say.
-numbered : {bytes : List ℕ} {opening : Opening} {rest : List ℕ} → Begins bytes opening rest → HeadSays bytes opening.version opening.pages (length opening.shapes)
-numbered {opening = opening} {rest = rest} b =
+pub says_of : {bytes : List ℕ} {opening : Opening} {rest : List ℕ} → Begins bytes opening rest → HeadSays bytes opening.version opening.pages (length opening.shapes)
+says_of {opening = opening} {rest = rest} b =
     subst (λ (x : List ℕ). HeadSays x opening.version opening.pages (length opening.shapes)) (sym (grouped b ∙ ap (λ (x : List ℕ). x ++ (spelled_shapes opening.shapes ++ rest)) (head_spelled opening.version opening.pages (length opening.shapes))))
     (head_says opening.version opening.pages (length opening.shapes) (spelled_shapes opening.shapes ++ rest) b.good.known.most b.good.few_pages b.good.few_devices)
-
-pub says_of : {bytes : List ℕ} {opening : Opening} {rest : List ℕ} → Begins bytes opening rest → Says bytes opening.pages (length opening.shapes)
-says_of b =
-    let n = numbered b in
-    record { long = n.long; magic = n.magic; known = subst IsVersion (sym n.version_is) b.good.known; pages_are = n.pages_are; count_is = n.count_is }
 
 pub shapes_behind : {bytes : List ℕ} {opening : Opening} {rest : List ℕ} → Begins bytes opening rest → drop 16 bytes ≡ spelled_shapes opening.shapes ++ rest
 shapes_behind {opening = opening} {rest = rest} b = ap (drop 16) (grouped b) ∙ drop_at (front opening.version opening.pages (length opening.shapes)) (spelled_shapes opening.shapes ++ rest) 16 (length-front opening.version opening.pages (length opening.shapes))
 
-pub begins_so : (l : Limits) (bytes : List ℕ) (version pages count : ℕ) (ss : List Shape) (rest : List ℕ) → l.pages ≤ 4294967295 → IsBytes bytes → version ≡ number_at bytes 4 4 → Says bytes pages count → MayCount l pages count → ShapesRead l count (drop 16 bytes) ss rest
-    → Begins bytes (record { version = version; pages = pages; shapes = ss }) rest
-begins_so l bytes version pages count ss rest most are is says may read =
+-- A version that has a device for long frames is the third.
+third : (l : Limits) (version count : ℕ) (bytes rest : List ℕ) (ss : List Shape) → IsVersion version → ShapesRead (limits_in version l) count bytes ss rest → list_any is_long ss ≡ true → version ≡ 3
+third l version count bytes rest ss known read long =
+    let late = long_is_late l version (any_long (limits_in version l) ss (recursion_from_All (IsShapeFor (limits_in version l)) ss read.sound) long) in
+    omega (arith, known.most, late)
+
+pub begins_so : (l : Limits) (bytes : List ℕ) (version pages count : ℕ) (ss : List Shape) (rest : List ℕ) → l.pages ≤ 4294967295 → IsBytes bytes → version ≡ number_at bytes 4 4 → Says l bytes pages count → MayCount l pages count
+    → ShapesRead (limits_in version l) count (drop 16 bytes) ss rest → (version ≡ 3 → list_any is_long ss ≡ true) → Begins bytes (record { version = version; pages = pages; shapes = ss }) rest
+begins_so l bytes version pages count ss rest most are is says may read late =
+    let known : IsVersion version = subst IsVersion (sym is) says.known.known in
     let written = head_written bytes version pages count are (record { long = says.long; magic = says.magic; version_is = sym is; pages_are = says.pages_are; count_is = says.count_is }) in
     record {
-      good = record { known = subst IsVersion (sym is) says.known; some_page = may.some_page; few_pages = omega (arith, may.few_pages, most); some_device = omega (arith, may.some_device, read.count_is); few_devices = omega (arith, may.few_devices, read.count_is); sound = are_sound l ss read.sound };
+      good = record {
+        known = known;
+        some_page = may.some_page;
+        few_pages = omega (arith, may.few_pages, most);
+        some_device = omega (arith, may.some_device, read.count_is);
+        few_devices = omega (arith, may.few_devices, read.count_is);
+        sound = are_sound (limits_in version l) ss read.sound;
+        has = (late, λ long. third l version count (drop 16 bytes) rest ss known read long);
+      };
       whole =
           written
           ∙ ap (λ (n : ℕ). front version pages n ++ drop 16 bytes) (sym read.count_is)
@@ -281,25 +303,26 @@ begins_so l bytes version pages count ss rest most are is says may read =
           ∙ sym (append_assoc (front version pages (length ss)) (spelled_shapes ss) rest);
     }
 
-pub within_so : (l : Limits) (pages count : ℕ) (bytes rest : List ℕ) (ss : List Shape) → MayCount l pages count → ShapesRead l count bytes ss rest → AreWithin l pages ss
-within_so l pages count bytes rest ss may read = record { few_pages = may.few_pages; few_sectors = λ k d below. (read.sound k d below).within }
+pub within_so : (l : Limits) (version pages count : ℕ) (bytes rest : List ℕ) (ss : List Shape) → MayCount l pages count → ShapesRead (limits_in version l) count bytes ss rest → AreWithin l pages ss
+within_so l version pages count bytes rest ss may read = record { few_pages = may.few_pages; few_sectors = λ k d below. (for_each_version l version ss read.sound k d below).within }
 
 pub not_both_ways : (b : Bool) → b ≡ true → b ≡ false → ⊥
 not_both_ways b e f = let no : true ≡ false = sym e ∙ f in cc
 
 -- A header that is not whole, with no fault.
-no_fault_yet : (l : Limits) (bytes : List ℕ) → ((at : ℕ) → ¬ (IsBadMagic bytes at)) → ((at : ℕ) → ¬ (IsBadVersion bytes at)) → ((at : ℕ) → ¬ (IsBadCount l bytes at)) → ((at : ℕ) → ¬ (IsBadShape l bytes at))
+no_fault_yet : (l : Limits) (bytes : List ℕ) → ((at : ℕ) → ¬ (IsBadMagic bytes at)) → ((at : ℕ) → ¬ (IsBadVersion l bytes at)) → ((at : ℕ) → ¬ (IsBadCount l bytes at)) → ((at : ℕ) → ¬ (IsBadShape l bytes at)) → ((at : ℕ) → ¬ (IsPlain l bytes at))
     → (k : HeaderError) (at : ℕ) → ¬ (ShowsFault l k bytes at)
-no_fault_yet l bytes m v c s errors.BadMagic at h = m at h
-no_fault_yet l bytes m v c s errors.BadVersion at h = v at h
-no_fault_yet l bytes m v c s errors.BadShape at (inl h) = c at h
-no_fault_yet l bytes m v c s errors.BadShape at (inr h) = s at h
-no_fault_yet l bytes m v c s errors.NoMemory at h = h
+no_fault_yet l bytes m v c s p errors.BadMagic at h = m at h
+no_fault_yet l bytes m v c s p errors.BadVersion at (inl h) = v at h
+no_fault_yet l bytes m v c s p errors.BadVersion at (inr h) = p at h
+no_fault_yet l bytes m v c s p errors.BadShape at (inl h) = c at h
+no_fault_yet l bytes m v c s p errors.BadShape at (inr h) = s at h
+no_fault_yet l bytes m v c s p errors.NoMemory at h = h
 
-pub head_short : (l : Limits) (bytes : List ℕ) → length bytes < 16 → ((at : ℕ) → ¬ (IsBadMagic bytes at)) → ((at : ℕ) → ¬ (IsBadVersion bytes at)) → IsHeaderPart l bytes
+pub head_short : (l : Limits) (bytes : List ℕ) → length bytes < 16 → ((at : ℕ) → ¬ (IsBadMagic bytes at)) → ((at : ℕ) → ¬ (IsBadVersion l bytes at)) → IsHeaderPart l bytes
 head_short l bytes short m v =
     let none : (opening : Opening) (rest : List ℕ) → ¬ (Begins bytes opening rest) = λ opening rest b. omega (arith, short, (says_of b).long) in
-    record { no_header = none; no_fault = no_fault_yet l bytes m v (λ at h. omega (arith, short, h.says.long)) (λ at h. omega (arith, short, h.says.long)) }
+    record { no_header = none; no_fault = no_fault_yet l bytes m v (λ at h. omega (arith, short, h.says.long)) (λ at h. omega (arith, short, h.says.long)) (λ at h. omega (arith, short, h.says.long)) }
 
 -- What is behind fewer shapes than there are to be.
 
@@ -323,22 +346,24 @@ not_bad : (limits : Limits) (ss ts : List Shape) (bad x y : List ℕ) → All (I
 not_bad limits ss ts bad x y h k n w (inl l) = bad_right limits l.more bad x y (sound_behind (IsShapeFor limits) ss l.more ts l.all k) n w l.left
 not_bad limits ss ts bad x y h k n w (inr l) = bad_left limits l.more bad x y (sound_behind (IsShapeFor limits) ts l.more ss l.all h) n w l.left
 
-pub head_part : (l : Limits) (bytes : List ℕ) (pages count : ℕ) → Says bytes pages count → MayCount l pages count → ShapesWait l count (drop 16 bytes) → IsHeaderPart l bytes
+pub head_part : (l : Limits) (bytes : List ℕ) (pages count : ℕ) → Says l bytes pages count → MayCount l pages count → ShapesWait (limits_in (number_at bytes 4 4) l) count (drop 16 bytes) → IsHeaderPart l bytes
 head_part l bytes pages count says may s =
-    let few = are_sound l s.few.shapes s.few.sound in
+    let limits = limits_in (number_at bytes 4 4) l in
+    let few = are_sound limits s.few.shapes s.few.sound in
     let none : (opening : Opening) (rest : List ℕ) → ¬ (Begins bytes opening rest) = λ opening rest b.
-    not_whole l count s.few.shapes opening.shapes s.few.rest rest b.good.sound s.few.fewer (sym (says_of b).count_is ∙ says.count_is) s.waits (shapes_led s.few.shapes opening.shapes s.few.rest rest few b.good.sound (sym s.few.whole ∙ shapes_behind b)) in
+    not_whole limits count s.few.shapes opening.shapes s.few.rest rest b.good.sound s.few.fewer (sym (says_of b).count_is ∙ says.count_is) s.waits (shapes_led s.few.shapes opening.shapes s.few.rest rest few b.good.sound (sym s.few.whole ∙ shapes_behind b)) in
     record {
       no_header = none;
       no_fault = no_fault_yet l bytes (λ at h. h.never says.magic) (λ at h. h.never says.known)
           (λ at h. h.never (rw (sym h.says.pages_are ∙ says.pages_are, sym h.says.count_is ∙ says.count_is) may))
-          (λ at h. not_bad l s.few.shapes h.shapes h.bad s.few.rest h.more s.few.sound h.sound h.never s.waits (shapes_led s.few.shapes h.shapes s.few.rest (h.bad ++ h.more) few (are_sound l h.shapes h.sound) (sym s.few.whole ∙ h.whole)));
+          (λ at h. not_bad limits s.few.shapes h.shapes h.bad s.few.rest h.more s.few.sound h.sound h.never s.waits (shapes_led s.few.shapes h.shapes s.few.rest (h.bad ++ h.more) few (are_sound limits h.shapes h.sound) (sym s.few.whole ∙ h.whole)))
+          (λ at h. not_whole limits count s.few.shapes h.shapes s.few.rest h.more (are_sound l h.shapes h.sound) s.few.fewer (sym h.says.count_is ∙ says.count_is) s.waits (shapes_led s.few.shapes h.shapes s.few.rest h.more few (are_sound l h.shapes h.sound) (sym s.few.whole ∙ h.whole)));
     }
 
-pub bad_count : (l : Limits) (bytes : List ℕ) (pages count : ℕ) → Says bytes pages count → ¬ (MayCount l pages count) → (at : ℕ) × ShowsFault l errors.BadShape bytes at
+pub bad_count : (l : Limits) (bytes : List ℕ) (pages count : ℕ) → Says l bytes pages count → ¬ (MayCount l pages count) → (at : ℕ) × ShowsFault l errors.BadShape bytes at
 bad_count l bytes pages count says never = (16, inl (record { pages = pages; count = count; says = says; never = never; there = refl }))
 
-bad_shapes : (l : Limits) (bytes : List ℕ) (pages count : ℕ) → Says bytes pages count → MayCount l pages count → ShapesBad l count (drop 16 bytes) → (at : ℕ) × ShowsFault l errors.BadShape bytes at
+bad_shapes : (l : Limits) (bytes : List ℕ) (pages count : ℕ) → Says l bytes pages count → MayCount l pages count → ShapesBad (limits_in (number_at bytes 4 4) l) count (drop 16 bytes) → (at : ℕ) × ShowsFault l errors.BadShape bytes at
 bad_shapes l bytes pages count says may s = (
   16 + (length (spelled_shapes s.few.shapes) + length s.bad.bad),
   inr (record {
@@ -357,11 +382,30 @@ bad_shapes l bytes pages count says may s = (
   }),
 )
 
-pub told_shapes : (l : Limits) (bytes : List ℕ) (pages count : ℕ) (e : HeaderError) → Says bytes pages count → MayCount l pages count → OnBad e (ShapesBad l count (drop 16 bytes)) → OnFault e ((at : ℕ) × ShowsFault l e bytes at)
+pub told_shapes : (l : Limits) (bytes : List ℕ) (pages count : ℕ) (e : HeaderError) → Says l bytes pages count → MayCount l pages count → OnBad e (ShapesBad (limits_in (number_at bytes 4 4) l) count (drop 16 bytes)) → OnFault e ((at : ℕ) × ShowsFault l e bytes at)
 told_shapes l bytes pages count errors.BadShape says may h = bad_shapes l bytes pages count says may h
 told_shapes l bytes pages count errors.NoMemory says may h = tt
 told_shapes l bytes pages count errors.BadMagic says may h = absurd h
 told_shapes l bytes pages count errors.BadVersion says may h = absurd h
+
+-- Version 3 without a device for long frames.
+pub plain_third : (l : Limits) (bytes : List ℕ) (pages count : ℕ) (ss : List Shape) (rest : List ℕ) → Says l bytes pages count → MayCount l pages count → ShapesRead (limits_in (number_at bytes 4 4) l) count (drop 16 bytes) ss rest
+    → number_at bytes 4 4 ≡ 3 → list_any is_long ss ≡ false → (at : ℕ) × ShowsFault l errors.BadVersion bytes at
+plain_third l bytes pages count ss rest says may read late none = (
+  16 + length (spelled_shapes ss),
+  inr (record {
+    pages = pages;
+    shapes = ss;
+    more = rest;
+    says = subst (Says l bytes pages) (sym read.count_is) says;
+    may = subst (MayCount l pages) (sym read.count_is) may;
+    sound = for_each_version l (number_at bytes 4 4) ss read.sound;
+    whole = read.whole;
+    late = late;
+    never = none;
+    there = refl;
+  }),
+)
 
 -- Behind a whole header no fault of one stands.
 
@@ -369,7 +413,7 @@ none_more : (ss ts more : List Shape) → length ss ≡ length ts → ts ≡ ss 
 none_more ss ts [] e f = sym (f ∙ append-nil ss)
 none_more ss ts (s ∷ more) e f = absurd (omega (arith, e, ap length f, length-append ss (s ∷ more)))
 
-shapes_same : (ss ts : List Shape) (x y : List ℕ) → length ss ≡ length ts → LongerShapes ss ts x y ⊎ LongerShapes ts ss y x → ss ≡ ts
+pub shapes_same : (ss ts : List Shape) (x y : List ℕ) → length ss ≡ length ts → LongerShapes ss ts x y ⊎ LongerShapes ts ss y x → ss ≡ ts
 shapes_same ss ts x y e (inl l) = none_more ss ts l.more e l.all
 shapes_same ss ts x y e (inr l) = sym (none_more ts ss l.more (sym e) l.all)
 
@@ -386,15 +430,33 @@ not_bad_whole : (limits : Limits) (ss ts : List Shape) (bad x y : List ℕ) → 
 not_bad_whole limits ss ts bad x y good n lt (inl l) = omega (arith, lt, ap length l.all, length-append ss l.more)
 not_bad_whole limits ss ts bad x y good n lt (inr l) = bad_within limits l.more bad x y (sound_behind (IsShapeFor limits) ts l.more ss l.all good) n (omega (arith, lt, ap length l.all, length-append ts l.more)) l.left
 
+-- A header of version 3 has a device for long frames.
+plain_not_begun : (l : Limits) (bytes : List ℕ) (opening : Opening) (rest : List ℕ) (ss : List Shape) (more : List ℕ) → Begins bytes opening rest → number_at bytes 12 4 ≡ length ss → All IsSoundShape ss → drop 16 bytes ≡ spelled_shapes ss ++ more
+    → number_at bytes 4 4 ≡ 3 → list_any is_long ss ≡ false → ⊥
+plain_not_begun l bytes opening rest ss more b count sound whole late none =
+    let says = says_of b in
+    let same : opening.shapes ≡ ss = shapes_same opening.shapes ss rest more (sym says.count_is ∙ count) (shapes_led opening.shapes ss rest more b.good.sound sound (sym (shapes_behind b) ∙ whole)) in
+    not_both_ways (list_any is_long opening.shapes) (b.good.has.0 (sym says.version_is ∙ late)) (ap (list_any is_long) same ∙ none)
+
+-- Nor has it a wrong shape, where it is whole.
+pub plain_not_bad : (l : Limits) (bytes : List ℕ) (p q : ℕ) → IsPlain l bytes p → IsBadShape l bytes q → ⊥
+plain_not_bad l bytes p q f h =
+    let limits = limits_in (number_at bytes 4 4) l in
+    let within : All (IsShapeFor limits) f.shapes = All-from_recursion (IsShapeFor limits) f.shapes (for_its_version l (number_at bytes 4 4) f.shapes (λ long. f.late) (recursion_from_All (IsShapeFor l) f.shapes f.sound)) in
+    not_bad_whole limits f.shapes h.shapes h.bad f.more h.more within h.never (omega (arith, h.fewer, sym h.says.count_is ∙ f.says.count_is)) (shapes_led f.shapes h.shapes f.more (h.bad ++ h.more) (are_sound l f.shapes f.sound) (are_sound limits h.shapes h.sound) (sym f.whole ∙ h.whole))
+
 pub begun_without_fault : (l : Limits) (bytes : List ℕ) (opening : Opening) (rest : List ℕ) → AreWithin l opening.pages opening.shapes → Begins bytes opening rest → (k : HeaderError) (at : ℕ) → ¬ (ShowsFault l k bytes at)
 begun_without_fault l bytes opening rest w b errors.BadMagic at h = h.never (says_of b).magic
-begun_without_fault l bytes opening rest w b errors.BadVersion at h = h.never (says_of b).known
+begun_without_fault l bytes opening rest w b errors.BadVersion at (inl h) = h.never (subst (IsRead l) (sym (says_of b).version_is) (read_of l w b))
+begun_without_fault l bytes opening rest w b errors.BadVersion at (inr h) = plain_not_begun l bytes opening rest h.shapes h.more b (h.says.count_is) (are_sound l h.shapes h.sound) h.whole h.late h.never
 begun_without_fault l bytes opening rest w b errors.BadShape at (inl h) =
     let says = says_of b in
     h.never (rw (sym h.says.pages_are ∙ says.pages_are, sym h.says.count_is ∙ says.count_is) (record { some_page = b.good.some_page; few_pages = w.few_pages; some_device = b.good.some_device; few_devices = b.good.few_devices }))
 begun_without_fault l bytes opening rest w b errors.BadShape at (inr h) =
     let says = says_of b in
-    not_bad_whole l opening.shapes h.shapes h.bad rest h.more (are_for l bytes opening rest w b) h.never (omega (arith, h.fewer, sym h.says.count_is ∙ says.count_is)) (shapes_led opening.shapes h.shapes rest (h.bad ++ h.more) b.good.sound (are_sound l h.shapes h.sound) (sym (shapes_behind b) ∙ h.whole))
+    let limits = limits_in (number_at bytes 4 4) l in
+    let within : All (IsShapeFor limits) opening.shapes = subst (λ (v : ℕ). All (IsShapeFor (limits_in v l)) opening.shapes) (sym says.version_is) (in_version l w b) in
+    not_bad_whole limits opening.shapes h.shapes h.bad rest h.more within h.never (omega (arith, h.fewer, sym h.says.count_is ∙ says.count_is)) (shapes_led opening.shapes h.shapes rest (h.bad ++ h.more) b.good.sound (are_sound limits h.shapes h.sound) (sym (shapes_behind b) ∙ h.whole))
 begun_without_fault l bytes opening rest w b errors.NoMemory at h = h
 
 -- Where there is a fault no header within the limits stands.
@@ -423,6 +485,6 @@ pub begins_once : {bytes x y : List ℕ} {o p : Opening} → Begins bytes o x �
 begins_once {bytes} {x} {y} {o} {p} a b =
     let shapes : o.shapes ≡ p.shapes = header_same a b in
     let behind_both : spelled_shapes o.shapes ++ x ≡ spelled_shapes p.shapes ++ y = sym (shapes_behind a) ∙ shapes_behind b in (
-      opening_parts o.version p.version o.pages p.pages o.shapes p.shapes (sym (numbered a).version_is ∙ (numbered b).version_is) (sym (says_of a).pages_are ∙ (says_of b).pages_are) shapes,
+      opening_parts o.version p.version o.pages p.pages o.shapes p.shapes (sym (says_of a).version_is ∙ (says_of b).version_is) (sym (says_of a).pages_are ∙ (says_of b).pages_are) shapes,
       (split_same (spelled_shapes o.shapes) (spelled_shapes p.shapes) x y (ap (λ (s : List Shape). length (spelled_shapes s)) shapes) behind_both).1,
     )

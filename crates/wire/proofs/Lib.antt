@@ -16,7 +16,9 @@ pub mod PartLengths
 mod RequestFits
 mod RequestLemmas
 pub mod Saving
+pub mod SentVersions
 pub mod Sinks
 pub mod Spelling
 pub mod Unique
+pub mod Versions
 pub mod Whole

@@ -17,7 +17,7 @@ use Rattle.machine.specs.Shapes.{sector_count, made_as}
 use Rattle.machine.specs.Sound.{IsSound, IsSoundDevice, IsSoundShape}
 use Rattle.machine.proofs.Numbering.{in_layout}
 use Rattle.machine.specs.State.{DeviceState, MachineState, base_of}
-use Rattle.wire.specs.Stream.{IsStream, IsStreamBy, IsEntry, shapes_in, content_of, record_in, last_named, opening_in, rounds, texts, device_texts, before_commit}
+use Rattle.wire.specs.Stream.{HasDevices, IsStream, IsStreamBy, IsEntry, shapes_in, content_of, record_in, last_named, opening_in, rounds, texts, device_texts, before_commit}
 use Rattle.machine.specs.declared.shape.Shape.{Shape}
 use Rattle.wire.proofs.Bodies.{body_is_short, body_bytes, one_body}
 use Rattle.wire.proofs.HeaderParts.{begins_once}
@@ -101,14 +101,15 @@ devices_lead base ram_len number (s ∷ ss) (t ∷ ts) hs x y low h k shapes e =
 pub length_shapes : (ss : List DeviceState) → length (shapes_in ss) ≡ length ss
 length_shapes ss = simp length-map
 
-pub pages_limits : (v : ℕ) (m : MachineState) → IsVersion v → IsSound m → IsHeader (opening_in v (pages_of m) m.devices)
-pages_limits v m known sound = record {
+pub pages_limits : (v : ℕ) (m : MachineState) → IsVersion v → IsSound m → HasDevices v m.devices → IsHeader (opening_in v (pages_of m) m.devices)
+pages_limits v m known sound had = record {
   known = known;
   some_page = sound.some_pages;
   few_pages = sound.few_pages;
   some_device = omega (arith, length_shapes m.devices, sound.some_devices);
   few_devices = omega (arith, length_shapes m.devices, sound.few_devices);
   sound = All-map IsSoundShape (λ (d : DeviceState). made_as d.kind) m.devices (λ k d below. (sound.devices k d below).shape);
+  has = had.late;
 }
 
 pub after_header : (v pages : ℕ) (entries : List Record) (ss : List DeviceState) (c : List ℕ) → before_commit v pages entries ss ++ c ≡ header (opening_in v pages ss) ++ (texts entries ++ (device_texts 0 ss ++ c))
@@ -116,7 +117,7 @@ after_header v pages entries ss c = simp append_assoc
 
 pub stream_begins : {v : ℕ} {bytes : List ℕ} {m : MachineState} {entries : List Record} → IsStreamBy v bytes m entries
     → Begins bytes (opening_in v (pages_of m) m.devices) (texts entries ++ (device_texts 0 m.devices ++ spelled_record (commit (sha256 (before_commit v (pages_of m) entries m.devices)))))
-stream_begins {v} {bytes} {m} {entries} h = record { good = pages_limits v m h.known h.sound; whole = h.whole ∙ after_header v (pages_of m) entries m.devices _ }
+stream_begins {v} {bytes} {m} {entries} h = record { good = pages_limits v m h.known h.sound h.devices; whole = h.whole ∙ after_header v (pages_of m) entries m.devices _ }
 
 -- the devices begin with their tag
 pub device_first : (ss : List DeviceState) (c : List ℕ) → 1 ≤ length ss → (t : List ℕ) × (device_texts 0 ss ++ c ≡ 4 ∷ t)

@@ -20,12 +20,11 @@ use Rattle.machine.specs.declared.shape.Shape.{Shape}
 use Rattle.machine.specs.declared.shape.Shape.TheVariants.{Net, LongNet, Block, Console, Entropy}
 use Rattle.machine.proofs.Numbering.{either_way, has_item, item_there}
 use Rattle.wire.specs.Records.{Record, page, sector, round_end, device, commit, zero_page, is_zero_page, page_record, spelled_record, HasSpelling}
-use Rattle.wire.specs.Stream.{IsStream, IsStreamBy, IsEntry, MayStand, AreNumbered, content_of, record_in, records_in, texts, whole, whole_in}
-use Rattle.wire.specs.DeviceBody.{IsDeviceOf}
-use Rattle.wire.specs.Header.{IsVersion}
-use Rattle.wire.proofs.Bodies.{second_has_all}
+use Rattle.wire.specs.Stream.{HasDevices, IsStream, IsStreamBy, IsEntry, MayStand, AreNumbered, content_of, record_in, records_in, shapes_in, texts, whole, whole_in}
+use Rattle.wire.specs.Header.{IsVersion, version_of}
 use Rattle.wire.proofs.ItemRecords.{all_named}
 use Rattle.wire.proofs.PageRecords.{as_page, as_zeros, has_page_record}
+use Rattle.wire.proofs.SentVersions.{sent_devices, sent_known}
 
 pub texts-snoc : (rs : List Record) (r : Record) → texts (rs ++ r ∷ []) ≡ texts rs ++ spelled_record r
 unfolding texts
@@ -143,7 +142,7 @@ unfolding records_in
 items_numbered v m zero = tt
 items_numbered v m (suc n) = numbered_item v 1 (records_in v m n) m (item_at (layout_of m) n) (items_numbered v m n)
 
-pub each_version : (v : ℕ) (m : MachineState) → IsVersion v → IsSound m → All (IsDeviceOf v) m.devices → IsStreamBy v (whole_in v m) m (records_in v m (size_of (layout_of m)))
+pub each_version : (v : ℕ) (m : MachineState) → IsVersion v → IsSound m → HasDevices v m.devices → IsStreamBy v (whole_in v m) m (records_in v m (size_of (layout_of m)))
 unfolding whole_in
 each_version v m known sound has = record {
   known = known;
@@ -156,8 +155,11 @@ each_version v m known sound has = record {
 }
 
 pub whole_is_stream : (m : MachineState) → IsSound m → IsStream (whole m) m
-whole_is_stream m sound = record {
-  version = 2;
-  entries = records_in 2 m (size_of (layout_of m));
-  by = each_version 2 m (record { least = omega arith; most = omega arith }) sound (second_has_all m.devices);
-}
+whole_is_stream m sound =
+    let shapes = shapes_in m.devices in
+    let version = version_of shapes in
+    record {
+      version = version;
+      entries = records_in version m (size_of (layout_of m));
+      by = each_version version m (sent_known shapes) sound (sent_devices m.devices);
+    }

@@ -53,8 +53,11 @@ pub record IsVersion (version : ℕ) : Type 0 where
 
 -- A network device for long frames, which versions have since 3.
 abbrev pub is_long : Shape → Bool
+is_long (Net mac) = false
 is_long (LongNet mac longest) = true
-is_long _ = false
+is_long (Block sectors read_only id) = false
+is_long Console = false
+is_long Entropy = false
 
 -- The version in which a machine with these devices is written.
 abbrev pub version_of : List Shape → ℕ

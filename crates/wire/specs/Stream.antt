@@ -1,7 +1,7 @@
 -- The stream of a machine: a header; pages, sectors and ends of rounds in any order; each device once, in order; and the
 -- digest of all bytes before it.
-use Rattle.std.specs.Prelude.{◌≡◌, All, ℕ, zero, suc, ◌+◌, List, [], ◌∷◌, ◌++◌, map, slice_get, Option, Some, None, Bool, false, ◌==◌, ◌&&◌, if◌then◌else◌}
-use Rattle.std.specs.List.{AllByRecursion}
+use Rattle.std.specs.Prelude.{◌≡◌, ◌↔◌, All, ℕ, zero, suc, ◌+◌, List, [], ◌∷◌, ◌++◌, map, slice_get, Option, Some, None, Bool, true, false, ◌==◌, ◌&&◌, if◌then◌else◌}
+use Rattle.std.specs.List.{AllByRecursion, list_any}
 use Rattle.sha2.specs.Sha256.{sha256}
 use Rattle.blk.specs.Sectors.{Sector}
 use Rattle.guestmem.specs.Item as items
@@ -14,11 +14,16 @@ use Rattle.machine.specs.State.{DeviceState, MachineState}
 use Rattle.machine.specs.Shapes.{made_as}
 use Rattle.machine.specs.declared.shape.Shape.{Shape}
 use Rattle.wire.specs.DeviceBody.{body, IsDeviceOf}
-use Rattle.wire.specs.Header.{IsVersion, Opening, header, version_of}
+use Rattle.wire.specs.Header.{IsVersion, Opening, header, is_long, version_of}
 use Rattle.wire.specs.Records.{Record, page, sector, round_end, device, commit, zero_page, page_record, spelled_record, HasSpelling, IsOf}
 
 abbrev pub shapes_in : List DeviceState → List Shape
 shapes_in devices = map (λ d. made_as d.kind) devices
+
+-- A version has the devices of a machine: it has each of them, and version 3 is that of the devices that version 2 has not.
+pub record HasDevices (version : ℕ) (devices : List DeviceState) : Type 0 where
+  pub each : All (IsDeviceOf version) devices
+  pub late : (version ≡ 3) ↔ (list_any is_long (shapes_in devices) ≡ true)
 
 -- The records that may come before the devices: pages and sectors that exist, and ends of rounds.
 abbrev pub MayStand : Layout → Record → Type 0
@@ -97,14 +102,14 @@ abbrev pub before_commit : ℕ → ℕ → List Record → List DeviceState → 
 before_commit version pages entries devices = header (opening_in version pages devices) ++ (texts entries ++ device_texts 0 devices)
 
 -- The bytes are a stream of this machine in this version, with these records before its devices: each item of the machine is
--- named, and the last record that names it holds its contents in the machine; and the version has each of its devices.
+-- named, and the last record that names it holds its contents in the machine; and the version has its devices.
 pub record IsStreamBy (version : ℕ) (bytes : List ℕ) (m : MachineState) (entries : List Record) : Type 0 where
   pub known : IsVersion version
   pub each : AllByRecursion (IsEntry version (layout_of m)) entries
   pub numbered : AreNumbered 1 entries
   pub last : (i : Item) → IsItemIn (layout_of m) i → last_named i entries ≡ Some (record_in version m.ram m.disks i)
   pub sound : IsSound m
-  pub devices : All (IsDeviceOf version) m.devices
+  pub devices : HasDevices version m.devices
   pub whole : bytes ≡ before_commit version (pages_of m) entries m.devices ++ spelled_record (commit (sha256 (before_commit version (pages_of m) entries m.devices)))
 
 -- The bytes are a stream of this machine, in one of the versions.

@@ -1,11 +1,10 @@
 -- The laws of streams.
-use Rattle.std.specs.Prelude.{◌≡◌, All, List, ◌++◌, ℕ}
-use Rattle.wire.specs.DeviceBody.{IsDeviceOf}
+use Rattle.std.specs.Prelude.{◌≡◌, List, ◌++◌, ℕ}
 use Rattle.wire.specs.Header.{IsVersion}
 use Rattle.wire.specs.Records.{Record, HasSpelling, spelled_record}
 use Rattle.machine.specs.Sound.{IsSound}
 use Rattle.machine.specs.State.{MachineState, base_of}
-use Rattle.wire.specs.Stream.{IsStream, IsStreamBy, records_in, rounds, whole, whole_in}
+use Rattle.wire.specs.Stream.{HasDevices, IsStream, IsStreamBy, records_in, rounds, whole, whole_in}
 use Rattle.machine.specs.Layout.{layout_of, size_of}
 
 -- Bytes that begin with the encodings of two records begin with one and the same record: no encoding of a record is a proper
@@ -29,7 +28,7 @@ OneVersion = (bytes : List ℕ) (m k : MachineState) (a : IsStream bytes m) (b :
 -- A sound machine has a stream in each version that has its devices, and all of them mean this machine: what a stream of it is, is one
 -- definition.
 abbrev pub EachVersion : Type 0
-EachVersion = (version : ℕ) (m : MachineState) → IsVersion version → IsSound m → All (IsDeviceOf version) m.devices → IsStreamBy version (whole_in version m) m (records_in version m (size_of (layout_of m)))
+EachVersion = (version : ℕ) (m : MachineState) → IsVersion version → IsSound m → HasDevices version m.devices → IsStreamBy version (whole_in version m) m (records_in version m (size_of (layout_of m)))
 
 -- The whole stream of a sound machine is a stream of it.
 abbrev pub WholeIsStream : Type 0

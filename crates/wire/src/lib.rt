@@ -20,11 +20,12 @@
 //!   one call each.
 //! - A `Digesting` sink gives the digest of what was put into it. `Eager` makes one of any sink, and digests each byte as it is put.
 //!   `Waiting` keeps its bytes until they are taken, and digests them then, at the latest when the digest is asked for.
-//! - Two versions of the stream are read, 2 is written. They differ in how a page of zeros is encoded, and in that version 1 has no
-//!   block device whose driver accepted WRITE_ZEROES, so no request to clear sectors; and in nothing else. A page has one
-//!   encoding in each.
+//! - Three versions of the stream are read. A machine is written in version 3 if it has a network device for long frames, and else in
+//!   version 2. Version 3 has one more shape than version 2, that of such a device: it is read only where the limits allow one, and is
+//!   no version of a machine that has none. Version 1 has another encoding of a page of zeros, and no block device whose driver accepted
+//!   WRITE_ZEROES, so no request to clear sectors. They differ in nothing else. A page has one encoding in each.
 //! - `laws`: no encoding of a record is a prefix of another's; a stream has one machine of each base, one number of rounds and one version;
-//!   a sound machine has a stream in each version that has its devices, as version 2 has all, and the whole stream of it is one.
+//!   a sound machine has a stream in each version that has its devices, and the whole stream of it is one.
 //!
 //! It uses `machine`, whose devices and shapes these are. The digest is `sha2`'s, whose contract says that it is the one of
 //! FIPS 180-4.

@@ -137,5 +137,8 @@ pub(crate) fn has_long(shapes: &[Shape]) -> bool
 fn is_long(shape: Shape) -> bool
     ensures { result ≡ is_long shape }
 {
-    matches!(shape, Shape::LongNet { .. })
+    match shape {
+        Shape::LongNet { .. } => true,
+        Shape::Net { .. } | Shape::Block { .. } | Shape::Console | Shape::Entropy => false,
+    }
 }

@@ -35,7 +35,7 @@ int main(int count, char **words)
     if (count != 2) return 2;
     wire.fd = network_open(words[1]);
     for (;;) {
-        size_t length = network_receive(wire.fd, frame);
+        size_t length = network_receive(wire.fd, frame, FRAME_MAX);
 
         if (length > KIND + 1 && frame[KIND] == 0x80 && frame[KIND + 1] == 0x35) {
             print_address(frame + SOURCE);

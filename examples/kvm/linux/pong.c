@@ -63,7 +63,7 @@ int main(int count, char **words)
     if (count != 2) return 2;
     wire.fd = network_open(words[1]);
     for (;;) {
-        size_t length = network_receive(wire.fd, f);
+        size_t length = network_receive(wire.fd, f, FRAME_MAX);
 
         if (length == 0) poll(&wire, 1, -1);
         if (length < 42 || !(answers_arp(f) || answers_ping(f))) continue;
