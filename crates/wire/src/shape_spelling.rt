@@ -147,7 +147,7 @@ fn block_shape_at(bytes: &[u8]) -> Option<(Shape, &[u8])>
 fn outside_shape_at(bytes: &[u8]) -> Option<(Shape, &[u8])>
     ensures { MatchOption result (outside_shape_of bytes.now ≡ None) (λ x. outside_shape_of bytes.now ≡ Some (x.0, x.1.now)) }
 {
-    if bytes.len() < 29 || u8_at(bytes, 8) > 1 {
+    if bytes.len() < OUTSIDE_SHAPE - 1 || u8_at(bytes, 8) > 1 {
         return None;
     }
     let sectors = u64_at(bytes, 0);
