@@ -20,7 +20,6 @@ use Rattle.wire.specs.ShapeReading.{block_shape_of, long_net_shape_of, net_shape
 use Rattle.wire.proofs.Lists.{WasSpelled}
 use Rattle.wire.proofs.Versions.{late_within}
 use Rattle.wire.specs.Header.{allow_late, spelled_shape, front, shape_length}
-use Rattle.wire.specs.HeaderFaults.{IsShapeFor}
 
 -- A shape that is spelled is read, and one that is read was spelled.
 abbrev block_widths : List ℕ
