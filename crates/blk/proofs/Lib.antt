@@ -7,3 +7,4 @@ pub mod Given
 pub mod Limits
 pub mod Runs
 pub mod Against
+pub mod Others

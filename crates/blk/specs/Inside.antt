@@ -1,11 +1,11 @@
 -- A disk outside of the machine, against one in it: an answer leaves what as many steps of the block device do over a list of sectors.
-use Rattle.std.specs.Prelude.{◌≡◌, ℕ, zero, suc, ◌+◌, ◌*◌, ◌<◌, ◌≤◌, true, false, List, [], ◌++◌, length, take, drop, replicate, slice_get, slice_set, Some}
+use Rattle.std.specs.Prelude.{◌≡◌, ℕ, Bool, zero, suc, ◌+◌, ◌*◌, ◌<◌, ◌≤◌, true, false, List, [], ◌++◌, length, take, drop, replicate, slice_get, slice_set, Some}
 use Rattle.guestmem.specs.Writes.{set_all}
 use Rattle.chains.specs.State.{RingState}
 use Rattle.blk.specs.Advance.{AdvanceStep, advance_step}
 use Rattle.blk.specs.Block.{with_requests}
 use Rattle.blk.specs.Move.{sectors_set}
-use Rattle.blk.specs.Outside.{Answer, Did, Gave, answer_step, awaits, written_bytes}
+use Rattle.blk.specs.Outside.{Answer, Did, Failed, Gave, answer_step, awaits, awaits_at, outside_step, written_bytes}
 use Rattle.blk.specs.Request.{next_sector}
 use Rattle.blk.specs.Sectors.{AreWhole, Sector, bytes_of, is_bad, sector_in}
 use Rattle.blk.specs.declared.block.Block.{Block}
@@ -65,3 +65,7 @@ ClearedIsSet = (q : RingState) (ram : List ℕ) (content : List Sector) (b : Blo
 abbrev pub FlushedIsSame : Type 0
 FlushedIsSame = (q : RingState) (ram : List ℕ) (content : List Sector) (b : Block) (k n : ℕ) (r : Request) → slice_get b.requests k ≡ Some r → r.kind ≡ Flush → awaits r (Did n) ≡ true
     → units_done q k n (record { ram = ram; content = content; block = b }) ≡ after_answer q ram b k (Did n) content
+
+-- A request that does not wait for its disk advances alike over any sectors, and whatever a call of the disk would do.
+abbrev pub OthersAreAlike : Type 0
+OthersAreAlike = (ram : List ℕ) (q : RingState) (content : List Sector) (b : Block) (k : ℕ) (is_fine : Bool) → awaits_at b.requests k Failed ≡ false → advance_step ram q content b k is_fine ≡ outside_step ram q b k

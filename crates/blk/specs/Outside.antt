@@ -1,10 +1,17 @@
 -- A disk outside of the machine: what a request asks of it, and what its answer changes (VIRTIO 1.2, 5.2.6).
-use Rattle.std.specs.Prelude.{ℕ, ◌+◌, ◌-◌, ◌*◌, ◌/◌, ◌%◌, ◌==◌, ◌&&◌, nat_le, nat_lt, not, All, Bool, true, false, List, [], length, take, drop, slice_get, slice_set, Option, Some, None, if◌then◌else◌}
-use Rattle.guestmem.specs.Writes.{Write}
+use Rattle.std.specs.Prelude.{◌≡◌, ℕ, ◌+◌, ◌-◌, ◌*◌, ◌/◌, ◌%◌, ◌==◌, ◌&&◌, nat_le, nat_lt, not, All, Bool, true, false, List, [], length, take, drop, slice_get, slice_set, Option, Some, None, if◌then◌else◌}
+use Rattle.guestmem.specs.Item.{Item}
+use Rattle.guestmem.specs.Rises.{Touches}
+use Rattle.guestmem.specs.Writes.{Write, set_all, touched}
 use Rattle.chains.specs.Places.{places, place_writes, read_places}
+use Rattle.chains.specs.Served.{Scene}
+use Rattle.chains.specs.State.{RingState}
+use Rattle.blk.specs.Advance.{AdvanceStep, advance_step}
 use Rattle.blk.specs.Move.{failed}
 use Rattle.blk.specs.Request.{is_open, next_sector}
 use Rattle.blk.specs.Sound.{IsSoundRequest}
+use Rattle.blk.specs.declared.advancing.Advanced.{Advanced}
+use Rattle.blk.specs.declared.block.Block.{Block}
 use Rattle.blk.specs.declared.disk.TheConstants.{SECTOR_SIZE}
 use Rattle.blk.specs.declared.request.TheConstants.{HEADER_SIZE}
 use Rattle.blk.specs.declared.request.Kind.{Kind}
@@ -122,3 +129,21 @@ pub record AreSoundIn (base len : ℕ) (requests : List Request) : Type 0 where
   pub size : ℕ
   pub limits : Limits
   pub sound : All (IsSoundRequest base len is_packed size limits) requests
+
+-- The k-th outstanding request, from 0, advances without its disk: one that does not wait for it gets the id of the device, or ends. It is the step
+-- of the block device, which calls no disk then; so it is the same over any sectors (`OthersAreAlike`).
+abbrev pub outside_step : List ℕ → RingState → Block → ℕ → AdvanceStep
+outside_step ram q b k = advance_step ram q [] b k true
+
+-- Such a step was made: what it answers, and RAM, the ring and the device after it, and which items were touched. What touching is, as that a log
+-- has taken them in, `touches` says.
+pub record IsAfterOutside (touches : List Item → Type 0) (ram : List ℕ) (step : AdvanceStep) (answer : Advanced) (new_ram : List ℕ) (new_ring : RingState) (new_block : Block) : Type 0 where
+  pub answer_is : answer ≡ step.answer
+  pub ram_is : new_ram ≡ set_all ram step.writes
+  pub ring_is : new_ring ≡ step.ring
+  pub block_is : new_block ≡ step.block
+  pub items_are : touches (touched step.writes)
+
+abbrev pub HasAdvancedOutside : {L : Type 0} → (L → Item → L) → ℕ → Scene L Block → Scene L Block → Advanced → Type 0
+HasAdvancedOutside after k old new answer =
+    IsAfterOutside (Touches after old.log new.log old.ram new.ram) old.ram.bytes (outside_step old.ram.bytes old.ring old.state k) answer new.ram.bytes new.ring new.state

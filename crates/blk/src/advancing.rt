@@ -8,10 +8,10 @@
 //! A request that ends is published where it lies, and dropped there if it is the last: moving its 216 bytes would cost each
 //! step.
 
-ghost use Rattle.std.specs.Prelude.{◌≡◌, ◌≤◌, ◌<◌, ◌^◌, length};
-ghost use Rattle.guestmem.specs.Item.{after_all};
+ghost use Rattle.std.specs.Prelude.{◌≡◌, ◌≤◌, ◌<◌, ◌^◌, false, length, true};
+ghost use Rattle.guestmem.specs.Item.{MayPages, after_all};
 ghost use Rattle.guestmem.specs.Writes.{set_all, touched};
-ghost use Rattle.guestmem.specs.Rises.{Rises};
+ghost use Rattle.guestmem.specs.Rises.{Rises, Touches};
 ghost use Rattle.chains.specs.Frame.{MayServe, HasServed};
 ghost use Rattle.chains.specs.Places.{places, AreSegmentsInside};
 ghost use Rattle.chains.specs.Served.{scene};
@@ -19,9 +19,12 @@ ghost use Rattle.chains.specs.Publish.{after_publish, is_interrupt_due};
 ghost use Rattle.blk.specs.Advance.{end_writes, used_len, data_written, HasAdvanced, HasFlushed, asks_at};
 ghost use Rattle.blk.specs.Block.{widest};
 ghost use Rattle.blk.specs.Sectors.{AreWhole, Calls, IsKept};
-ghost use Rattle.blk.specs.Move.{MaySectors, is_disk_failed};
-ghost use Rattle.blk.specs.Sound.{AreSound};
+ghost use Rattle.blk.specs.Move.{MaySectors, is_disk_failed, move_id, one_done};
+ghost use Rattle.blk.specs.Outside.{Failed, HasAdvancedOutside, awaits_at};
+ghost use Rattle.blk.specs.Request.{is_open};
+ghost use Rattle.blk.specs.Sound.{AreSound, HasSoundWork};
 ghost use Rattle.blk.specs.declared.advancing.Advanced.TheVariants.{Completed};
+ghost use Rattle.blk.specs.declared.request.Kind.TheVariants.{GetId};
 ghost use Rattle.blk.specs.declared.shape.Limits.{Limits};
 
 use crate::block::Block;
@@ -30,7 +33,7 @@ use crate::moving::move_unit;
 use crate::request::{Kind, Request};
 use crate::sectors::Sectors;
 use crate::shape::ID_SIZE;
-use chains::{Ring, copy_in_last};
+use chains::{Ring, copy_in_last, copy_in_with_base};
 use guestmem::{Ram, TouchLog};
 
 /// How advancing a request went.
@@ -110,6 +113,60 @@ impl Block {
         self.requests.remove(job.k);
         completed
     }
+
+    /// Advances an outstanding request of a device whose disk is outside, one that does not wait for it: a request for the id gets it, and one
+    /// with no units left ends. It takes no memory, and calls no disk.
+    pub fn advance_outside<R: Ring, L: TouchLog>(
+        &mut self,
+        job: Job,
+        ring: &mut R,
+        ram: &mut Ram,
+        log: &mut L,
+    ) -> Advanced
+        requires base { job.base ≡ (R.state ring.old).base }
+        requires ready { MayServe L.may (length ram.old.bytes) (R.state ring.old) log.old }
+        requires sound { AreSound (length ram.old.bytes) (R.state ring.old) (widest self.old.sectors) self.old.requests }
+        requires answered { awaits_at self.old.requests job.k Failed ≡ false }
+        ensures changes { HasAdvancedOutside L.after job.k (scene ram.old log.old (R.state ring.old) self.old) (scene ram.new log.new (R.state ring.new) self.new) result }
+        ensures fine { is_disk_failed result ≡ false }
+        ensures sound { (limits : Limits) → AreSound (length ram.old.bytes) (R.state ring.old) limits self.old.requests → AreSound (length ram.new.bytes) (R.state ring.new) limits self.new.requests }
+        ensures after { HasServed L.may ram.old ram.new log.new }
+        ensures decoder { R.decoder ring.new ≡ R.decoder ring.old }
+    {
+        if job.k >= self.requests.list.len() {
+            return Advanced::Idle;
+        }
+        if self.requests.list[job.k].is_open() {
+            give_id(job.base, &self.id, &mut self.requests.list[job.k], ram, log);
+            return Advanced::Moved;
+        }
+        let completed = complete(job.base, ring, &self.requests.list[job.k], ram, log);
+        self.requests.remove(job.k);
+        completed
+    }
+}
+
+/// Gives the id of the device to a request that asks for it.
+fn give_id<L: TouchLog>(
+    base: u64,
+    id: &[u8; ID_SIZE],
+    request: &mut Request,
+    ram: &mut Ram,
+    log: &mut L,
+)
+    requires open { is_open request.old ≡ true }
+    requires kind { request.old.kind ≡ GetId }
+    requires sound { (limits : Limits) × HasSoundWork limits request.old }
+    requires inside { AreSegmentsInside base (length ram.old.bytes) request.old.writable }
+    requires may { MayPages L.may log.old (length ram.old.bytes) }
+    ensures request { request.new ≡ one_done request.old }
+    ensures ram { ram.new.bytes ≡ set_all ram.old.bytes (move_id base id.now request.old).writes }
+    ensures touches { Touches L.after log.old log.new ram.old ram.new (touched (move_id base id.now request.old).writes) }
+    ensures sound { (limits : Limits) → HasSoundWork limits request.old → HasSoundWork limits request.new }
+    ensures after { HasServed L.may ram.old ram.new log.new }
+{
+    copy_in_with_base(ram, base, request.writable.as_slice(), 0, id, log);
+    request.done += 1;
 }
 
 /// Reports the verdict of a request to the driver and publishes its chain.

@@ -1,6 +1,6 @@
 //! Laws of the answers of a disk outside. These functions do nothing: their contracts are the laws.
 
-ghost use Rattle.blk.specs.Inside.{ClearedIsSet, FlushedIsSame, GivenIsRead, WrittenIsSet};
+ghost use Rattle.blk.specs.Inside.{ClearedIsSet, FlushedIsSame, GivenIsRead, OthersAreAlike, WrittenIsSet};
 ghost use Rattle.blk.specs.Parts.{AnswersLeaveSound, BytesAreTheirParts, PartsAreTheirBytes, PartsAreTheirUnits, UnitsAreTheirParts};
 
 /// A run of sectors that a disk gave is its parts, one answer after another.
@@ -21,9 +21,11 @@ pub fn answers_leave_sound()
 {}
 
 /// A disk outside that gives what a list of sectors holds is one in the machine that holds it; and what it wrote or cleared is set there.
+/// A request that does not wait for its disk advances as it does there.
 pub fn outside_is_inside()
     ensures given { GivenIsRead }
     ensures written { WrittenIsSet }
     ensures cleared { ClearedIsSet }
     ensures flushed { FlushedIsSame }
+    ensures others { OthersAreAlike }
 {}

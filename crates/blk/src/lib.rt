@@ -33,8 +33,8 @@
 //!   could not bring the bytes of the disk to the file that holds them.
 //! - A disk may be outside of the machine, where the host asks `Request::disk_call` what a request wants and answers it: `Block::disk_gave`,
 //!   `disk_did` and `disk_failed` are `answer_step` (`specs/Outside`), and say whether the request awaited the answer. They call no disk and
-//!   take no memory. `Block::written_bytes` hands out what a write will write. A run of sectors is its parts (`specs/Parts`), and outside is
-//!   inside (`specs/Inside`): laws of `src/laws.rt`.
+//!   take no memory. `Block::written_bytes` hands out what a write will write. `Block::advance_outside` advances a request that does not wait
+//!   for its disk. A run of sectors is its parts (`specs/Parts`), and outside is inside (`specs/Inside`): laws of `src/laws.rt`.
 //! - `Block::has_sound_requests` tests what every outstanding request keeps in a RAM with this base, for requests that come from
 //!   elsewhere.
 //! - `Disk::sectors` is called where a disk comes in, and once with each write.
@@ -81,6 +81,7 @@ pub use request::{Kind, Request, Verdict};
 pub use requests::{REQUESTS_MAX, Requests};
 pub use sectors::{Fetched, Sectors};
 pub use shape::{
-    CONFIGURATION_SIZE, DEVICE_ID, FLUSH, ID_SIZE, QUEUE_COUNT, RO, SECTORS_GREATEST, SECTORS_MAX,
-    WRITE_ZEROES, configuration, features, is_block_shape,
+    CONFIGURATION_SIZE, DEVICE_ID, FLUSH, ID_SIZE, OUTSIDE_GREATEST, QUEUE_COUNT, RO,
+    SECTORS_GREATEST, SECTORS_MAX, SEG_MAX, WRITE_ZEROES, configuration, features, is_block_shape,
+    is_outside_shape, outside_configuration, outside_features,
 };

@@ -7,7 +7,7 @@ use Rattle.machine.specs.Applied.{marks_after, FailsOnlyUnsteady}
 use Rattle.machine.specs.Outcome.{is_failure}
 use Rattle.machine.specs.Seen.{Seen, DeviceSeen, AreHonest, Marks, all_marks, failed_at, marks_at, no_marks, or_no_marks, state_of}
 use Rattle.machine.specs.declared.event.Event.{Event}
-use Rattle.machine.specs.declared.event.Event.TheVariants.{RegRead, RegWrite, MemRead, MemWrite, Step, Input, Resize, Drop}
+use Rattle.machine.specs.declared.event.Event.TheVariants.{RegRead, RegWrite, MemRead, MemWrite, Step, Input, Resize, Drop, Disk}
 use Rattle.machine.specs.declared.reply.Reply.{Reply}
 use Rattle.machine.specs.Applied.{IsHonestFor}
 use Rattle.machine.specs.Outcome.{outcome_of}
@@ -55,6 +55,7 @@ same_marks m (Step dev pick) reply plain unsteady = step_marks m dev pick reply 
 same_marks m (Input dev bytes) reply plain unsteady = refl
 same_marks m (Resize dev cols rows) reply plain unsteady = refl
 same_marks m (Drop dev) reply plain unsteady = refl
+same_marks m (Disk dev pick given) reply plain unsteady = refl
 
 pub plain_stays : PlainStays
 plain_stays m next e reply plain applied =
@@ -70,6 +71,7 @@ honest_for m (Step dev pick) plain = ap (λ (k : Marks). k.honest) (plain_at m d
 honest_for m (Input dev bytes) plain = tt
 honest_for m (Resize dev cols rows) plain = tt
 honest_for m (Drop dev) plain = tt
+honest_for m (Disk dev pick given) plain = tt
 
 pub is_refusal : (reply : Reply) → 1 ≤ status_of reply → status_of reply < 64 → IsRefusal reply
 is_refusal (Value v) some few = absurd (omega (arith, some))

@@ -2,16 +2,17 @@
 use Rattle.std.specs.Prelude.{ℕ, List, [], ◌∷◌, ◌++◌, drop, length, map, max, replicate, if◌then◌else◌}
 use Rattle.machine.specs.declared.machine.TheConstants.{DEVICES_MAX}
 use Rattle.machine.specs.declared.shape.Shape.{Shape}
-use Rattle.machine.specs.declared.shape.Shape.TheVariants.{Net, LongNet, Block, Console, Entropy}
+use Rattle.machine.specs.declared.shape.Shape.TheVariants.{Net, LongNet, Block, Outside, Console, Entropy}
 use Rattle.c_machine.specs.Making.{no_shape}
 use Rattle.c_machine.specs.declared.description.Description.{Description}
 use Rattle.c_machine.specs.declared.device_shape.DeviceShape.{DeviceShape}
 
--- What a device was made as. What its kind does not need is zeros.
+-- What a device was made as. What its kind does not need is zeros. A block device whose disk is outside has the kind 130.
 abbrev pub described : Shape → DeviceShape
 described (Net mac) = record no_shape { kind = 1; mac = mac }
 described (LongNet mac longest) = record no_shape { kind = 1; mac = mac; frame = longest }
 described (Block sectors read_only id) = record no_shape { kind = 2; read_only = if read_only then 1 else 0; sectors = sectors; id = id }
+described (Outside sectors read_only id) = record no_shape { kind = 130; read_only = if read_only then 1 else 0; sectors = sectors; id = id }
 described Console = record no_shape { kind = 3 }
 described Entropy = record no_shape { kind = 4 }
 
@@ -48,6 +49,7 @@ abbrev pub message_for : Shape → ℕ
 message_for (Net mac) = 1514
 message_for (LongNet mac longest) = longest
 message_for (Block sectors read_only id) = 0
+message_for (Outside sectors read_only id) = 0
 message_for Console = 65536
 message_for Entropy = 0
 

@@ -47,9 +47,12 @@ asks_log flags = flags / 2 % 2 == 1
 abbrev pub are_known : ℕ → Bool
 are_known flags = not (nat_lt 3 flags)
 
--- How large a machine may be that is made, or let arrive, with these flags.
+-- How large a machine may be that is made, or let arrive, with these flags. None of them asks for a disk outside.
+abbrev pub large : Limits
+large = record greatest { outside = 0 }
+
 abbrev pub limits_for : ℕ → Limits
-limits_for flags = if asks_large flags then greatest else usual
+limits_for flags = if asks_large flags then large else usual
 
 -- How large a machine may be whose header is read: where an arrival names a longest frame, a header may tell any.
 abbrev pub arrival_limits : ℕ → ℕ → Limits

@@ -5,7 +5,7 @@ use Rattle.machine.specs.Shapes.{is_beyond}
 use Rattle.machine.specs.declared.limits.Limits.{Limits}
 use Rattle.machine.specs.declared.machine.TheConstants.{DEVICES_MAX}
 use Rattle.machine.specs.declared.shape.Shape.{Shape}
-use Rattle.machine.specs.declared.shape.Shape.TheVariants.{Net, LongNet, Block, Console, Entropy}
+use Rattle.machine.specs.declared.shape.Shape.TheVariants.{Net, LongNet, Block, Outside, Console, Entropy}
 use Rattle.c_machine.specs.Named.{are_zeros}
 use Rattle.c_machine.specs.declared.device_shape.DeviceShape.{DeviceShape}
 
@@ -17,7 +17,8 @@ is_known kind = kind == 1 || kind == 2 || kind == 3 || kind == 4
 abbrev pub shape_of : DeviceShape → Shape
 shape_of s =
     if s.kind == 1 then (if s.frame == 0 then Net s.mac else LongNet s.mac (s.frame % 65536))
-    else if s.kind == 2 then Block s.sectors (not (s.read_only == 0)) s.id else if s.kind == 3 then Console else Entropy
+    else if s.kind == 2 then Block s.sectors (not (s.read_only == 0)) s.id else if s.kind == 3 then Console
+    else if s.kind == 130 then Outside s.sectors (not (s.read_only == 0)) s.id else Entropy
 
 abbrev pub shapes_of : List DeviceShape → List Shape
 shapes_of shapes = map shape_of shapes

@@ -134,6 +134,6 @@ fn message_for(shape: Shape) -> u32
         Shape::Net { .. } => FRAME_MAX as u32,
         Shape::LongNet { longest, .. } => longest as u32,
         Shape::Console => SENT_MAX as u32,
-        Shape::Block { .. } | Shape::Entropy => 0,
+        Shape::Block { .. } | Shape::Outside { .. } | Shape::Entropy => 0,
     }
 }

@@ -14,7 +14,8 @@ pub(crate) const FRAME_END: u32 = 65_536;
 #[derive(Clone, Copy)]
 #[repr(C)]
 pub struct DeviceShape {
-    /// The device type of the standard (VIRTIO 1.2, 5): 1 a network device, 2 a block device, 3 a console, 4 an entropy device.
+    /// The device type of the standard (VIRTIO 1.2, 5): 1 a network device, 2 a block device, 3 a console, 4 an entropy device; or 130, a block
+    /// device whose disk is outside, which a header may tell and no setup asks for.
     pub kind: u8,
 
     /// Of a block device: whether the driver may only read it, 1 or 0.
@@ -80,6 +81,17 @@ impl DeviceShape {
                 id,
                 ..none
             },
+            Shape::Outside {
+                sectors,
+                read_only,
+                id,
+            } => DeviceShape {
+                kind: 130,
+                read_only: read_only as u8,
+                sectors,
+                id,
+                ..none
+            },
             Shape::Console => DeviceShape { kind: 3, ..none },
             Shape::Entropy => DeviceShape { kind: 4, ..none },
         }
@@ -111,6 +123,11 @@ impl DeviceShape {
                 id,
             },
             3 => Shape::Console,
+            130 => Shape::Outside {
+                sectors,
+                read_only,
+                id,
+            },
             _ => Shape::Entropy,
         }
     }

@@ -22,6 +22,10 @@ fn is_longer(most: u32, shape: Shape) -> bool
 {
     match shape {
         Shape::LongNet { longest, .. } => longest as u32 > most,
-        _ => false,
+        Shape::Net { .. }
+        | Shape::Block { .. }
+        | Shape::Outside { .. }
+        | Shape::Console
+        | Shape::Entropy => false,
     }
 }

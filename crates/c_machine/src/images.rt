@@ -37,7 +37,11 @@ pub fn count_in(shape: Shape) -> u64
 {
     match shape {
         Shape::Block { sectors, .. } => sectors,
-        Shape::Net { .. } | Shape::LongNet { .. } | Shape::Console | Shape::Entropy => 0,
+        Shape::Net { .. }
+        | Shape::LongNet { .. }
+        | Shape::Outside { .. }
+        | Shape::Console
+        | Shape::Entropy => 0,
     }
 }
 

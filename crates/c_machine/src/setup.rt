@@ -173,12 +173,15 @@ pub fn asks_log(flags: u32) -> bool
     flags / LOG % 2 == 1
 }
 
-/// The limits of a machine that is made, or let arrive, with these flags.
+/// The limits of a machine that is made, or let arrive, with these flags. None of them asks for a disk outside.
 pub fn limits_for(flags: u32) -> Limits
     ensures { result ≡ limits_for flags }
 {
     if asks_large(flags) {
-        return Limits::greatest();
+        return Limits {
+            outside: 0,
+            ..Limits::greatest()
+        };
     }
     Limits::usual()
 }

@@ -14,7 +14,7 @@ use Rattle.machine.specs.State.{MachineState, DeviceState}
 use Rattle.machine.specs.Step.{answer, disk_of, Answer, MaySee, MaySeeAt, step_device}
 use Rattle.machine.specs.StepLaws.{EffectsAgree, StepsAgree, RunsAgree}
 use Rattle.machine.specs.declared.event.Event.{Event}
-use Rattle.machine.specs.declared.event.Event.TheVariants.{RegRead, RegWrite, MemRead, MemWrite, Step, Input, Resize, Drop}
+use Rattle.machine.specs.declared.event.Event.TheVariants.{RegRead, RegWrite, MemRead, MemWrite, Step, Input, Resize, Drop, Disk}
 use Rattle.machine.specs.declared.reply.Reply.{Reply}
 
 look_same : (want : Wanted) (d : DeviceState) (ram : List ℕ) (content : List Sector) (pick : ℕ) (ring : Option RingState) (o : Outcome) (x y : Next) → MayLook want ring ram o x → MayLook want ring ram o y → step_at d ram content pick ring o x ≡ step_at d ram content pick ring o y
@@ -37,6 +37,7 @@ answers_same m (Step dev pick) o x y h k = device_same dev (slice_get m.devices 
 answers_same m (Input dev bytes) o x y h k = refl
 answers_same m (Resize dev cols rows) o x y h k = refl
 answers_same m (Drop dev) o x y h k = refl
+answers_same m (Disk dev pick given) o x y h k = refl
 
 pub effects_same : EffectsAgree
 effects_same m e o r s f g h k =

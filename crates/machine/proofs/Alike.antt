@@ -22,11 +22,11 @@ use Rattle.machine.specs.Effect.{sets_on}
 use Rattle.machine.specs.Outcome.{Outcome, disk_does, outcome_of}
 use Rattle.machine.specs.Seen.{all_marks, marks_at, state_of}
 use Rattle.machine.specs.declared.kind.Kind as kinds
-use Rattle.machine.specs.declared.kind.Kind.TheVariants.{Network, Block, Console, Entropy}
+use Rattle.machine.specs.declared.kind.Kind.TheVariants.{Network, Block, Outside, Console, Entropy}
 use Rattle.machine.specs.declared.reply.Reply.TheVariants.{Idle}
 use Rattle.machine.specs.State.{DeviceState}
 use Rattle.machine.specs.Step.{Answer, answer, disk_of, disk_or_none, step_device}
-use Rattle.machine.specs.declared.event.Event.TheVariants.{RegRead, RegWrite, MemRead, MemWrite, Step, Input, Resize, Drop}
+use Rattle.machine.specs.declared.event.Event.TheVariants.{RegRead, RegWrite, MemRead, MemWrite, Step, Input, Resize, Drop, Disk}
 use Rattle.machine.proofs.At.{whole_disk}
 use Rattle.machine.proofs.Stepping.{none_whole}
 
@@ -135,6 +135,7 @@ like_advances : (d : DeviceState) (kind : kinds.Kind) (ram : List ℕ) (x y : Li
 like_advances d (Block block) ram x y pick q o h =
     let s = like_one ram q x y block (pick - 1) (disk_does o) (slice_get block.requests (pick - 1)) h in
     record { reply = rw (s.answer) refl; writes = s.writes; sets = s.sets; device = rw (s.answer, s.ring, s.block) refl }
+like_advances d (Outside block) ram x y pick q o h = one_answer (advance_on d (Outside block) ram x pick q o)
 like_advances d (Network mac inbox) ram x y pick q o h = one_answer (unmoved d Idle)
 like_advances d (Console size held) ram x y pick q o h = one_answer (unmoved d Idle)
 like_advances d (Entropy pool) ram x y pick q o h = one_answer (unmoved d Idle)
@@ -179,3 +180,4 @@ acts_alike old new (MemWrite addr bytes) reply sound h = (h.effect, h.has, recor
 acts_alike old new (Input dev bytes) reply sound h = (h.effect, h.has, record { addresses = refl; sectors = refl; replaced = refl })
 acts_alike old new (Resize dev cols rows) reply sound h = (h.effect, h.has, record { addresses = refl; sectors = refl; replaced = refl })
 acts_alike old new (Drop dev) reply sound h = (h.effect, h.has, record { addresses = refl; sectors = refl; replaced = refl })
+acts_alike old new (Disk dev pick given) reply sound h = (h.effect, h.has, record { addresses = refl; sectors = refl; replaced = refl })

@@ -19,7 +19,7 @@ use Rattle.machine.specs.DeviceStep.{reply_of, serve}
 use Rattle.machine.specs.Outcome.{fine, outcome_of}
 use Rattle.machine.specs.StepLaws.{IsRefusal}
 use Rattle.machine.specs.declared.kind.Kind.{Kind}
-use Rattle.machine.specs.declared.kind.Kind.TheVariants.{Network, Block, Console, Entropy}
+use Rattle.machine.specs.declared.kind.Kind.TheVariants.{Network, Block, Outside, Console, Entropy}
 use Rattle.machine.specs.declared.reply.Reply.TheVariants.{Idle, NeedsReset}
 
 -- By no refusal; and by a call for a reset, or as idle, only where the queue is malformed, or empty.
@@ -57,6 +57,7 @@ pub answered : (features : ℕ) (kind : Kind) (number : ℕ) (ram : List ℕ) (q
 answered features (Network mac inbox) zero ram q seen = by_seen q inbox.frames (give_first ram q inbox.frames) seen (framed ram q inbox.frames)
 answered features (Network mac inbox) (suc number) ram q seen = by_seen q (Network mac inbox) (send (frame_form inbox.longest).header ram q (Network mac inbox)) seen (λ c. did _ _)
 answered features (Block block) number ram q seen = by_seen q block (take_chain features ram q block) seen (λ c. did _ _)
+answered features (Outside block) number ram q seen = by_seen q block (take_chain features ram q block) seen (λ c. did _ _)
 answered features (Console size held) zero ram q seen = by_seen q held (give_some ram q held) seen (λ c. given ram q _ _ c)
 answered features (Console size held) (suc number) ram q seen = by_seen q (Console size held) (send text_form.header ram q (Console size held)) seen (λ c. did _ _)
 answered features (Entropy pool) number ram q seen = by_seen q pool (give_some ram q pool) seen (λ c. given ram q _ _ c)

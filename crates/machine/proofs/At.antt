@@ -40,11 +40,11 @@ use Rattle.machine.specs.Step.{HasEffect, IsStep, IsTouchingStep, IsResized, Res
 use Rattle.machine.specs.StepLaws.{Fits}
 use Rattle.machine.specs.Unsynced.{HasFlushed}
 use Rattle.machine.specs.declared.event.Event.{Event}
-use Rattle.machine.specs.declared.event.Event.TheVariants.{RegRead, RegWrite, MemRead, MemWrite, Step, Input, Resize, Drop}
+use Rattle.machine.specs.declared.event.Event.TheVariants.{RegRead, RegWrite, MemRead, MemWrite, Step, Input, Resize, Drop, Disk}
 use Rattle.machine.specs.declared.reply.Refusal.{Refusal}
 use Rattle.machine.specs.declared.reply.Refusal.TheVariants.{NoDevice, WrongKind, BadFrame}
 use Rattle.machine.specs.declared.kind.Kind.{Kind}
-use Rattle.machine.specs.declared.kind.Kind.TheVariants.{Network, Block, Console, Entropy}
+use Rattle.machine.specs.declared.kind.Kind.TheVariants.{Network, Block, Outside, Console, Entropy}
 use Rattle.machine.specs.declared.reply.Reply.{Reply}
 use Rattle.machine.specs.declared.reply.Reply.TheVariants.{Done, Refused}
 use Rattle.machine.specs.declared.shape.Shape.{Shape}
@@ -120,6 +120,7 @@ size_answer m ds dev cols rows d new (Console old held) result kind_is at same s
     })
 size_answer m ds dev cols rows d new (Network mac inbox) result kind_is at same state_is h = size_refused m ds dev cols rows d new (Network mac inbox) result kind_is at same state_is h.0 h.1 h.2 refl
 size_answer m ds dev cols rows d new (Block block) result kind_is at same state_is h = size_refused m ds dev cols rows d new (Block block) result kind_is at same state_is h.0 h.1 h.2 refl
+size_answer m ds dev cols rows d new (Outside block) result kind_is at same state_is h = size_refused m ds dev cols rows d new (Outside block) result kind_is at same state_is h.0 h.1 h.2 refl
 size_answer m ds dev cols rows d new (Entropy pool) result kind_is at same state_is h = size_refused m ds dev cols rows d new (Entropy pool) result kind_is at same state_is h.0 h.1 h.2 refl
 
 pub size_step : (m : Memory) (ds : List DeviceSeen) (dev cols rows : ℕ) (d new : DeviceSeen) (result : Result (Unit {0}) Refusal) → IsAt ds dev d → new ≡ record d { state = new.state }
@@ -135,6 +136,7 @@ same_frames mac inbox bytes false refusal h = refl
 same_kind : (kind : Kind) (bytes : List ℕ) (refusal : Refusal) → input_of kind bytes ≡ Err refusal → kind_with_input kind bytes ≡ kind
 same_kind (Network mac inbox) bytes refusal h = same_frames mac inbox bytes (is_frame_len inbox.longest (length bytes)) refusal h
 same_kind (Block block) bytes refusal h = refl
+same_kind (Outside block) bytes refusal h = refl
 same_kind (Console size held) bytes refusal h = cc
 same_kind (Entropy pool) bytes refusal h = cc
 
@@ -158,6 +160,7 @@ input_step m ds dev bytes d new (Err refusal) kept at is =
 undropped_kind : (kind : Kind) (refusal : Refusal) → drop_of kind ≡ Err refusal → kind_without_input kind ≡ kind
 undropped_kind (Network mac inbox) refusal h = cc
 undropped_kind (Block block) refusal h = refl
+undropped_kind (Outside block) refusal h = refl
 undropped_kind (Console size held) refusal h = cc
 undropped_kind (Entropy pool) refusal h = cc
 
@@ -305,6 +308,7 @@ as_itself m (Step dev pick) = ap (λ (disks : List (List Sector)). record m { di
 as_itself m (Input dev bytes) = refl
 as_itself m (Resize dev cols rows) = refl
 as_itself m (Drop dev) = refl
+as_itself m (Disk dev pick given) = refl
 
 pub whole_disk : (disks : List (List Sector)) (dev : ℕ) → All AreWhole disks → AreWhole (disk_or_none (slice_get disks dev))
 whole_disk [] dev whole = none_whole
@@ -320,6 +324,7 @@ given_for marks m (Step dev pick) sound = given_itself (marks_at marks dev).hone
 given_for marks m (Input dev bytes) sound = refl
 given_for marks m (Resize dev cols rows) sound = refl
 given_for marks m (Drop dev) sound = refl
+given_for marks m (Disk dev pick given) sound = refl
 
 pub applied_step : (shapes : List Shape) (old new : Seen) (e : Event) (reply : Reply) → IsHeld shapes old → Fits e → (h : IsStep (state_of old) e (outcome_of reply) reply (state_of new)) → IsLater old.memory new.memory → Rises (items_of h.effect) old.memory new.memory → all_marks new ≡ marks_after (all_marks old) e reply → FailsOnlyUnsteady (all_marks old) e reply → DisksAfter old e reply new → IsApplied old e reply new
 applied_step shapes old new e reply held fits h later rises marks unsteady disks = record {
@@ -351,6 +356,7 @@ quiet_disks old new (Step dev pick) reply quiet = absurd quiet
 quiet_disks old new (Input dev bytes) reply quiet = tt
 quiet_disks old new (Resize dev cols rows) reply quiet = tt
 quiet_disks old new (Drop dev) reply quiet = tt
+quiet_disks old new (Disk dev pick given) reply quiet = tt
 
 -- An event that writes into no page and no sector was applied, and RAM is as it was.
 pub applied_quiet : (shapes : List Shape) (old new : Seen) (e : Event) (reply : Reply) → IsQuiet e → IsHeld shapes old → Fits e → IsStep (state_of old) e (outcome_of reply) reply (state_of new) → new.memory ≡ old.memory → all_marks new ≡ marks_after (all_marks old) e reply → FailsOnlyUnsteady (all_marks old) e reply

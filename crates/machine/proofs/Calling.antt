@@ -1,6 +1,6 @@
 -- The calls of the disks that a step makes.
 use Rattle.std.proofs.Common.{◌≡◌, ◌≢◌, ℕ, zero, suc, ◌-◌, ◌<◌, ◌≤◌, Bool, true, false, List, [], ◌∷◌, ◌++◌, length, map, set, Option, Some, None, refl, ap, sym, subst, ◌∙◌, arith}
-use Rattle.std.specs.Prelude.{Result, slice_get, slice_index_or}
+use Rattle.std.specs.Prelude.{◌&&◌, Result, slice_get, slice_index_or}
 use Rattle.std.proofs.lemmas.List.{map-set}
 use Rattle.std.proofs.lemmas.Option.{slice_get-get_or}
 use borrow.Author.Tests.{ltb-true}
@@ -19,36 +19,43 @@ use Rattle.blk.specs.declared.request.Kind as request
 use Rattle.blk.specs.declared.request.Kind.TheVariants.{Refused, In, Out, Flush, GetId, Zero}
 use Rattle.blk.specs.declared.request.Request.{Request}
 use Rattle.machine.specs.Applied.{IsApplied}
-use Rattle.machine.specs.Calls.{CallsDisk, HasCalled, HaveCalled, advance_of, asks_disk, has_read}
-use Rattle.machine.specs.DeviceStep.{advances, advanced_at, looked_at, reply_to_advance, requests_of}
+use Rattle.machine.specs.Calls.{CallsDisk, HasCalled, HaveCalled, advance_of, asks_disk, has_read, kind_asks}
+use Rattle.machine.specs.DeviceStep.{advances, advanced_at, is_outside, looked_at, reply_to_advance, requests_of}
 use Rattle.machine.specs.Seen.{DeviceSeen, Seen, all_calls, called_if}
 use Rattle.machine.specs.Shapes.{made_as, queues_of}
 use Rattle.machine.specs.Sound.{IsSoundDevice}
 use Rattle.machine.specs.State.{DeviceState}
 use Rattle.machine.specs.declared.event.Event.{Event}
-use Rattle.machine.specs.declared.event.Event.TheVariants.{RegRead, RegWrite, MemRead, MemWrite, Step, Input, Resize, Drop}
-use Rattle.machine.specs.declared.kind.Kind.TheVariants.{Block}
+use Rattle.machine.specs.declared.event.Event.TheVariants.{RegRead, RegWrite, MemRead, MemWrite, Step, Input, Resize, Drop, Disk}
+use Rattle.machine.specs.declared.kind.Kind.{Kind}
+use Rattle.machine.specs.declared.kind.Kind.TheVariants.{Network, Block, Outside, Console, Entropy}
 use Rattle.machine.specs.declared.reply.Reply.{Reply}
 use Rattle.machine.proofs.At.{IsAt, found, map-set_same, past}
 use Rattle.machine.proofs.Looking.{left_of_and, none_past, right_of_and}
 use Rattle.machine.proofs.Reading.{Tells}
 use Rattle.machine.proofs.Rings.{positions_long}
-use Rattle.machine.proofs.Stepping.{kind_by, no_positions}
+use Rattle.machine.proofs.Stepping.{no_positions}
 
 -- A device that advances a request has one queue, on which no other pick looks.
 record HasRequest (d : DeviceState) (pick : ℕ) : Type 0 where
   some : 0 < pick
-  block : blocks.Block
-  is : d.kind ≡ Block block
+  one : queues_of (made_as d.kind) ≡ 1
+
+one_by : (kind : Kind) (k : ℕ) → k < length (requests_of kind) → queues_of (made_as kind) ≡ 1
+one_by (Block block) k below = refl
+one_by (Outside block) k below = refl
+one_by (Network mac inbox) k below = absurd (omega (arith, below))
+one_by (Console size held) k below = absurd (omega (arith, below))
+one_by (Entropy pool) k below = absurd (omega (arith, below))
 
 has_request : (d : DeviceState) (pick : ℕ) → advances d pick ≡ true → HasRequest d pick
 has_request d pick h =
     let two = left_of_and _ _ h in
-    let block = kind_by d.kind (pick - 1) (ltb-true (pick - 1) (length (requests_of d.kind)) (right_of_and _ _ h)) in
-    record { some = ltb-true 0 pick (right_of_and _ _ two); block = block.0; is = block.1 }
+    let below = ltb-true (pick - 1) (length (requests_of d.kind)) (left_of_and _ _ (right_of_and _ _ h)) in
+    record { some = ltb-true 0 pick (right_of_and _ _ two); one = one_by d.kind (pick - 1) below }
 
 one_queue : {base : ℕ} (len : ℕ) (d : DeviceState) (pick : ℕ) → IsSoundDevice base len d → HasRequest d pick → length d.registers.queues ≡ 1
-one_queue len d pick sound h = sound.queues ∙ ap (λ kind. queues_of (made_as kind)) h.is
+one_queue len d pick sound h = sound.queues ∙ h.one
 
 idle_looking : {base : ℕ} (len : ℕ) (d : DeviceState) (pick : ℕ) (q : RingState) (b : Bool) → IsSoundDevice base len d → looked_at d pick ≡ Some q → advances d pick ≡ b → b ≡ false
 idle_looking len d pick q false sound looked is = refl
@@ -76,6 +83,19 @@ looked_uncalled len d pick q reply called calls sound looked = not_asked d pick 
 
 pub idle_uncalled : {base : ℕ} (len : ℕ) (d : DeviceState) (pick : ℕ) (reply : Reply) (called : ℕ → ℕ) (calls : Option ℕ) → IsSoundDevice base len d → advanced_at d pick ≡ None → calls ≡ called_if called (asks_disk d pick reply) calls
 idle_uncalled len d pick reply called calls sound none = not_asked d pick reply called calls (idle_without len d pick (advances d pick) sound none refl)
+
+-- Nor does any step of a device whose disk is outside.
+not_asking : (advancing : Bool) (kind : Kind) (k : ℕ) (reply : Reply) → is_outside kind ≡ true → (advancing && kind_asks kind k reply) ≡ false
+not_asking true (Outside block) k reply is = refl
+not_asking false kind k reply is = refl
+not_asking true (Network mac inbox) k reply is = cc
+not_asking true (Block block) k reply is = cc
+not_asking true (Console size held) k reply is = cc
+not_asking true (Entropy pool) k reply is = cc
+
+pub outside_uncalled : (d : DeviceState) (pick : ℕ) (reply : Reply) (called : ℕ → ℕ) (calls : Option ℕ) → is_outside d.kind ≡ true → calls ≡ called_if called (asks_disk d pick reply) calls
+outside_uncalled d pick reply called None is = refl
+outside_uncalled d pick reply called (Some n) is = rw (not_asking (advances d pick) d.kind (pick - 1) reply is) refl
 
 -- What blk says of a call is what the reply tells.
 same_bad : (a : Advanced) → is_bad_sector (advance_of (reply_to_advance a)) ≡ is_bad_sector a
@@ -151,3 +171,4 @@ only_steps called old new (Step dev pick) reply other h = absurd (other dev pick
 only_steps called old new (Input dev bytes) reply other h = h
 only_steps called old new (Resize dev cols rows) reply other h = h
 only_steps called old new (Drop dev) reply other h = h
+only_steps called old new (Disk dev pick given) reply other h = h

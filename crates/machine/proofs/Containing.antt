@@ -6,6 +6,7 @@ use Rattle.guestmem.specs.declared.error.RamError.{RamError}
 use Rattle.mmio.specs.State.{with_common, Registers}
 use Rattle.mmio.specs.Bits.{has}
 use Rattle.blk.specs.Advance.{advance_step}
+use Rattle.blk.specs.Outside.{Answer, outside_step}
 use Rattle.blk.specs.Sectors.{Sector}
 use Rattle.blk.specs.declared.advancing.Advanced.{Advanced}
 use Rattle.blk.specs.declared.advancing.Advanced.TheVariants as advanced
@@ -24,15 +25,18 @@ use Rattle.machine.specs.Effect.{Effect, applied, sets_on}
 use Rattle.machine.specs.Looked.{LooksAtMalformed}
 use Rattle.machine.specs.Outcome.{Outcome, fine, disk_failed, no_memory, disk_does}
 use Rattle.machine.specs.State.{MachineState, DeviceState, base_of}
-use Rattle.machine.specs.Step.{answer, disk_of, drop_by, drop_input, drop_of, input_of, MaySeeAt, HasEffect, out_reply, put_by, set_size, size_by, written_out, read_register, write_register, read_ram, write_ram, put_in, step_device}
+use Rattle.machine.specs.Outside.{answer_of, disk_answered}
+use Rattle.machine.specs.Step.{answer, answered_by, disk_of, drop_by, drop_input, drop_of, hand_in, input_of, MaySeeAt, HasEffect, out_reply, put_by, set_size, size_by, written_out, read_register, write_register, read_ram, write_ram, put_in, step_device}
 use Rattle.machine.specs.StepLaws.{IsContained, MalformedIsContained, MalformedAsksForReset, IsRefusal, RefusalsChangeNothing}
+use Rattle.machine.specs.declared.event.DiskAnswer.{DiskAnswer}
 use Rattle.machine.specs.declared.event.Event.{Event}
-use Rattle.machine.specs.declared.event.Event.TheVariants.{RegRead, RegWrite, MemRead, MemWrite, Step, Input, Resize, Drop}
+use Rattle.machine.specs.declared.event.Event.TheVariants.{RegRead, RegWrite, MemRead, MemWrite, Step, Input, Resize, Drop, Disk}
 use Rattle.machine.specs.declared.kind.Kind.{Kind}
-use Rattle.machine.specs.declared.kind.Kind.TheVariants.{Network, Block, Console, Entropy}
+use Rattle.machine.specs.declared.kind.Kind.TheVariants.{Network, Block, Outside, Console, Entropy}
 use Rattle.machine.specs.declared.reply.Refusal.{Refusal}
 use Rattle.machine.specs.declared.reply.Reply.TheVariants.{NeedsReset}
 use Rattle.machine.proofs.Agreeing.{effects_same}
+use Rattle.machine.proofs.DiskAnswers.{answer_told}
 use Rattle.machine.proofs.Answering.{answered}
 use Rattle.machine.proofs.Looking.{looked_is, is_looked, left_of_and, positions_stay, set_same}
 
@@ -45,6 +49,7 @@ served_malformed : (features : ℕ) (kind : Kind) (number : ℕ) (ram : List ℕ
 served_malformed features (Network mac inbox) zero ram q = refl
 served_malformed features (Network mac inbox) (suc number) ram q = refl
 served_malformed features (Block block) number ram q = refl
+served_malformed features (Outside block) number ram q = refl
 served_malformed features (Console size held) zero ram q = refl
 served_malformed features (Console size held) (suc number) ram q = refl
 served_malformed features (Entropy pool) number ram q = refl
@@ -67,7 +72,9 @@ seen_so features (Network mac inbox) zero ram q (next.Chain c) h = absurd (frame
 seen_so features (Network mac inbox) (suc number) ram q next.Empty h = cc
 seen_so features (Network mac inbox) (suc number) ram q (next.Chain c) h = cc
 seen_so features (Block block) number ram q next.Empty h = cc
+seen_so features (Outside block) number ram q next.Empty h = cc
 seen_so features (Block block) number ram q (next.Chain c) h = cc
+seen_so features (Outside block) number ram q (next.Chain c) h = cc
 seen_so features (Console size held) zero ram q next.Empty h = cc
 seen_so features (Console size held) zero ram q (next.Chain c) h = cc
 seen_so features (Console size held) (suc number) ram q next.Empty h = cc
@@ -85,6 +92,7 @@ advance_quiet (advanced.Completed len due) = ((λ h. cc), (λ h. h))
 
 no_reset_on : (d : DeviceState) (kind : Kind) (ram : List ℕ) (content : List Sector) (pick : ℕ) (q : RingState) (o : Outcome) → (advance_on d kind ram content pick q o).reply ≡ NeedsReset → ⊥
 no_reset_on d (Block block) ram content pick q o h = (advance_quiet (advance_step ram q content block (pick - 1) (disk_does o)).answer).0 h
+no_reset_on d (Outside block) ram content pick q o h = (advance_quiet (outside_step ram q block (pick - 1)).answer).0 h
 no_reset_on d (Network mac inbox) ram content pick q o h = cc
 no_reset_on d (Console size held) ram content pick q o h = cc
 no_reset_on d (Entropy pool) ram content pick q o h = cc
@@ -159,6 +167,7 @@ same_record m devices is = rw is refl
 
 quiet_on : (d : DeviceState) (kind : Kind) (ram : List ℕ) (content : List Sector) (pick : ℕ) (q : RingState) (o : Outcome) → IsRefusal (advance_on d kind ram content pick q o).reply → ⊥
 quiet_on d (Block block) ram content pick q o h = (advance_quiet (advance_step ram q content block (pick - 1) (disk_does o)).answer).1 h
+quiet_on d (Outside block) ram content pick q o h = (advance_quiet (outside_step ram q block (pick - 1)).answer).1 h
 quiet_on d (Network mac inbox) ram content pick q o h = h
 quiet_on d (Console size held) ram content pick q o h = h
 quiet_on d (Entropy pool) ram content pick q o h = h
@@ -212,6 +221,7 @@ quiet_put m dev (Some d) bytes h = quiet_put_by m dev d bytes (input_of d.kind b
 quiet_size_by : (m : MachineState) (dev : ℕ) (d : DeviceState) (kind : Kind) (size : ConsoleSize) → IsRefusal (size_by dev d kind size).reply → applied m (size_by dev d kind size).effect ≡ m
 quiet_size_by m dev d (Network mac inbox) size h = refl
 quiet_size_by m dev d (Block block) size h = refl
+quiet_size_by m dev d (Outside block) size h = refl
 quiet_size_by m dev d (Console old held) size h = absurd h
 quiet_size_by m dev d (Entropy pool) size h = refl
 
@@ -227,6 +237,17 @@ quiet_drop : (m : MachineState) (dev : ℕ) (d : Option DeviceState) → IsRefus
 quiet_drop m dev None h = refl
 quiet_drop m dev (Some d) h = quiet_drop_by m dev d (drop_of d.kind) h
 
+quiet_hand_by : (m : MachineState) (dev : ℕ) (d : DeviceState) (kind : Kind) (pick : ℕ) (answer : Answer) → IsRefusal (answered_by dev (disk_answered d kind pick answer)).reply → applied m (answered_by dev (disk_answered d kind pick answer)).effect ≡ m
+quiet_hand_by m dev d (Outside block) pick answer h = absurd (answer_told d block pick answer h)
+quiet_hand_by m dev d (Network mac inbox) pick answer h = refl
+quiet_hand_by m dev d (Block block) pick answer h = refl
+quiet_hand_by m dev d (Console size held) pick answer h = refl
+quiet_hand_by m dev d (Entropy pool) pick answer h = refl
+
+quiet_hand : (m : MachineState) (dev : ℕ) (d : Option DeviceState) (pick : ℕ) (given : DiskAnswer) → IsRefusal (hand_in dev d pick given).reply → applied m (hand_in dev d pick given).effect ≡ m
+quiet_hand m dev None pick given h = refl
+quiet_hand m dev (Some d) pick given h = quiet_hand_by m dev d d.kind pick (answer_of given) h
+
 pub quiet : (m : MachineState) (e : Event) (o : Outcome) (seen : Next) → IsRefusal (answer m e o seen).reply → applied m (answer m e o seen).effect ≡ m
 quiet m (RegRead dev off width) o seen h = quiet_look m (slice_get m.devices dev) off width
 quiet m (RegWrite dev off width value) o seen h = quiet_set m dev (slice_get m.devices dev) off width value h
@@ -236,6 +257,7 @@ quiet m (Step dev pick) o seen h = quiet_device m dev pick o seen (slice_get m.d
 quiet m (Resize dev cols rows) o seen h = quiet_size m dev (slice_get m.devices dev) (record { columns = cols; rows = rows }) h
 quiet m (Input dev bytes) o seen h = quiet_put m dev (slice_get m.devices dev) bytes h
 quiet m (Drop dev) o seen h = quiet_drop m dev (slice_get m.devices dev) h
+quiet m (Disk dev pick given) o seen h = quiet_hand m dev (slice_get m.devices dev) pick given h
 
 pub refusals_quiet : RefusalsChangeNothing
 refusals_quiet m e o r after h is = h.changed ∙ ap (λ (f : Effect). applied m f) h.has.effect_is ∙ quiet m e o h.has.seen (subst IsRefusal h.has.reply_is is)

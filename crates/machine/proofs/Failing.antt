@@ -8,7 +8,7 @@ use Rattle.machine.specs.Applied.{FailOnlyUnsteady, FailsOnlyUnsteady, IsHonestF
 use Rattle.machine.specs.Outcome.{is_failure}
 use Rattle.machine.specs.Seen.{Marks, failed_at, failed_once, marks_at, or_no_marks}
 use Rattle.machine.specs.declared.event.Event.{Event}
-use Rattle.machine.specs.declared.event.Event.TheVariants.{RegRead, RegWrite, MemRead, MemWrite, Step, Input, Resize, Drop}
+use Rattle.machine.specs.declared.event.Event.TheVariants.{RegRead, RegWrite, MemRead, MemWrite, Step, Input, Resize, Drop, Disk}
 use Rattle.machine.specs.declared.reply.Reply.{Reply}
 
 -- One event more.
@@ -42,6 +42,7 @@ event_stays marks (Step dev pick) r all = failing_stays marks dev (is_failure r)
 event_stays marks (Input dev bytes) r all = all
 event_stays marks (Resize dev cols rows) r all = all
 event_stays marks (Drop dev) r all = all
+event_stays marks (Disk dev pick given) r all = all
 
 run_stays : (marks : List Marks) (es : List Event) (rs : List Reply) → All (λ (m : Marks). IsTrue m.honest) marks → All (λ (m : Marks). IsTrue m.honest) (marks_run marks es rs)
 run_stays marks [] rs all = all
@@ -60,3 +61,4 @@ honest_for marks (Step dev pick) all = honest_at marks dev all (slice_get marks 
 honest_for marks (Input dev bytes) all = tt
 honest_for marks (Resize dev cols rows) all = tt
 honest_for marks (Drop dev) all = tt
+honest_for marks (Disk dev pick given) all = tt

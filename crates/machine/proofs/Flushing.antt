@@ -1,6 +1,6 @@
 -- A flush of the disk of a device beside all steps, and one that a step makes.
 use Rattle.std.proofs.Common.{◌≡◌, ◌≢◌, ℕ, zero, suc, ◌-◌, List, [], ◌∷◌, set, Bool, true, false, Option, Some, None, Result, Ok, Err, refl, ap, sym, ◌∙◌}
-use Rattle.std.specs.Prelude.{IsTrue, OnErr, OnOk, is_ok, not, slice_get}
+use Rattle.std.specs.Prelude.{◌&&◌, IsTrue, OnErr, OnOk, is_ok, not, slice_get}
 use Rattle.std.proofs.lemmas.List.{map-set}
 use Rattle.guestmem.specs.Memory.{Memory}
 use Rattle.blk.specs.Advance as blk
@@ -12,11 +12,12 @@ use Rattle.blk.specs.declared.request.Kind as request
 use Rattle.blk.specs.declared.request.Kind.TheVariants.{Refused, In, Out, Flush, GetId, Zero}
 use Rattle.blk.specs.declared.request.Request.{Request}
 use Rattle.blk.specs.declared.block.Block as blocks
-use Rattle.machine.specs.DeviceStep.{advances, reply_to_advance}
+use Rattle.machine.specs.DeviceStep.{advances, is_outside, reply_to_advance}
 use Rattle.machine.specs.Seen.{DeviceSeen, failed_if}
 use Rattle.machine.specs.State.{DeviceState}
 use Rattle.machine.specs.Unsynced.{FlushesDisk, HasFlushed, kind_flushes}
-use Rattle.machine.specs.declared.kind.Kind.TheVariants.{Block}
+use Rattle.machine.specs.declared.kind.Kind.{Kind}
+use Rattle.machine.specs.declared.kind.Kind.TheVariants.{Network, Block, Outside, Console, Entropy}
 use Rattle.machine.specs.declared.reply.Reply.{Reply}
 use Rattle.machine.specs.declared.reply.Reply.TheVariants.{Moved}
 use Rattle.machine.proofs.At.{IsAt, flushed_there, found_marks, map-set_same}
@@ -59,6 +60,18 @@ flushes_disk m ds dev d new (Err e) called = record {
   flushed = tt;
   others = λ k other. get_other ds dev k new other;
 }
+
+-- No step of a device whose disk is outside flushes it.
+not_flushing : (advancing : Bool) (kind : Kind) (k : ℕ) → is_outside kind ≡ true → (advancing && kind_flushes kind k) ≡ true → ⊥
+not_flushing false kind k is h = cc
+not_flushing true (Outside block) k is h = cc
+not_flushing true (Network mac inbox) k is h = cc
+not_flushing true (Block block) k is h = cc
+not_flushing true (Console size held) k is h = cc
+not_flushing true (Entropy pool) k is h = cc
+
+pub unflushed_outside : (d : DeviceState) (pick : ℕ) (reply : Reply) (is_flushed : Bool) → is_outside d.kind ≡ true → HasFlushed d pick reply is_flushed
+unflushed_outside d pick reply is_flushed is = λ makes done. absurd (not_flushing (advances d pick) d.kind (pick - 1) is makes)
 
 -- The step that advances a request.
 kind_flush : (kind : request.Kind) → is_flush kind ≡ true → kind ≡ Flush

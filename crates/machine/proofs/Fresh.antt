@@ -24,7 +24,7 @@ use Rattle.machine.specs.declared.board.RamOf.TheVariants.{Pages, Region}
 use Rattle.machine.specs.declared.limits.Limits.{Limits}
 use Rattle.machine.specs.declared.new_error.NewError.TheVariants.{BadShape, DiskMismatch}
 use Rattle.machine.specs.declared.shape.Shape.{Shape}
-use Rattle.machine.specs.declared.shape.Shape.TheVariants.{Net, LongNet, Block, Console, Entropy}
+use Rattle.machine.specs.declared.shape.Shape.TheVariants.{Net, LongNet, Block, Outside, Console, Entropy}
 use Rattle.machine.proofs.Dealt.{good_are_marks, good_content}
 use Rattle.machine.proofs.Disks.{same_sizes}
 use Rattle.machine.proofs.MadeAs.{IsLong, first_as}
@@ -102,6 +102,15 @@ sectors_by most sectors false false p q is = (omega (arith, eqb-false sectors 0 
 sectors_within : (l : Limits) (sectors : ℕ) (read_only : Bool) (id : List ℕ) → is_beyond l (Block sectors read_only id) ≡ false → (1 ≤ sectors) × (sectors ≤ l.sectors)
 sectors_within l sectors read_only id is = sectors_by l.sectors sectors (eqb sectors 0) (ltb l.sectors sectors) refl refl is
 
+outside_by : (most sectors : ℕ) (a b c : Bool) → eqb sectors 0 ≡ a → ltb (2 ^ 54) sectors ≡ b → ltb most sectors ≡ c → (a || b || c) ≡ false → (1 ≤ sectors) × (sectors ≤ 2 ^ 54) × (sectors ≤ most)
+outside_by most sectors true b c p q r is = cc
+outside_by most sectors false true c p q r is = cc
+outside_by most sectors false false true p q r is = cc
+outside_by most sectors false false false p q r is = (omega (arith, eqb-false sectors 0 p), ltb-false (2 ^ 54) sectors q, ltb-false most sectors r)
+
+outside_within : (l : Limits) (sectors : ℕ) (read_only : Bool) (id : List ℕ) → is_beyond l (Outside sectors read_only id) ≡ false → (1 ≤ sectors) × (sectors ≤ 2 ^ 54) × (sectors ≤ l.outside)
+outside_within l sectors read_only id is = outside_by l.outside sectors (eqb sectors 0) (ltb (2 ^ 54) sectors) (ltb l.outside sectors) refl refl refl is
+
 long_by : (most longest : ℕ) (a b : Bool) → ltb 1514 longest ≡ a → ltb most longest ≡ b → (not a || b) ≡ false → (1514 < longest) × (longest ≤ most)
 long_by most longest false b p q is = cc
 long_by most longest true true p q is = cc
@@ -124,6 +133,7 @@ shape_within : (l : Limits) (shape : Shape) → is_beyond l shape ≡ false → 
 shape_within l (Net mac) within = tt
 shape_within l (LongNet mac longest) within = (long_within l mac longest within).1
 shape_within l (Block sectors read_only id) within = (sectors_within l sectors read_only id within).1
+shape_within l (Outside sectors read_only id) within = (outside_within l sectors read_only id within).2
 shape_within l Console within = tt
 shape_within l Entropy within = tt
 
@@ -135,6 +145,7 @@ shape_long : (l : Limits) (shape : Shape) → is_beyond l shape ≡ false → Is
 shape_long l (Net mac) within = tt
 shape_long l (LongNet mac longest) within = (long_within l mac longest within).0
 shape_long l (Block sectors read_only id) within = tt
+shape_long l (Outside sectors read_only id) within = tt
 shape_long l Console within = tt
 shape_long l Entropy within = tt
 
@@ -150,6 +161,9 @@ shape_sound l (LongNet mac longest) fits within has =
 shape_sound l (Block sectors read_only id) fits within has =
     let count = sectors_within l sectors read_only id within in
     record { some = count.0; few = omega (arith, count.1, fits.sectors); id_size = has.size; id_bytes = has.bytes }
+shape_sound l (Outside sectors read_only id) fits within has =
+    let count = outside_within l sectors read_only id within in
+    record { some = count.0; few = count.1; id_size = has.size; id_bytes = has.bytes }
 shape_sound l Console fits within has = tt
 shape_sound l Entropy fits within has = tt
 
@@ -158,6 +172,8 @@ numbers_fit (Net mac) = (omega arith, omega arith, omega arith)
 numbers_fit (LongNet mac longest) = (omega arith, omega arith, omega arith)
 numbers_fit (Block sectors true id) = (omega arith, omega arith, omega arith)
 numbers_fit (Block sectors false id) = (omega arith, omega arith, omega arith)
+numbers_fit (Outside sectors true id) = (omega arith, omega arith, omega arith)
+numbers_fit (Outside sectors false id) = (omega arith, omega arith, omega arith)
 numbers_fit Console = (omega arith, omega arith, omega arith)
 numbers_fit Entropy = (omega arith, omega arith, omega arith)
 
@@ -169,6 +185,7 @@ kind_sound : (base bytes : ℕ) (shape : Shape) → IsSoundKind bytes (first_dev
 kind_sound base bytes (Net mac) = record { few = omega arith; are = All-nil _ }
 kind_sound base bytes (LongNet mac longest) = record { few = omega arith; are = All-nil _ }
 kind_sound base bytes (Block sectors read_only id) = record { few = omega arith; sound = All-nil _; where_ready = refl }
+kind_sound base bytes (Outside sectors read_only id) = record { few = omega arith; sound = All-nil _; where_ready = refl }
 kind_sound base bytes Console = record { columns = omega arith; rows = omega arith; text = record { few = omega arith; are = λ i. omega arith } }
 kind_sound base bytes Entropy = record { few = omega arith; are = λ i. omega arith }
 
@@ -194,6 +211,7 @@ dealt_counts : (shapes : List Shape) (disks : List (List Sector)) → disk_sizes
 dealt_counts [] disks is = refl
 dealt_counts (Net mac ∷ shapes) disks is = ap (λ xs. 0 ∷ xs) (dealt_counts shapes disks is)
 dealt_counts (LongNet mac longest ∷ shapes) disks is = ap (λ xs. 0 ∷ xs) (dealt_counts shapes disks is)
+dealt_counts (Outside sectors read_only id ∷ shapes) disks is = ap (λ xs. 0 ∷ xs) (dealt_counts shapes disks is)
 dealt_counts (Console ∷ shapes) disks is = ap (λ xs. 0 ∷ xs) (dealt_counts shapes disks is)
 dealt_counts (Entropy ∷ shapes) disks is = ap (λ xs. 0 ∷ xs) (dealt_counts shapes disks is)
 dealt_counts (Block sectors read_only id ∷ shapes) [] is = cc
@@ -210,10 +228,12 @@ pub dealt_whole : (shapes : List Shape) (disks : List (List Sector)) → All Are
 dealt_whole [] disks whole k d below = absurd (omega (arith, below))
 dealt_whole (Net mac ∷ shapes) disks whole zero d below = All-nil IsWhole
 dealt_whole (LongNet mac longest ∷ shapes) disks whole zero d below = All-nil IsWhole
+dealt_whole (Outside sectors read_only id ∷ shapes) disks whole zero d below = All-nil IsWhole
 dealt_whole (Console ∷ shapes) disks whole zero d below = All-nil IsWhole
 dealt_whole (Entropy ∷ shapes) disks whole zero d below = All-nil IsWhole
 dealt_whole (Net mac ∷ shapes) disks whole (suc k) d below = dealt_whole shapes disks whole k d (omega (arith, below))
 dealt_whole (LongNet mac longest ∷ shapes) disks whole (suc k) d below = dealt_whole shapes disks whole k d (omega (arith, below))
+dealt_whole (Outside sectors read_only id ∷ shapes) disks whole (suc k) d below = dealt_whole shapes disks whole k d (omega (arith, below))
 dealt_whole (Console ∷ shapes) disks whole (suc k) d below = dealt_whole shapes disks whole k d (omega (arith, below))
 dealt_whole (Entropy ∷ shapes) disks whole (suc k) d below = dealt_whole shapes disks whole k d (omega (arith, below))
 dealt_whole (Block sectors read_only id ∷ shapes) [] whole zero d below = All-nil IsWhole
@@ -275,6 +295,7 @@ sound_within : (shape : Shape) → IsSoundShape shape → IsShapeWithin greatest
 sound_within (Net mac) sound = tt
 sound_within (LongNet mac longest) sound = sound.most
 sound_within (Block sectors read_only id) sound = sound.few
+sound_within (Outside sectors read_only id) sound = sound.few
 sound_within Console sound = tt
 sound_within Entropy sound = tt
 

@@ -9,6 +9,7 @@ use Rattle.chains.specs.State.{RingState}
 use Rattle.chains.specs.declared.next.Next.{Next}
 use Rattle.blk.specs.Advance.{advance_one, advance_step}
 use Rattle.blk.specs.Move.{Move, move_of}
+use Rattle.blk.specs.Outside.{outside_step}
 use Rattle.blk.specs.Request.{is_open, next_sector}
 use Rattle.blk.specs.Sectors.{Sector, is_bad, sector_in}
 use Rattle.blk.specs.declared.advancing.Advanced.{Advanced}
@@ -30,7 +31,7 @@ use Rattle.machine.specs.declared.reply.Reply.TheVariants.{Idle}
 use Rattle.chains.specs.Service.{Service}
 use Rattle.chains.specs.Service as service
 use Rattle.machine.specs.declared.kind.Kind.{Kind}
-use Rattle.machine.specs.declared.kind.Kind.TheVariants.{Network, Block, Console, Entropy}
+use Rattle.machine.specs.declared.kind.Kind.TheVariants.{Network, Block, Outside, Console, Entropy}
 use Rattle.machine.specs.declared.work.Work.{Work}
 use Rattle.machine.proofs.Advancing.{advanced_is}
 use Rattle.machine.proofs.Answering.{answered}
@@ -84,6 +85,7 @@ busy_found ram q content b k is_fine (r ∷ rs) below =
 
 busy_on : (d : DeviceState) (kind : Kind) (ram : List ℕ) (content : List Sector) (pick : ℕ) (q : RingState) (o : Outcome) → pick - 1 < length (requests_of kind) → (advance_on d kind ram content pick q o).reply ≢ Idle
 busy_on d (Block block) ram content pick q o below = busy_reply (advance_step ram q content block (pick - 1) (disk_does o)).answer (busy_found ram q content block (pick - 1) (disk_does o) block.requests below)
+busy_on d (Outside block) ram content pick q o below = busy_reply (outside_step ram q block (pick - 1)).answer (busy_found ram q [] block (pick - 1) true block.requests below)
 busy_on d (Network mac inbox) ram content pick q o below = absurd (omega (arith, below))
 busy_on d (Console size held) ram content pick q o below = absurd (omega (arith, below))
 busy_on d (Entropy pool) ram content pick q o below = absurd (omega (arith, below))

@@ -9,7 +9,7 @@ use Rattle.machine.specs.Seen.{Marks, Seen, all_marks, state_of}
 use Rattle.machine.specs.State.{MachineState}
 use Rattle.machine.specs.Step.{HasEffect, IsStep}
 use Rattle.machine.specs.declared.event.Event.{Event}
-use Rattle.machine.specs.declared.event.Event.TheVariants.{RegRead, RegWrite, MemRead, MemWrite, Step, Input, Resize, Drop}
+use Rattle.machine.specs.declared.event.Event.TheVariants.{RegRead, RegWrite, MemRead, MemWrite, Step, Input, Resize, Drop, Disk}
 use Rattle.machine.specs.declared.reply.Reply.{Reply}
 use Rattle.machine.proofs.At.{disk_itself}
 
@@ -22,6 +22,7 @@ gave_its marks m (Step dev pick) given is honest = ap (λ (disks : List (List Se
 gave_its marks m (Input dev bytes) given is honest = refl
 gave_its marks m (Resize dev cols rows) given is honest = refl
 gave_its marks m (Drop dev) given is honest = refl
+gave_its marks m (Disk dev pick answer) given is honest = refl
 
 pub honest_effect : HonestDisksGiveTheirs
 honest_effect old new e reply h honest = subst (λ (m : MachineState). HasEffect m e (outcome_of reply) reply h.effect) (gave_its (all_marks old) (state_of old) e h.given h.is_given honest) h.has

@@ -33,7 +33,7 @@ use Rattle.machine.specs.DeviceStep.{serve, wanted_of}
 use Rattle.machine.specs.Sound.{IsSoundKind}
 use Rattle.net.specs.Inbox.{IsFrame}
 use Rattle.machine.specs.declared.kind.Kind.{Kind}
-use Rattle.machine.specs.declared.kind.Kind.TheVariants.{Network, Block, Console, Entropy}
+use Rattle.machine.specs.declared.kind.Kind.TheVariants.{Network, Block, Outside, Console, Entropy}
 use Rattle.console.specs.Shape.{AreHostBytes}
 use Rattle.machine.proofs.Rings.{IsLookedRing}
 
@@ -221,6 +221,7 @@ sent_inside ram q form state (next.Chain c) looked = published_inside (length ra
 -- What serving a queue writes.
 pub served_inside : (len : ℕ) (r : Registers) (kind : Kind) (number : ℕ) (ram : List ℕ) (q : RingState) (seen : Next) → IsLookedRing (length ram) q → Sees (wanted_of kind number) ram q seen → IsSoundKind len r kind → AreInsideRam (length ram) (serve r.common.features kind number ram q seen).writes
 served_inside len r (Block block) number ram q seen looked sees sound = taken_inside r.common.features ram q block seen looked
+served_inside len r (Outside block) number ram q seen looked sees sound = taken_inside r.common.features ram q block seen looked
 served_inside len r (Network mac inbox) zero ram q seen looked sees sound = framed_inside inbox.longest ram q inbox.frames seen looked (sight_bounded wanted.Room ram q seen sees) sound.are
 served_inside len r (Network mac inbox) (suc number) ram q seen looked sees sound = sent_inside ram q (frame_form inbox.longest) (Network mac inbox) seen looked
 served_inside len r (Console size held) zero ram q seen looked sees sound = given_inside ram q held seen looked (sight_bounded wanted.Room ram q seen sees) sound.text

@@ -1,4 +1,7 @@
 mod Turns
+mod DiskAnswers
+pub mod DiskEvents
+pub mod OutsideParts
 pub mod DeviceTurns
 mod Advancing
 pub mod Agreeing

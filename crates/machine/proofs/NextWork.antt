@@ -8,8 +8,8 @@ use Rattle.std.proofs.lemmas.Option.{get_or_from_slice_get, slice_get-get_or, sl
 use Rattle.mmio.specs.State.{first_queue}
 use Rattle.chains.specs.State.{RingState, state_of}
 use Rattle.mmio.specs.declared.queue.Queue.{Queue}
-use Rattle.machine.specs.DeviceStep.{advanced_at, advances, looked_at, looks}
-use Rattle.machine.specs.NextWork.{HaveNoWork, NoneCanWork, can_work_at, can_work_with, device_can_work, device_has_work, has_work_at, in_turn_after, next_from, next_work, next_work_with_lost, number_of, picks_from, steps_between, work_of}
+use Rattle.machine.specs.DeviceStep.{advanced_at, advances, can_advance, looked_at, looks, requests_of}
+use Rattle.machine.specs.NextWork.{HaveNoWork, NoneCanWork, can_work_at, can_work_with, device_can_work, device_has_work, has_work_at, has_work_with, in_turn_after, next_from, next_work, next_work_with_lost, number_of, picks_from, steps_between, work_of}
 use Rattle.machine.specs.Shapes.{made_as, queues_of}
 use Rattle.machine.specs.Seen.{DeviceSeen}
 use Rattle.machine.specs.Sound.{AreSoundDevices, IsSoundDevice}
@@ -19,7 +19,9 @@ use Rattle.machine.specs.declared.shape.Shape.TheVariants as shapes
 use Rattle.machine.specs.declared.work.Work.{Work}
 use Rattle.machine.proofs.Rings.{positions_long}
 use Rattle.machine.proofs.At.{IsAt, found, own_base}
-use Rattle.machine.proofs.Stepping.{no_positions}
+use Rattle.machine.proofs.Looking.{none_past}
+use Rattle.machine.proofs.Numbering.{is_past}
+use Rattle.machine.proofs.Stepping.{no_positions, none_advanced}
 
 lt_or_le : (m n : ℕ) → (m < n) ⊎ (n ≤ m)
 lt_or_le m zero = inr (omega arith)
@@ -290,6 +292,7 @@ some_queues : (shape : Shape) → 0 < queues_of shape
 some_queues (shapes.Net mac) = omega arith
 some_queues (shapes.LongNet mac longest) = omega arith
 some_queues (shapes.Block sectors read_only id) = omega arith
+some_queues (shapes.Outside sectors read_only id) = omega arith
 some_queues shapes.Console = omega arith
 some_queues shapes.Entropy = omega arith
 
@@ -329,6 +332,12 @@ one_more p from pick before here k above below = elim (lt_or_le k pick) as (λ _
 
 pub beyond : (p : ℕ → Bool) (from pick end : ℕ) → end ≤ pick → ((k : ℕ) → from ≤ k → k < pick → p k ≡ false) → ((k : ℕ) → end ≤ k → p k ≡ false) → (k : ℕ) → from ≤ k → k < from + (256 - from) → p k ≡ false
 beyond p from pick end reached before after k above below = elim (lt_or_le k pick) as (λ _. p k ≡ false) [ inl lower ↦ before k above lower | inr upper ↦ after k (omega (arith, reached, upper)) ]
+
+-- A pick that names no queue and no outstanding request.
+pub no_work_past : (d : DeviceState) (pick : ℕ) → length d.registers.queues ≤ pick → length (requests_of d.kind) < pick → has_work_with d pick ≡ false
+no_work_past d pick queues requests =
+    let can : can_advance d.kind (pick - 1) ≡ false = rw (is_past (pick - 1) (length (requests_of d.kind)) (omega (arith, requests))) refl in
+    rw (none_past d pick queues, none_advanced d pick (none_beside _ (can_advance d.kind (pick - 1)) can)) refl
 
 -- A device of a machine, by its number.
 pub own_sound : (ds : List DeviceSeen) (dev : ℕ) (d : DeviceSeen) → IsAt ds dev d → (sound : AreSoundDevices (map (λ (x : DeviceSeen). x.state) ds)) → IsSoundDevice d.state.registers.ram_base sound.0 d.state

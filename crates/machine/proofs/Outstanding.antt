@@ -104,7 +104,7 @@ failed_after len limits r at_work calls work k q rs sound below is =
     (λ _. gone_wrong r.kind (length (places r.readable)) (length (places r.writable)) limits r.first r.units r.done calls at_work.left (rw at_work.good at work))
 
 -- Places further on.
-rest_inside : (base len n : ℕ) (at : List ℕ) → AreAddresses base len at → AreAddresses base len (drop n at)
+pub rest_inside : (base len n : ℕ) (at : List ℕ) → AreAddresses base len at → AreAddresses base len (drop n at)
 rest_inside base len zero at h = h
 rest_inside base len (suc n) [] h = tt
 rest_inside base len (suc n) (a ∷ at) h = rest_inside base len n at h.1

@@ -1,6 +1,7 @@
 -- Refused events, whatever the disks do.
 use Rattle.std.proofs.Common.{◌≡◌, ℕ, List, [], length, false, Option, Some, None, Result, Ok, Err, refl, ap, sym, ◌∙◌, subst}
 use Rattle.std.specs.Prelude.{slice_get}
+use Rattle.blk.specs.Outside.{Answer}
 use Rattle.blk.specs.Sectors.{Sector}
 use Rattle.chains.specs.State.{RingState}
 use Rattle.chains.specs.declared.next.Next.{Next}
@@ -15,17 +16,20 @@ use Rattle.machine.specs.Effect.{Effect, applied, items_of, replaced_in, sectors
 use Rattle.machine.specs.Outcome.{Outcome, disk_failed, fine, is_failure, no_memory, outcome_of}
 use Rattle.machine.specs.Seen.{Marks, all_marks, state_of}
 use Rattle.machine.specs.State.{DeviceState, MachineState, base_of}
-use Rattle.machine.specs.Step.{answer, drop_by, drop_input, drop_of, input_of, put_by, put_in, read_ram, read_register, set_size, size_by, step_device, write_ram, write_register}
+use Rattle.machine.specs.Outside.{answer_of, disk_answered}
+use Rattle.machine.specs.Step.{answer, answered_by, drop_by, drop_input, drop_of, hand_in, input_of, put_by, put_in, read_ram, read_register, set_size, size_by, step_device, write_ram, write_register}
 use Rattle.machine.specs.StepLaws.{IsRefusal}
+use Rattle.machine.specs.declared.event.DiskAnswer.{DiskAnswer}
 use Rattle.machine.specs.declared.event.Event.{Event}
-use Rattle.machine.specs.declared.event.Event.TheVariants.{RegRead, RegWrite, MemRead, MemWrite, Step, Input, Resize, Drop}
+use Rattle.machine.specs.declared.event.Event.TheVariants.{RegRead, RegWrite, MemRead, MemWrite, Step, Input, Resize, Drop, Disk}
 use Rattle.machine.specs.declared.kind.Kind.{Kind}
-use Rattle.machine.specs.declared.kind.Kind.TheVariants.{Network, Block, Console, Entropy}
+use Rattle.machine.specs.declared.kind.Kind.TheVariants.{Network, Block, Outside, Console, Entropy}
 use Rattle.machine.specs.declared.reply.Refusal.{Refusal}
 use Rattle.machine.specs.declared.reply.Reply.{Reply}
 use Rattle.machine.specs.declared.reply.Reply.TheVariants as replies
 use Rattle.machine.proofs.Answering.{answered}
 use Rattle.machine.proofs.Containing.{quiet, quiet_advance}
+use Rattle.machine.proofs.DiskAnswers.{answer_told}
 
 -- An effect that writes nothing.
 record IsUnwritten (f : Effect) : Type 0 where
@@ -75,6 +79,7 @@ of_put dev (Some d) bytes = of_put_by dev d bytes (input_of d.kind bytes)
 of_size_by : (dev : ℕ) (d : DeviceState) (kind : Kind) (size : ConsoleSize) → IsUnwritten (size_by dev d kind size).effect
 of_size_by dev d (Network mac inbox) size = record { writes = refl; sectors = refl }
 of_size_by dev d (Block block) size = record { writes = refl; sectors = refl }
+of_size_by dev d (Outside block) size = record { writes = refl; sectors = refl }
 of_size_by dev d (Console old held) size = record { writes = refl; sectors = refl }
 of_size_by dev d (Entropy pool) size = record { writes = refl; sectors = refl }
 
@@ -90,6 +95,17 @@ of_drop : (dev : ℕ) (d : Option DeviceState) → IsUnwritten (drop_input dev d
 of_drop dev None = record { writes = refl; sectors = refl }
 of_drop dev (Some d) = of_drop_by dev d (drop_of d.kind)
 
+of_hand_by : (dev : ℕ) (d : DeviceState) (kind : Kind) (pick : ℕ) (answer : Answer) → IsRefusal (answered_by dev (disk_answered d kind pick answer)).reply → IsUnwritten (answered_by dev (disk_answered d kind pick answer)).effect
+of_hand_by dev d (Outside block) pick answer h = absurd (answer_told d block pick answer h)
+of_hand_by dev d (Network mac inbox) pick answer h = record { writes = refl; sectors = refl }
+of_hand_by dev d (Block block) pick answer h = record { writes = refl; sectors = refl }
+of_hand_by dev d (Console size held) pick answer h = record { writes = refl; sectors = refl }
+of_hand_by dev d (Entropy pool) pick answer h = record { writes = refl; sectors = refl }
+
+of_hand : (dev : ℕ) (d : Option DeviceState) (pick : ℕ) (given : DiskAnswer) → IsRefusal (hand_in dev d pick given).reply → IsUnwritten (hand_in dev d pick given).effect
+of_hand dev None pick given h = record { writes = refl; sectors = refl }
+of_hand dev (Some d) pick given h = of_hand_by dev d d.kind pick (answer_of given) h
+
 unwritten : (m : MachineState) (e : Event) (o : Outcome) (seen : Next) → IsRefusal (answer m e o seen).reply → IsUnwritten (answer m e o seen).effect
 unwritten m (RegRead dev off width) o seen h = of_look (slice_get m.devices dev) off width
 unwritten m (RegWrite dev off width value) o seen h = of_set dev (slice_get m.devices dev) off width value
@@ -99,6 +115,7 @@ unwritten m (Step dev pick) o seen h = of_step dev (slice_get m.devices dev) m.r
 unwritten m (Input dev bytes) o seen h = of_put dev (slice_get m.devices dev) bytes
 unwritten m (Resize dev cols rows) o seen h = of_size dev (slice_get m.devices dev) (record { columns = cols; rows = rows })
 unwritten m (Drop dev) o seen h = of_drop dev (slice_get m.devices dev)
+unwritten m (Disk dev pick given) o seen h = of_hand dev (slice_get m.devices dev) pick given h
 
 -- The devices are the same, whatever the disk gave.
 given_devices : (m : MachineState) (e : Event) (given : List Sector) → (as_given m e given).devices ≡ m.devices
@@ -110,6 +127,7 @@ given_devices m (Step dev pick) given = refl
 given_devices m (Input dev bytes) given = refl
 given_devices m (Resize dev cols rows) given = refl
 given_devices m (Drop dev) given = refl
+given_devices m (Disk dev pick answer) given = refl
 
 -- A refusal is no failure of a disk.
 no_failure : (reply : Reply) → IsRefusal reply → is_failure reply ≡ false
@@ -139,6 +157,7 @@ marks_stay marks (Step dev pick) reply h = rw (no_failure reply h) refl
 marks_stay marks (Input dev bytes) reply h = refl
 marks_stay marks (Resize dev cols rows) reply h = refl
 marks_stay marks (Drop dev) reply h = refl
+marks_stay marks (Disk dev pick given) reply h = refl
 
 same_items : (f : Effect) → IsUnwritten f → items_of f ≡ []
 same_items f none = rw (none.writes, none.sectors) refl

@@ -35,7 +35,7 @@ use Rattle.blk.specs.declared.block.Block as blocks
 use Rattle.blk.specs.declared.shape.Limits.{Limits}
 use Rattle.machine.specs.DeviceStep.{has_work, serve, wanted_of}
 use Rattle.machine.specs.declared.kind.Kind.{Kind}
-use Rattle.machine.specs.declared.kind.Kind.TheVariants.{Network, Block, Console, Entropy}
+use Rattle.machine.specs.declared.kind.Kind.TheVariants.{Network, Block, Outside, Console, Entropy}
 use Rattle.machine.proofs.Rings.{IsLookedRing, IsPlacedRing, placed_by, placed_taken}
 
 -- A ring of the same base, layout and size, whose places fit.
@@ -74,6 +74,7 @@ pub record AreOutstanding (len : ℕ) (s : RingState) (limits : Limits) (request
 abbrev pub SoundBeside : ℕ → RingState → ℕ → Kind → Type 0
 SoundBeside len s features (Network mac inbox) = AreFrames inbox
 SoundBeside len s features (Block block) = AreOutstanding len s (limits_of block features) block.requests
+SoundBeside len s features (Outside block) = AreOutstanding len s (limits_of block features) block.requests
 SoundBeside len s features (Console size held) = IsSoundConsole size held
 SoundBeside len s features (Entropy pool) = AreHostBytes pool
 
@@ -147,6 +148,9 @@ served_on features (Network mac inbox) (suc number) ram s seen work bytes looked
     let g = sent_on ram s (frame_form inbox.longest) (Network mac inbox) seen looked (sight_bounded (wanted.Message (frame_form inbox.longest)) ram s seen sees) in
     record { ring = g.0; kind_is = rw (g.1) sound }
 served_on features (Block block) number ram s seen work bytes looked sees sound =
+    let t = taken_on features ram s block seen work bytes sees looked sound in
+    record { ring = t.ring; kind_is = t.are }
+served_on features (Outside block) number ram s seen work bytes looked sees sound =
     let t = taken_on features ram s block seen work bytes sees looked sound in
     record { ring = t.ring; kind_is = t.are }
 served_on features (Console size held) zero ram s seen work bytes looked sees sound =

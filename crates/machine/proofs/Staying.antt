@@ -1,5 +1,5 @@
 -- A sound device stays sound.
-use Rattle.std.proofs.Common.{◌≡◌, ℕ, zero, suc, ◌+◌, ◌%◌, ◌^◌, ◌<◌, ◌≤◌, ◌⊎◌, inl, inr, Bool, true, false, cond, eqb, ltb, List, [], ◌∷◌, ◌++◌, length, take, set, get_or, Option, Some, None, refl, sym, ap, ◌∙◌, subst, arith, length-append}
+use Rattle.std.proofs.Common.{◌≡◌, ℕ, zero, suc, ◌+◌, ◌%◌, ◌^◌, ◌<◌, ◌≤◌, ◌⊎◌, inl, inr, Bool, true, false, cond, eqb, ltb, List, [], ◌∷◌, ◌++◌, length, replicate, take, set, get_or, Option, Some, None, refl, sym, ap, ◌∙◌, subst, arith, length-append}
 use Rattle.std.proofs.lemmas.List.Elements.{All-append}
 use borrow.Author.Tests.{ltb-true, ltb-false}
 use Rattle.net.specs.Inbox.{AreFrames, Inbox, IsFrame, is_frame_len, most_waiting}
@@ -7,13 +7,15 @@ use Rattle.std.specs.Prelude.{◌-◌, ◌&&◌, not, bit_and, bit_or, slice_get
 use Rattle.std.proofs.lemmas.Option.{slice_get_within}
 use Rattle.std.proofs.lemmas.Nat.{mod_below}
 use Rattle.std.specs.Bool.{MatchBool}
-use Rattle.std.proofs.lemmas.List.{length-take}
+use Rattle.std.proofs.lemmas.List.{length-replicate, length-take}
 use Rattle.guestmem.proofs.ByteLaws.{IsBytes-append, IsBytes-take}
 use Rattle.guestmem.specs.Number.{IsBytes}
 use Rattle.blk.specs.Advance.{AdvanceStep, advance_step}
 use Rattle.blk.specs.Sectors.{Sector, AreWhole}
-use Rattle.blk.specs.Block.{limits_of}
-use Rattle.blk.specs.Shape.{IsBlockShape}
+use Rattle.blk.proofs.Others.{others_are_alike}
+use Rattle.blk.specs.Block.{limits_of, with_requests}
+use Rattle.blk.specs.Outside.{Failed, awaits_at, outside_step}
+use Rattle.blk.specs.Shape.{IsBlockShape, IsOutsideShape}
 use Rattle.blk.specs.Sound.{AreRequestsOf}
 use Rattle.blk.specs.declared.request.Request.{Request}
 use Rattle.blk.specs.declared.block.Block as blocks
@@ -45,7 +47,7 @@ use Rattle.machine.specs.Sound.{AreSoundBeside, IsSoundDevice, IsSoundKind}
 use Rattle.machine.specs.State.{DeviceState}
 use Rattle.machine.specs.Step.{register_set, is_first_ready, accepted_in, dropped_unready, kind_with_input, kind_without_input, with_input, without_input}
 use Rattle.machine.specs.declared.kind.Kind.{Kind}
-use Rattle.machine.specs.declared.kind.Kind.TheVariants.{Network, Block, Console, Entropy}
+use Rattle.machine.specs.declared.kind.Kind.TheVariants.{Network, Block, Outside, Console, Entropy}
 use Rattle.chains.specs.Service.{Answer}
 use Rattle.chains.specs.Service as service
 use Rattle.machine.proofs.Advancing.{IsAdvancedAt, advanced_is}
@@ -57,7 +59,7 @@ use Rattle.machine.proofs.Serving.{AreOutstanding, IsSameRing, SoundBeside, serv
 
 -- A device stays sound if it stays what it was made as, its registers stay sound, and its positions and what only its kind has
 -- are such as it can have.
-stays_sound : {base : ℕ} (len : ℕ) (d new : DeviceState) → made_as new.kind ≡ made_as d.kind → StaysSound d.registers new.registers → HavePositions (is_packed_by new.registers.common) new.registers.queues new.positions → IsSoundKind len new.registers new.kind → IsSoundDevice base len d → IsSoundDevice base len new
+pub stays_sound : {base : ℕ} (len : ℕ) (d new : DeviceState) → made_as new.kind ≡ made_as d.kind → StaysSound d.registers new.registers → HavePositions (is_packed_by new.registers.common) new.registers.queues new.positions → IsSoundKind len new.registers new.kind → IsSoundDevice base len d → IsSoundDevice base len new
 stays_sound len d new same stays positions kind sound = record {
   shape = rw same sound.shape;
   device_id = rw same (stays.same.device_id ∙ sound.device_id);
@@ -71,7 +73,7 @@ stays_sound len d new same stays positions kind sound = record {
   kind = kind;
 }
 
-same_registers : (r : Registers) → IsSoundRegisters r → StaysSound r r
+pub same_registers : (r : Registers) → IsSoundRegisters r → StaysSound r r
 same_registers r sound = record { same = record { device_id = refl; offered = refl; ram_base = refl; ram_len = refl; queue_count = refl }; sound = sound }
 
 first_placed : (packed : Bool) (size : ℕ) → 0 < size → ArePlaced packed size first_positions
@@ -156,6 +158,9 @@ kind_kept len r new (Network mac inbox) same stay sound = sound
 kind_kept len r new (Block block) same stay sound =
     subst (λ (base : ℕ). IsSomeAnd (slice_get new.queues 0) (λ q. AreRequestsOf base len (is_packed_by new.common) q (limits_of block new.common.features) (cond (is_first_ready new.queues) block.requests []))) (sym same)
     (kept_requests_sound r.ram_base len r.common.features new.common.features r.queues new.queues (limits_of block) block.requests stay sound)
+kind_kept len r new (Outside block) same stay sound =
+    subst (λ (base : ℕ). IsSomeAnd (slice_get new.queues 0) (λ q. AreRequestsOf base len (is_packed_by new.common) q (limits_of block new.common.features) (cond (is_first_ready new.queues) block.requests []))) (sym same)
+    (kept_requests_sound r.ram_base len r.common.features new.common.features r.queues new.queues (limits_of block) block.requests stay sound)
 kind_kept len r new (Console size held) same stay sound = sound
 kind_kept len r new (Entropy pool) same stay sound = sound
 
@@ -204,6 +209,7 @@ frames_put len r mac inbox bytes true true is less sound are =
 sound_put : (len : ℕ) (r : Registers) (kind : Kind) (bytes : List ℕ) → IsSoundKind len r kind → IsBytes bytes → IsSoundKind len r (kind_with_input kind bytes)
 sound_put len r (Network mac inbox) bytes sound are = frames_put len r mac inbox bytes (is_frame_len inbox.longest (length bytes)) (ltb (length inbox.frames) (most_waiting inbox.longest)) refl refl sound are
 sound_put len r (Block block) bytes sound are = sound
+sound_put len r (Outside block) bytes sound are = sound
 sound_put len r (Console size held) bytes sound are = record { columns = sound.columns; rows = sound.rows; text = bytes_put held bytes sound.text are }
 sound_put len r (Entropy pool) bytes sound are = bytes_put pool bytes sound are
 
@@ -218,6 +224,7 @@ no_host_bytes = record { few = omega arith; are = λ k. omega arith }
 sound_none : (len : ℕ) (r : Registers) (kind : Kind) → IsSoundKind len r kind → IsSoundKind len r (kind_without_input kind)
 sound_none len r (Network mac inbox) sound = record { few = omega arith; are = λ k d below. absurd (omega (arith, below)) }
 sound_none len r (Block block) sound = sound
+sound_none len r (Outside block) sound = sound
 sound_none len r (Console size held) sound = record { columns = sound.columns; rows = sound.rows; text = no_host_bytes }
 sound_none len r (Entropy pool) sound = no_host_bytes
 
@@ -274,7 +281,13 @@ beside_by len r (Network mac inbox) pick queue p count there sound = sound
 beside_by len r (Block block) zero queue p count there sound =
     let are : AreRequestsOf r.ram_base len (is_packed_by r.common) queue (limits_of block r.common.features) block.requests = rw there at sound in
     record { few = are.few; sound = are.sound }
+beside_by len r (Outside block) zero queue p count there sound =
+    let are : AreRequestsOf r.ram_base len (is_packed_by r.common) queue (limits_of block r.common.features) block.requests = rw there at sound in
+    record { few = are.few; sound = are.sound }
 beside_by len r (Block block) (suc pick) queue p count there sound =
+    let below : suc pick < length r.queues = slice_get_within r.queues (suc pick) queue there in
+    absurd (omega (arith, below, count))
+beside_by len r (Outside block) (suc pick) queue p count there sound =
     let below : suc pick < length r.queues = slice_get_within r.queues (suc pick) queue there in
     absurd (omega (arith, below, count))
 beside_by len r (Console size held) pick queue p count there sound = sound
@@ -298,7 +311,14 @@ back len r (Block block) zero features size s count at layout long based sound =
     let are : AreRequestsOf r.ram_base len (is_packed_by r.common) at.queue (limits_of block r.common.features) block.requests =
     record { few = sound.few; sound = rw (at.accepted, at.size_is, ← layout, ← long, ← based) sound.sound; where_ready = any_where at.queue.is_ready block.requests at.ready } in
     rw at.there are
+back len r (Outside block) zero features size s count at layout long based sound =
+    let are : AreRequestsOf r.ram_base len (is_packed_by r.common) at.queue (limits_of block r.common.features) block.requests =
+    record { few = sound.few; sound = rw (at.accepted, at.size_is, ← layout, ← long, ← based) sound.sound; where_ready = any_where at.queue.is_ready block.requests at.ready } in
+    rw at.there are
 back len r (Block block) (suc pick) features size s count at layout long based sound =
+    let below : suc pick < length r.queues = slice_get_within r.queues (suc pick) at.queue at.there in
+    absurd (omega (arith, below, count))
+back len r (Outside block) (suc pick) features size s count at layout long based sound =
     let below : suc pick < length r.queues = slice_get_within r.queues (suc pick) at.queue at.there in
     absurd (omega (arith, below, count))
 back len r (Console columns held) pick features size s count at layout long based sound = sound
@@ -417,12 +437,28 @@ block_goes_on : (len : ℕ) (q : RingState) (features : ℕ) (block : blocks.Blo
 block_goes_on len q features block s on sound =
     rw (on.block) (record { few = omega (arith, on.few, sound.few); sound = rw (on.ring.base, on.ring.layout, on.ring.size) on.sound })
 
-sound_advanced : {base : ℕ} (len : ℕ) (d : DeviceState) (block : blocks.Block) (pick : ℕ) (q : RingState) (s : AdvanceStep) → d.kind ≡ Block block → (look : IsAdvancedAt d pick q) → IsSoundDevice base len d → GoesOn len q d.registers.common.features block s → IsSoundDevice base len (after_advance d s)
-sound_advanced len d block pick q s kind_is look sound on =
+-- A kind of block device: one whose disk is in the machine, or outside.
+record IsBlockKind (kind : blocks.Block → Kind) : Type 0 where
+  made : (b : blocks.Block) (requests : List Request) → made_as (kind (with_requests b requests)) ≡ made_as (kind b)
+  out : (len : ℕ) (q : RingState) (features : ℕ) (b : blocks.Block) → SoundBeside len q features (kind b) → AreOutstanding len q (limits_of b features) b.requests
+  in_ : (len : ℕ) (q : RingState) (features : ℕ) (b : blocks.Block) → AreOutstanding len q (limits_of b features) b.requests → SoundBeside len q features (kind b)
+
+has_disk : IsBlockKind Block
+has_disk = record { made = λ b requests. refl; out = λ len q features b h. h; in_ = λ len q features b h. h }
+
+has_none : IsBlockKind Outside
+has_none = record { made = λ b requests. refl; out = λ len q features b h. h; in_ = λ len q features b h. h }
+
+beside_block : {base : ℕ} (len : ℕ) (d : DeviceState) (kind : blocks.Block → Kind) (block : blocks.Block) (pick : ℕ) (q : RingState) → IsBlockKind kind → d.kind ≡ kind block → IsAdvancedAt d pick q → IsSoundDevice base len d → AreOutstanding len q (limits_of block d.registers.common.features) block.requests
+beside_block len d kind block pick q is kind_is look sound = is.out len q d.registers.common.features block (rw kind_is at (beside len d 0 look.queue look.positions q sound look.there look.is))
+
+sound_advanced : {base : ℕ} (len : ℕ) (d : DeviceState) (kind : blocks.Block → Kind) (block : blocks.Block) (pick : ℕ) (q : RingState) (s : AdvanceStep) → IsBlockKind kind → d.kind ≡ kind block → (look : IsAdvancedAt d pick q) → IsSoundDevice base len d → GoesOn len q d.registers.common.features block s
+    → IsSoundDevice base len (after_advance kind d s)
+sound_advanced len d kind block pick q s is kind_is look sound on =
     let features = d.registers.common.features in
     let due = is_advance_due s.answer in
-    let old : AreOutstanding len q (limits_of block features) block.requests = rw kind_is at (beside len d 0 look.queue look.positions q sound look.there look.is) in
-    sound_used len d 0 look.queue q s.ring (after_advance d s).registers (Block s.block) (record {
+    let old : AreOutstanding len q (limits_of block features) block.requests = beside_block len d kind block pick q is kind_is look sound in
+    sound_used len d 0 look.queue q s.ring (after_advance kind d s).registers (kind s.block) (record {
       there = look.there;
       ready = look.ready;
       positions = look.positions;
@@ -431,8 +467,8 @@ sound_advanced len d block pick q s kind_is look sound on =
       registers = due_registers d.registers due sound.registers;
       stays = due_ready d.registers due 0 features look.queue.size;
       have = have_due d.registers due;
-      same = ap (λ (b : blocks.Block). made_as (Block b)) on.block ∙ ap made_as (sym kind_is);
-      beside = block_goes_on len q features block s on old;
+      same = ap (λ (b : blocks.Block). made_as (kind b)) on.block ∙ is.made block s.block.requests ∙ ap made_as (sym kind_is);
+      beside = is.in_ len s.ring features s.block (block_goes_on len q features block s on old);
     }) sound
 
 -- What a step of a device has to do with: sectors of its disk, whole and as many as its shape says.
@@ -443,6 +479,7 @@ pub record HasSectors (d : DeviceState) (content : List Sector) : Type 0 where
 pub outstanding : (len : ℕ) (q : RingState) (features : ℕ) (kind : Kind) → SoundBeside len q features kind → AreSoundBeside len q features kind
 outstanding len q features (Network mac inbox) h = tt
 outstanding len q features (Block block) h = h.sound
+outstanding len q features (Outside block) h = h.sound
 outstanding len q features (Console size held) h = tt
 outstanding len q features (Entropy pool) h = tt
 
@@ -451,14 +488,35 @@ pub advanced_goes_on : {base : ℕ} (d : DeviceState) (block : blocks.Block) (ra
 advanced_goes_on d block ram content pick q is_fine kind_is look are sound has =
     let ring = ready_ring (length ram) d 0 look.queue look.positions sound look.there look.placed look.ready in
     let features = d.registers.common.features in
-    let old : AreOutstanding (length ram) q (limits_of block features) block.requests = rw kind_is at (beside (length ram) d 0 look.queue look.positions q sound look.there look.is) in
+    let old : AreOutstanding (length ram) q (limits_of block features) block.requests = beside_block (length ram) d Block block pick q has_disk kind_is look sound in
     let shape : IsBlockShape block.sectors block.id = rw kind_is at sound.shape in
     goes_on_by (length ram) features ram q content block (pick - 1) is_fine (rw look.is ring) are shape.id_bytes (has.count ∙ ap (λ (k : Kind). sector_count (made_as k)) kind_is) has.whole old.sound
+
+-- A request that does not wait for its disk goes on as over any sectors, as many as the device has.
+bad_whole : (n : ℕ) → AreWhole (replicate n None)
+bad_whole zero k d below = absurd (omega (arith, below))
+bad_whole (suc n) zero d below = tt
+bad_whole (suc n) (suc k) d below = bad_whole n k d (omega (arith, below))
+
+pub outside_goes_on : {base : ℕ} (d : DeviceState) (block : blocks.Block) (ram : List ℕ) (pick : ℕ) (q : RingState) → d.kind ≡ Outside block → (look : IsAdvancedAt d pick q) → IsBytes ram → IsSoundDevice base (length ram) d
+    → GoesOn (length ram) q d.registers.common.features block (outside_step ram q block (pick - 1))
+outside_goes_on d block ram pick q kind_is look are sound =
+    let ring = ready_ring (length ram) d 0 look.queue look.positions sound look.there look.placed look.ready in
+    let features = d.registers.common.features in
+    let bad : List Sector = replicate block.sectors None in
+    let old : AreOutstanding (length ram) q (limits_of block features) block.requests = beside_block (length ram) d Outside block pick q has_none kind_is look sound in
+    let shape : IsOutsideShape block.sectors block.id = rw kind_is at sound.shape in
+    let free : awaits_at block.requests (pick - 1) Failed ≡ false = rw kind_is at look.free in
+    rw (← others_are_alike ram q bad block (pick - 1) true free)
+    (goes_on_by (length ram) features ram q bad block (pick - 1) true (rw look.is ring) are shape.id_bytes (length-replicate block.sectors None) (bad_whole block.sectors) old.sound)
 
 sound_advance_on : {base : ℕ} (d : DeviceState) (kind : Kind) (ram : List ℕ) (content : List Sector) (pick : ℕ) (q : RingState) (o : Outcome) → d.kind ≡ kind → advanced_at d pick ≡ Some q → IsBytes ram → IsSoundDevice base (length ram) d → HasSectors d content → IsSoundDevice base (length ram) (advance_on d kind ram content pick q o).device
 sound_advance_on d (Block block) ram content pick q o kind_is is are sound has =
     let look = advanced_is (length ram) d pick q sound is in
-    sound_advanced (length ram) d block pick q _ kind_is look sound (advanced_goes_on d block ram content pick q (disk_does o) kind_is look are sound has)
+    sound_advanced (length ram) d Block block pick q _ has_disk kind_is look sound (advanced_goes_on d block ram content pick q (disk_does o) kind_is look are sound has)
+sound_advance_on d (Outside block) ram content pick q o kind_is is are sound has =
+    let look = advanced_is (length ram) d pick q sound is in
+    sound_advanced (length ram) d Outside block pick q _ has_none kind_is look sound (outside_goes_on d block ram pick q kind_is look are sound)
 sound_advance_on d (Network mac inbox) ram content pick q o kind_is is are sound has = sound
 sound_advance_on d (Console size held) ram content pick q o kind_is is are sound has = sound
 sound_advance_on d (Entropy pool) ram content pick q o kind_is is are sound has = sound

@@ -1,5 +1,5 @@
 -- Steps of a device as they are made: its positions are held in an array with room to spare.
-use Rattle.std.proofs.Common.{◌≡◌, ℕ, zero, suc, ◌-◌, ◌<◌, ◌≤◌, Bool, true, false, cond, List, [], ◌∷◌, length, take, set, get_or, Option, Some, None, Result, Ok, Err, refl, ap, ◌∙◌, arith, append-nil}
+use Rattle.std.proofs.Common.{◌≡◌, ℕ, zero, suc, ◌-◌, ◌<◌, ◌≤◌, Bool, true, false, cond, List, [], ◌∷◌, length, take, set, get_or, Option, Some, None, Result, Ok, Err, refl, sym, ap, ◌∙◌, arith, append-nil}
 use Rattle.std.specs.Prelude.{not, slice_get}
 use Rattle.std.proofs.lemmas.Option.{slice_get-get_or, slice_get_past, slice_get_within}
 use Rattle.std.proofs.Math.Seq.{take-set-lt}
@@ -10,6 +10,7 @@ use Rattle.guestmem.proofs.RisesLaws.{touches_none}
 use Rattle.blk.specs.Advance.{advance_step, IsAfterAdvancing}
 use Rattle.blk.specs.Block.{limits_of}
 use Rattle.blk.specs.Move.{is_disk_failed}
+use Rattle.blk.specs.Outside.{Failed, IsAfterOutside, awaits_at, outside_step}
 use Rattle.blk.specs.Sectors.{AreWhole, Sector}
 use Rattle.blk.specs.Sound.{AreSound}
 use Rattle.blk.specs.declared.advancing.Advanced.{Advanced}
@@ -17,6 +18,7 @@ use Rattle.blk.specs.declared.advancing.Advanced.TheVariants as advanced
 use Rattle.blk.specs.declared.block.Block as blocks
 use Rattle.mmio.specs.Interrupts.{used_raised}
 use Rattle.mmio.specs.State.{Registers, first_queue, queue_at, with_common}
+use Rattle.mmio.specs.declared.common.Common.{Common}
 use Rattle.mmio.specs.declared.queue.Queue.{Queue}
 use Rattle.chains.specs.Served.{HasRun, IsServed, scene}
 use Rattle.chains.specs.Service.{Answer, Did, Empty, Malformed, deed_in}
@@ -29,18 +31,19 @@ use Rattle.chains.specs.declared.served.Done.TheVariants as done
 use Rattle.chains.specs.declared.served.Served.{Served}
 use Rattle.chains.specs.declared.served.Unserved.{Unserved}
 use Rattle.chains.specs.declared.served.Unserved.TheVariants as why
-use Rattle.machine.specs.DeviceStep.{advances, advanced_at, advanced_by, device_step, is_advance_due, looks, looked_at, looked_step, requests_of, reply_of, reply_to, reply_to_advance, registers_after, serve, wanted_of}
+use Rattle.machine.specs.DeviceStep.{advances, advanced_at, advanced_by, device_step, is_advance_due, is_outside, looks, looked_at, looked_step, requests_of, reply_of, reply_to, reply_to_advance, registers_after, serve, wanted_of}
 use Rattle.machine.specs.DeviceWork.{IsDeviceStep}
 use Rattle.machine.specs.Outcome.{Outcome, fine, disk_failed, no_memory, disk_does, is_failure, outcome_of}
-use Rattle.machine.specs.Shapes.{made_as, sector_count}
+use Rattle.machine.specs.Shapes.{device_id_of, made_as, offered_of, sector_count}
 use Rattle.machine.specs.Sound.{AreSoundBeside, IsSoundDevice, IsSoundShape}
 use Rattle.machine.specs.State.{DeviceState}
 use Rattle.machine.specs.Stepped.{looked_registers, looked_reply}
 use Rattle.machine.specs.declared.kind.Kind.{Kind}
-use Rattle.machine.specs.declared.kind.Kind.TheVariants.{Network, Block, Console, Entropy}
+use Rattle.machine.specs.declared.kind.Kind.TheVariants.{Network, Block, Outside, Console, Entropy}
 use Rattle.machine.specs.declared.reply.Reply.{Reply}
 use Rattle.machine.specs.declared.reply.Reply.TheVariants.{Idle}
 use Rattle.blk.proofs.Given.{given_itself, none_set}
+use Rattle.blk.proofs.Others.{outside_sets}
 use Rattle.machine.proofs.Advancing.{advanced_is}
 use Rattle.machine.proofs.Answering.{answered}
 use Rattle.machine.proofs.Looking.{looked_is, positions_stay, some_looked}
@@ -108,15 +111,14 @@ advanced_sound len d block pick q sound is kind_is =
     let look = advanced_is len d pick q sound is in
     rw kind_is at (outstanding len q d.registers.common.features d.kind (beside len d 0 look.queue look.positions q sound look.there look.is))
 
--- A device that advances a request is a block device.
-pub kind_by : (kind : Kind) (k : ℕ) → k < length (requests_of kind) → (block : blocks.Block) × (kind ≡ Block block)
-kind_by (Block block) k below = (block, refl)
-kind_by (Network mac inbox) k below = absurd (omega (arith, below))
-kind_by (Console size held) k below = absurd (omega (arith, below))
-kind_by (Entropy pool) k below = absurd (omega (arith, below))
+pub outside_sound : {base : ℕ} (len : ℕ) (d : DeviceState) (block : blocks.Block) (pick : ℕ) (q : RingState) → IsSoundDevice base len d → advanced_at d pick ≡ Some q → d.kind ≡ Outside block → AreSound len q (limits_of block d.registers.common.features) block.requests
+outside_sound len d block pick q sound is kind_is =
+    let look = advanced_is len d pick q sound is in
+    rw kind_is at (outstanding len q d.registers.common.features d.kind (beside len d 0 look.queue look.positions q sound look.there look.is))
 
-pub is_block : {base : ℕ} (len : ℕ) (d : DeviceState) (pick : ℕ) (q : RingState) → IsSoundDevice base len d → advanced_at d pick ≡ Some q → (block : blocks.Block) × (d.kind ≡ Block block)
-is_block len d pick q sound is = kind_by d.kind (pick - 1) (advanced_is len d pick q sound is).below
+-- The request that a step advances of a device whose disk is outside does not wait for that.
+pub outside_free : {base : ℕ} (len : ℕ) (d : DeviceState) (block : blocks.Block) (pick : ℕ) (q : RingState) → IsSoundDevice base len d → advanced_at d pick ≡ Some q → d.kind ≡ Outside block → awaits_at block.requests (pick - 1) Failed ≡ false
+outside_free len d block pick q sound is kind_is = rw kind_is at (advanced_is len d pick q sound is).free
 
 pub looked_sound : {base : ℕ} (len : ℕ) (d : DeviceState) (pick : ℕ) (q : RingState) → IsSoundDevice base len d → looked_at d pick ≡ Some q → AreSoundBeside len q d.registers.common.features d.kind
 looked_sound len d pick q sound is =
@@ -126,19 +128,20 @@ looked_sound len d pick q sound is =
 pub has_queue : {base : ℕ} (d : DeviceState) (pick : ℕ) (q : RingState) (len : ℕ) → IsSoundDevice base len d → advanced_at d pick ≡ Some q → 0 < length d.registers.queues
 has_queue d pick q len sound is = let look = advanced_is len d pick q sound is in slice_get_within d.registers.queues 0 look.queue look.there
 
--- A device without a disk has no requests.
-empty_handed : (kind : Kind) → IsSoundShape (made_as kind) → sector_count (made_as kind) ≡ 0 → length (requests_of kind) ≡ 0
-empty_handed (Network mac inbox) limits none = refl
-empty_handed (Block block) limits none = absurd (omega (arith, limits.some, none))
-empty_handed (Console size held) limits none = refl
-empty_handed (Entropy pool) limits none = refl
+-- A device without a disk, in the machine or outside, has no requests.
+empty_handed : (kind : Kind) → IsSoundShape (made_as kind) → is_outside kind ≡ false → sector_count (made_as kind) ≡ 0 → length (requests_of kind) ≡ 0
+empty_handed (Network mac inbox) limits inside none = refl
+empty_handed (Block block) limits inside none = absurd (omega (arith, limits.some, none))
+empty_handed (Outside block) limits inside none = cc
+empty_handed (Console size held) limits inside none = refl
+empty_handed (Entropy pool) limits inside none = refl
 
 none_or : {base : ℕ} (len : ℕ) (d : DeviceState) (pick : ℕ) (ring : Option RingState) → IsSoundDevice base len d → length (requests_of d.kind) ≡ 0 → advanced_at d pick ≡ ring → advanced_at d pick ≡ None
 none_or len d pick None sound none is = is
 none_or len d pick (Some q) sound none is = let look = advanced_is len d pick q sound is in absurd (omega (arith, look.below, none))
 
-pub none_without : {base : ℕ} (len : ℕ) (d : DeviceState) (pick : ℕ) → IsSoundDevice base len d → sector_count (made_as d.kind) ≡ 0 → advanced_at d pick ≡ None
-none_without len d pick sound none = none_or len d pick (advanced_at d pick) sound (empty_handed d.kind sound.shape none) refl
+pub none_without : {base : ℕ} (len : ℕ) (d : DeviceState) (pick : ℕ) → IsSoundDevice base len d → is_outside d.kind ≡ false → sector_count (made_as d.kind) ≡ 0 → advanced_at d pick ≡ None
+none_without len d pick sound inside none = none_or len d pick (advanced_at d pick) sound (empty_handed d.kind sound.shape inside none) refl
 
 pub none_queued : (d : DeviceState) (pick : ℕ) (qs : List Queue) → qs ≡ d.registers.queues → length qs ≡ 0 → advanced_at d pick ≡ None
 none_queued d pick qs is none = none_there d pick (slice_get_past d.registers.queues 0 (omega (arith, ap length is, none)))
@@ -294,3 +297,41 @@ advanced_step touches number honest ram content block r held pick q a new_ram ne
       content_is = rw (none, some, does_by a) h.content_is;
       items_are = rw (none, some, does_by a) h.items_are;
     }
+
+-- A request went on that does not wait for a disk outside. No sector was asked for, or set.
+pub advanced_outside : (touches : List Item → Type 0) (number : ℕ) (honest : Bool) (ram : List ℕ) (content : List Sector) (block : blocks.Block) (r : Registers) (held : List Positions) (pick : ℕ) (q : RingState) (a : Advanced) (new_ram : List ℕ) (new_ring : RingState) (new_block : blocks.Block) (new_r : Registers)
+    → AreWhole content → 0 < length r.queues → looked_at (held_device (Outside block) r held) pick ≡ None → advanced_at (held_device (Outside block) r held) pick ≡ Some q
+    → awaits_at block.requests (pick - 1) Failed ≡ false → IsAfterOutside touches ram (outside_step ram q block (pick - 1)) a new_ram new_ring new_block
+    → new_r ≡ cond (is_advance_due a) (with_common r (used_raised r.common)) r → length new_r.queues ≡ length r.queues
+    → IsDeviceStep touches number honest ram content (held_device (Outside block) r held) pick (reply_to_advance a) new_ram content (held_device (Outside new_block) new_r (set held 0 (record { taking = new_ring.taking; used = new_ring.used })))
+unfolding device_step
+advanced_outside touches number honest ram content block r held pick q a new_ram new_ring new_block new_r whole there none some free h registers count =
+    let new : Positions = record { taking = new_ring.taking; used = new_ring.used } in
+    let place : take (length new_r.queues) (set held 0 new) ≡ set (take (length r.queues) held) 0 new = ap (λ n. take n (set held 0 new)) count ∙ take-set-lt (length r.queues) held 0 new there in
+    let sets = outside_sets ram q block (pick - 1) free in
+    record {
+      given = content;
+      is_given = given_itself honest content whole;
+      seen = next.Empty;
+      may_look = rw none tt;
+      reply_is = rw (none, some) (ap reply_to_advance h.answer_is);
+      device_is = rw (none, some, place, registers, h.ring_is, h.block_is, ← h.answer_is) refl;
+      ram_is = rw (none, some) h.ram_is;
+      content_is = rw (none, some, sets) (none_set honest content content refl);
+      items_are = rw (none, some, sets, append-nil) h.items_are;
+    }
+
+pub fine_outside : (a : Advanced) → is_disk_failed a ≡ false → is_failure (reply_to_advance a) ≡ false
+fine_outside a was_fine = failure_by a ∙ was_fine
+
+-- A copy of the registers of a sound device.
+pub copied : {base : ℕ} (len : ℕ) (d : DeviceState) (id offered at : ℕ) (c : Common) (qs : List Queue) → IsSoundDevice base len d → id ≡ device_id_of (made_as d.kind) → offered ≡ offered_of (made_as d.kind) → at ≡ d.registers.ram_base → c ≡ d.registers.common → qs ≡ d.registers.queues
+    → ◌≡◌ {A = Registers} (record { device_id = id; offered = offered; ram_base = at; ram_len = len; common = c; queues = qs }) d.registers
+copied len d id offered at c qs sound id_is offered_is at_is common_is queues_are = λ i. record {
+  device_id = (id_is ∙ sym sound.device_id) i;
+  offered = (offered_is ∙ sym sound.offered) i;
+  ram_base = at_is i;
+  ram_len = (sym sound.ram_len) i;
+  common = common_is i;
+  queues = queues_are i;
+}

@@ -34,7 +34,7 @@ use Rattle.machine.specs.StepLaws.{Fits}
 use Rattle.machine.specs.Unsynced.{FailsFlush, FailsFlushIf, flushes, kind_flush_failed, kind_flushes, makes_flush, with_flush_failed}
 use Rattle.machine.specs.declared.event.Event.TheVariants.{Step}
 use Rattle.machine.specs.declared.kind.Kind.{Kind}
-use Rattle.machine.specs.declared.kind.Kind.TheVariants.{Network, Block, Console, Entropy}
+use Rattle.machine.specs.declared.kind.Kind.TheVariants.{Network, Block, Outside, Console, Entropy}
 use Rattle.machine.specs.declared.reply.Reply.TheVariants.{DiskFailed}
 use Rattle.machine.specs.declared.shape.Shape.{Shape}
 use Rattle.machine.proofs.At.{IsAt, changed_at, changing, found, held_step, map-set_same, set_found, set_itself, sound_device}
@@ -80,12 +80,14 @@ record HasBlock (kind : Kind) (k : ℕ) : Type 0 where
 
 block_in : (kind : Kind) (k : ℕ) → kind_flushes kind k ≡ true → HasBlock kind k
 block_in (Block block) k h = record { block = block; is = refl; flush = flush_in block.requests k (slice_get block.requests k) refl h }
+block_in (Outside block) k h = cc
 block_in (Network mac inbox) k h = cc
 block_in (Console size held) k h = cc
 block_in (Entropy pool) k h = cc
 
 same_kind : (kind : Kind) (k : ℕ) → kind_flushes kind k ≡ false → kind_flush_failed kind k ≡ kind
 same_kind (Block block) k h = ap (λ (rs : List Request). Block (with_requests block rs)) (same_if block.requests k (slice_get block.requests k) h)
+same_kind (Outside block) k h = refl
 same_kind (Network mac inbox) k h = refl
 same_kind (Console size held) k h = refl
 same_kind (Entropy pool) k h = refl

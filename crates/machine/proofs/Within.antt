@@ -1,5 +1,5 @@
 -- The effect of a step lies within its machine, and keeps it sound.
-use Rattle.std.proofs.Common.{◌≡◌, ℕ, zero, suc, ◌+◌, ◌^◌, ◌<◌, ◌≤◌, Bool, true, false, cond, leb, ltb, List, [], ◌∷◌, length, map, get_or, set, Option, Some, None, refl, sym, ap, ◌∙◌, arith}
+use Rattle.std.proofs.Common.{◌≡◌, ℕ, zero, suc, ◌+◌, ◌-◌, ◌^◌, ◌<◌, ◌≤◌, Bool, true, false, cond, leb, ltb, List, [], ◌∷◌, length, map, get_or, set, Option, Some, None, refl, sym, ap, ◌∙◌, arith}
 use Rattle.std.specs.Prelude.{◌&&◌, slice_get, Result, Ok, Err}
 use Rattle.std.specs.List.{All}
 use Rattle.std.proofs.lemmas.List.{length-set}
@@ -12,7 +12,9 @@ use Rattle.guestmem.proofs.WriteLaws.{length-set_all}
 use Rattle.guestmem.specs.Writes.{Write, byte_writes, set_all}
 use Rattle.guestmem.specs.declared.error.RamError.{RamError}
 use Rattle.guestmem.specs.declared.error.RamError.TheVariants as ram_error
+use Rattle.blk.proofs.Others.{outside_sets}
 use Rattle.blk.specs.Move as blk
+use Rattle.blk.specs.Outside.{Answer, Failed, awaits_at}
 use Rattle.blk.specs.Sectors.{Sector, AreWhole, IsWhole}
 use Rattle.guestmem.specs.Item.{sector}
 use Rattle.chains.specs.State.{RingState}
@@ -26,14 +28,17 @@ use Rattle.machine.specs.Outcome.{Outcome, fine, disk_failed, no_memory, disk_do
 use Rattle.machine.specs.Shapes.{made_as, sector_count}
 use Rattle.machine.specs.Sound.{IsSound, IsSoundDevice}
 use Rattle.machine.specs.State.{MachineState, DeviceState, base_of}
-use Rattle.machine.specs.Step.{answer, disk_of, disk_or_none, drop_by, drop_input, drop_of, input_of, MaySee, MaySeeAt, read_register, write_register, read_ram, write_ram, put_by, put_in, set_size, size_by, step_device}
-use Rattle.machine.specs.StepLaws.{Fits, StepStaysWithin, StepKeepsShape, StepStaysSound}
+use Rattle.machine.specs.Outside.{answer_of, disk_answered}
+use Rattle.machine.specs.Step.{answer, answered_by, disk_of, disk_or_none, drop_by, drop_input, drop_of, hand_in, input_of, MaySee, MaySeeAt, read_register, write_register, read_ram, write_ram, put_by, put_in, set_size, size_by, step_device}
+use Rattle.machine.specs.StepLaws.{AnswerFits, Fits, StepStaysWithin, StepKeepsShape, StepStaysSound}
 use Rattle.mmio.specs.RegisterWrite.{register_write}
+use Rattle.machine.specs.declared.event.DiskAnswer.{DiskAnswer}
+use Rattle.machine.specs.declared.event.DiskAnswer.TheVariants as answers
 use Rattle.machine.specs.declared.event.Event.{Event}
 use Rattle.machine.specs.declared.kind.Kind.{Kind}
-use Rattle.machine.specs.declared.kind.Kind.TheVariants.{Network, Block, Console, Entropy}
+use Rattle.machine.specs.declared.kind.Kind.TheVariants.{Network, Block, Outside, Console, Entropy}
 use Rattle.machine.specs.declared.reply.Refusal.{Refusal}
-use Rattle.machine.specs.declared.event.Event.TheVariants.{RegRead, RegWrite, MemRead, MemWrite, Step, Input, Resize, Drop}
+use Rattle.machine.specs.declared.event.Event.TheVariants.{RegRead, RegWrite, MemRead, MemWrite, Step, Input, Resize, Drop, Disk}
 use Rattle.machine.proofs.MadeAs.{advanced_as, dropped_as, input_as, served_as, without_as}
 use Rattle.machine.proofs.Effects.{replaced_shapes, all_sizes_stay}
 use Rattle.machine.proofs.Inside.{AreInsideRam, all_inside, bytes_after, run_inside, served_inside}
@@ -42,7 +47,8 @@ use Rattle.machine.proofs.Looking.{looked_is}
 use Rattle.machine.proofs.Numbering.{shape_counts}
 use Rattle.machine.proofs.Outstanding.{AreGoodSets}
 use Rattle.machine.proofs.Rings.{looked_ring}
-use Rattle.machine.proofs.Staying.{HasSectors, advanced_goes_on, sound_resized, sound_written, sound_input, sound_stepped, sound_without}
+use Rattle.machine.proofs.DiskAnswers.{AnswerHasBytes, answer_below, answer_inside, shape_answered, sound_answered}
+use Rattle.machine.proofs.Staying.{HasSectors, advanced_goes_on, outside_goes_on, sound_resized, sound_written, sound_input, sound_stepped, sound_without}
 
 -- The effect of an answer: writes of bytes inside RAM, no sector, and one device replaced by a sound one of its shape.
 abbrev pub StaysSoundAt : ℕ → ℕ → Option Replacement → Type 0
@@ -65,6 +71,7 @@ may_put devices number (Some d) bytes is = may_put_by devices number d bytes (in
 may_size_by : (devices : List DeviceState) (number : ℕ) (d : DeviceState) (kind : Kind) (size : ConsoleSize) → d.kind ≡ kind → slice_get devices number ≡ Some d → MayReplace devices (size_by number d kind size).effect.replaced
 may_size_by devices number d (Network mac inbox) size of is = tt
 may_size_by devices number d (Block block) size of is = tt
+may_size_by devices number d (Outside block) size of is = tt
 may_size_by devices number d (Console old held) size of is = (d, is, ap made_as (sym of))
 may_size_by devices number d (Entropy pool) size of is = tt
 
@@ -79,6 +86,17 @@ may_drop_by devices number d (Err refusal) is = tt
 may_drop : (devices : List DeviceState) (number : ℕ) (found : Option DeviceState) → slice_get devices number ≡ found → MayReplace devices (drop_input number found).effect.replaced
 may_drop devices number None is = tt
 may_drop devices number (Some d) is = may_drop_by devices number d (drop_of d.kind) is
+
+may_hand_by : (devices : List DeviceState) (number : ℕ) (d : DeviceState) (kind : Kind) (pick : ℕ) (answer : Answer) → d.kind ≡ kind → slice_get devices number ≡ Some d → MayReplace devices (answered_by number (disk_answered d kind pick answer)).effect.replaced
+may_hand_by devices number d (Outside block) pick answer of is = (d, is, shape_answered d block pick answer of)
+may_hand_by devices number d (Network mac inbox) pick answer of is = tt
+may_hand_by devices number d (Block block) pick answer of is = tt
+may_hand_by devices number d (Console size held) pick answer of is = tt
+may_hand_by devices number d (Entropy pool) pick answer of is = tt
+
+may_hand : (devices : List DeviceState) (number : ℕ) (found : Option DeviceState) (pick : ℕ) (given : DiskAnswer) → slice_get devices number ≡ found → MayReplace devices (hand_in number found pick given).effect.replaced
+may_hand devices number None pick given is = tt
+may_hand devices number (Some d) pick given is = may_hand_by devices number d d.kind pick (answer_of given) refl is
 
 shape_advanced : (d : DeviceState) (ram : List ℕ) (content : List Sector) (pick : ℕ) (ring : Option RingState) (o : Outcome) → made_as (advance_at d ram content pick ring o).device.kind ≡ made_as d.kind
 shape_advanced d ram content pick None o = refl
@@ -118,6 +136,7 @@ may_replace m (Step dev pick) o seen = may_work m.devices dev (slice_get m.devic
 may_replace m (Input dev bytes) o seen = may_put m.devices dev (slice_get m.devices dev) bytes refl
 may_replace m (Resize dev cols rows) o seen = may_size m.devices dev (slice_get m.devices dev) (record { columns = cols; rows = rows }) refl
 may_replace m (Drop dev) o seen = may_drop m.devices dev (slice_get m.devices dev) refl
+may_replace m (Disk dev pick given) o seen = may_hand m.devices dev (slice_get m.devices dev) pick given refl
 
 pub step_shape : StepKeepsShape
 step_shape m e o r f h = record {
@@ -184,6 +203,7 @@ has_sectors m dev d there sound = disk_at m.devices m.disks dev d sound.disks so
 
 on_inside : {base : ℕ} (d : DeviceState) (kind : Kind) (ram : List ℕ) (content : List Sector) (pick : ℕ) (q : RingState) (o : Outcome) → d.kind ≡ kind → advanced_at d pick ≡ Some q → IsBytes ram → IsSoundDevice base (length ram) d → HasSectors d content → AreInsideRam (length ram) (advance_on d kind ram content pick q o).writes
 on_inside d (Block block) ram content pick q o kind_is is are sound has = (advanced_goes_on d block ram content pick q (disk_does o) kind_is (advanced_is (length ram) d pick q sound is) are sound has).inside
+on_inside d (Outside block) ram content pick q o kind_is is are sound has = (outside_goes_on d block ram pick q kind_is (advanced_is (length ram) d pick q sound is) are sound).inside
 on_inside d (Network mac inbox) ram content pick q o kind_is is are sound has = tt
 on_inside d (Console size held) ram content pick q o kind_is is are sound has = tt
 on_inside d (Entropy pool) ram content pick q o kind_is is are sound has = tt
@@ -221,6 +241,7 @@ no_writes_read ram addr len None no_memory = refl
 no_writes_size_by : (dev : ℕ) (d : DeviceState) (kind : Kind) (size : ConsoleSize) → (size_by dev d kind size).effect.writes ≡ []
 no_writes_size_by dev d (Network mac inbox) size = refl
 no_writes_size_by dev d (Block block) size = refl
+no_writes_size_by dev d (Outside block) size = refl
 no_writes_size_by dev d (Console old held) size = refl
 no_writes_size_by dev d (Entropy pool) size = refl
 
@@ -244,6 +265,33 @@ no_writes_drop : (dev : ℕ) (found : Option DeviceState) → (drop_input dev fo
 no_writes_drop dev None = refl
 no_writes_drop dev (Some d) = no_writes_drop_by dev d (drop_of d.kind)
 
+handed_below_by : {base : ℕ} (len number : ℕ) (d : DeviceState) (kind : Kind) (pick : ℕ) (answer : Answer) → d.kind ≡ kind → IsSoundDevice base len d → All (λ (w : Write). w.index < len) (answered_by number (disk_answered d kind pick answer)).effect.writes
+handed_below_by len number d (Outside block) pick answer of sound = answer_below len d block pick answer of sound
+handed_below_by len number d (Network mac inbox) pick answer of sound = none_below len
+handed_below_by len number d (Block block) pick answer of sound = none_below len
+handed_below_by len number d (Console size held) pick answer of sound = none_below len
+handed_below_by len number d (Entropy pool) pick answer of sound = none_below len
+
+handed_below : (m : MachineState) (dev : ℕ) (found : Option DeviceState) (pick : ℕ) (given : DiskAnswer) → slice_get m.devices dev ≡ found → IsSound m → All (λ (w : Write). w.index < length m.ram) (hand_in dev found pick given).effect.writes
+handed_below m dev None pick given there sound = none_below (length m.ram)
+handed_below m dev (Some d) pick given there sound = handed_below_by (length m.ram) dev d d.kind pick (answer_of given) refl (sound_at m dev d there sound)
+
+has_bytes : (given : DiskAnswer) → AnswerFits given → AnswerHasBytes (answer_of given)
+has_bytes (answers.Gave bytes) fits = fits
+has_bytes (answers.Did count) fits = tt
+has_bytes answers.Failed fits = tt
+
+handed_inside_by : {base : ℕ} (len number : ℕ) (d : DeviceState) (kind : Kind) (pick : ℕ) (answer : Answer) → d.kind ≡ kind → IsSoundDevice base len d → AnswerHasBytes answer → AreInsideRam len (answered_by number (disk_answered d kind pick answer)).effect.writes
+handed_inside_by len number d (Outside block) pick answer of sound has = answer_inside len d block pick answer of sound has
+handed_inside_by len number d (Network mac inbox) pick answer of sound has = tt
+handed_inside_by len number d (Block block) pick answer of sound has = tt
+handed_inside_by len number d (Console size held) pick answer of sound has = tt
+handed_inside_by len number d (Entropy pool) pick answer of sound has = tt
+
+handed_inside : (m : MachineState) (dev : ℕ) (found : Option DeviceState) (pick : ℕ) (given : DiskAnswer) → slice_get m.devices dev ≡ found → IsSound m → AnswerFits given → AreInsideRam (length m.ram) (hand_in dev found pick given).effect.writes
+handed_inside m dev None pick given there sound fits = tt
+handed_inside m dev (Some d) pick given there sound fits = handed_inside_by (length m.ram) dev d d.kind pick (answer_of given) refl (sound_at m dev d there sound) (has_bytes given fits)
+
 below_of : (m : MachineState) (e : Event) (o : Outcome) (seen : Next) → MaySee m e o seen → IsSound m → All (λ (w : Write). w.index < length m.ram) (answer m e o seen).effect.writes
 below_of m (RegRead dev off width) o seen may sound = rw (no_writes_looked (slice_get m.devices dev) off width) (none_below (length m.ram))
 below_of m (RegWrite dev off width value) o seen may sound = rw (no_writes_set dev (slice_get m.devices dev) off width value) (none_below (length m.ram))
@@ -254,6 +302,7 @@ below_of m (Step dev pick) o seen may sound =
 below_of m (Resize dev cols rows) o seen may sound = rw (no_writes_size dev (slice_get m.devices dev) (record { columns = cols; rows = rows })) (none_below (length m.ram))
 below_of m (Input dev bytes) o seen may sound = rw (no_writes_put dev (slice_get m.devices dev) bytes) (none_below (length m.ram))
 below_of m (Drop dev) o seen may sound = rw (no_writes_drop dev (slice_get m.devices dev)) (none_below (length m.ram))
+below_of m (Disk dev pick given) o seen may sound = handed_below m dev (slice_get m.devices dev) pick given refl sound
 
 inside_of : (m : MachineState) (e : Event) (o : Outcome) (seen : Next) → MaySee m e o seen → Fits e → IsSound m → AreInsideRam (length m.ram) (answer m e o seen).effect.writes
 inside_of m (RegRead dev off width) o seen may fits sound = rw (no_writes_looked (slice_get m.devices dev) off width) tt
@@ -264,6 +313,7 @@ inside_of m (Step dev pick) o seen may fits sound = worked_inside m dev (slice_g
 inside_of m (Resize dev cols rows) o seen may fits sound = rw (no_writes_size dev (slice_get m.devices dev) (record { columns = cols; rows = rows })) tt
 inside_of m (Input dev bytes) o seen may fits sound = rw (no_writes_put dev (slice_get m.devices dev) bytes) tt
 inside_of m (Drop dev) o seen may fits sound = rw (no_writes_drop dev (slice_get m.devices dev)) tt
+inside_of m (Disk dev pick given) o seen may fits sound = handed_inside m dev (slice_get m.devices dev) pick given refl sound fits.2
 
 -- The sectors that a step sets are there, and whole.
 abbrev IsGoodIn : MachineState → effects.SectorSet → Type 0
@@ -285,6 +335,9 @@ on_sets : {base : ℕ} (d : DeviceState) (kind : Kind) (ram : List ℕ) (content
 on_sets d (Block block) ram content pick q o kind_is is are sound has =
     let count : length content ≡ block.sectors = has.count ∙ ap (λ (k : Kind). sector_count (made_as k)) kind_is in
     rw count (advanced_goes_on d block ram content pick q (disk_does o) kind_is (advanced_is (length ram) d pick q sound is) are sound has).sets
+on_sets d (Outside block) ram content pick q o kind_is is are sound has =
+    let free : awaits_at block.requests (pick - 1) Failed ≡ false = rw kind_is at (advanced_is (length ram) d pick q sound is).free in
+    rw (outside_sets ram q block (pick - 1) free) tt
 on_sets d (Network mac inbox) ram content pick q o kind_is is are sound has = tt
 on_sets d (Console size held) ram content pick q o kind_is is are sound has = tt
 on_sets d (Entropy pool) ram content pick q o kind_is is are sound has = tt
@@ -326,6 +379,7 @@ no_sectors_stored addr bytes None = refl
 no_sectors_size_by : (dev : ℕ) (d : DeviceState) (kind : Kind) (size : ConsoleSize) → (size_by dev d kind size).effect.sectors ≡ []
 no_sectors_size_by dev d (Network mac inbox) size = refl
 no_sectors_size_by dev d (Block block) size = refl
+no_sectors_size_by dev d (Outside block) size = refl
 no_sectors_size_by dev d (Console old held) size = refl
 no_sectors_size_by dev d (Entropy pool) size = refl
 
@@ -349,6 +403,17 @@ no_sectors_drop : (dev : ℕ) (found : Option DeviceState) → (drop_input dev f
 no_sectors_drop dev None = refl
 no_sectors_drop dev (Some d) = no_sectors_drop_by dev d (drop_of d.kind)
 
+no_sectors_handed_by : (dev : ℕ) (d : DeviceState) (kind : Kind) (pick : ℕ) (answer : Answer) → (answered_by dev (disk_answered d kind pick answer)).effect.sectors ≡ []
+no_sectors_handed_by dev d (Outside block) pick answer = refl
+no_sectors_handed_by dev d (Network mac inbox) pick answer = refl
+no_sectors_handed_by dev d (Block block) pick answer = refl
+no_sectors_handed_by dev d (Console size held) pick answer = refl
+no_sectors_handed_by dev d (Entropy pool) pick answer = refl
+
+no_sectors_handed : (dev : ℕ) (found : Option DeviceState) (pick : ℕ) (given : DiskAnswer) → (hand_in dev found pick given).effect.sectors ≡ []
+no_sectors_handed dev None pick given = refl
+no_sectors_handed dev (Some d) pick given = no_sectors_handed_by dev d d.kind pick (answer_of given)
+
 sets_of : (m : MachineState) (e : Event) (o : Outcome) (seen : Next) → IsSound m → AreGoodIn m (answer m e o seen).effect.sectors
 sets_of m (RegRead dev off width) o seen sound = rw (no_sectors_looked (slice_get m.devices dev) off width) tt
 sets_of m (RegWrite dev off width value) o seen sound = rw (no_sectors_set dev (slice_get m.devices dev) off width value) tt
@@ -358,6 +423,7 @@ sets_of m (Step dev pick) o seen sound = sets_worked m dev (slice_get m.devices 
 sets_of m (Resize dev cols rows) o seen sound = rw (no_sectors_size dev (slice_get m.devices dev) (record { columns = cols; rows = rows })) tt
 sets_of m (Input dev bytes) o seen sound = rw (no_sectors_put dev (slice_get m.devices dev) bytes) tt
 sets_of m (Drop dev) o seen sound = rw (no_sectors_drop dev (slice_get m.devices dev)) tt
+sets_of m (Disk dev pick given) o seen sound = rw (no_sectors_handed dev (slice_get m.devices dev) pick given) tt
 
 all_there : (m : MachineState) (ss : List effects.SectorSet) → AreGoodIn m ss → All (λ (s : effects.SectorSet). HasItem m (sector s.device s.number)) ss
 all_there m [] h k d below = absurd (omega (arith, below))
@@ -381,6 +447,7 @@ set_sound len dev devices (Some d) offset width value there all small =
 size_sound_by : {base : ℕ} (len dev : ℕ) (d : DeviceState) (kind : Kind) (size : ConsoleSize) → d.kind ≡ kind → size.columns < 2 ^ 16 → size.rows < 2 ^ 16 → IsSoundDevice base len d → StaysSoundAt base len (size_by dev d kind size).effect.replaced
 size_sound_by len dev d (Network mac inbox) size is columns rows sound = tt
 size_sound_by len dev d (Block block) size is columns rows sound = tt
+size_sound_by len dev d (Outside block) size is columns rows sound = tt
 size_sound_by len dev d (Console old held) size is columns rows sound = sound_resized len d old size held is columns rows sound
 size_sound_by len dev d (Entropy pool) size is columns rows sound = tt
 
@@ -405,6 +472,17 @@ drop_sound_by len dev d (Err refusal) sound = tt
 drop_sound : {base : ℕ} (len dev : ℕ) (devices : List DeviceState) (found : Option DeviceState) → slice_get devices dev ≡ found → All (IsSoundDevice base len) devices → StaysSoundAt base len (drop_input dev found).effect.replaced
 drop_sound len dev devices None there all = tt
 drop_sound len dev devices (Some d) there all = drop_sound_by len dev d (drop_of d.kind) (rw (get_or_from_slice_get devices dev d d there) at (all dev d (slice_get_within devices dev d there)))
+
+hand_sound_by : {base : ℕ} (len dev : ℕ) (d : DeviceState) (kind : Kind) (pick : ℕ) (answer : Answer) → d.kind ≡ kind → IsSoundDevice base len d → StaysSoundAt base len (answered_by dev (disk_answered d kind pick answer)).effect.replaced
+hand_sound_by len dev d (Outside block) pick answer of sound = sound_answered len d block pick answer of sound
+hand_sound_by len dev d (Network mac inbox) pick answer of sound = tt
+hand_sound_by len dev d (Block block) pick answer of sound = tt
+hand_sound_by len dev d (Console size held) pick answer of sound = tt
+hand_sound_by len dev d (Entropy pool) pick answer of sound = tt
+
+hand_sound : (m : MachineState) (dev : ℕ) (found : Option DeviceState) (pick : ℕ) (given : DiskAnswer) → slice_get m.devices dev ≡ found → IsSound m → StaysSoundAt (base_of m.devices) (length m.ram) (hand_in dev found pick given).effect.replaced
+hand_sound m dev None pick given there sound = tt
+hand_sound m dev (Some d) pick given there sound = hand_sound_by (length m.ram) dev d d.kind pick (answer_of given) refl (sound_at m dev d there sound)
 
 work_sound : (m : MachineState) (dev : ℕ) (found : Option DeviceState) (pick : ℕ) (o : Outcome) (seen : Next) → slice_get m.devices dev ≡ found → MaySeeAt found m.ram pick o seen → IsSound m
     → StaysSoundAt (base_of m.devices) (length m.ram) (step_device dev found m.ram (disk_of m dev) pick o seen).effect.replaced
@@ -434,6 +512,7 @@ replaced_sound m (Step dev pick) o seen may fits sound = work_sound m dev (slice
 replaced_sound m (Resize dev cols rows) o seen may fits sound = size_sound (length m.ram) dev m.devices (slice_get m.devices dev) (record { columns = cols; rows = rows }) refl sound.devices fits.1 fits.2
 replaced_sound m (Input dev bytes) o seen may fits sound = put_sound (length m.ram) dev m.devices (slice_get m.devices dev) bytes refl sound.devices fits.1
 replaced_sound m (Drop dev) o seen may fits sound = drop_sound (length m.ram) dev m.devices (slice_get m.devices dev) refl sound.devices
+replaced_sound m (Disk dev pick given) o seen may fits sound = hand_sound m dev (slice_get m.devices dev) pick given refl sound
 
 all_replaced : {base : ℕ} (len : ℕ) (devices : List DeviceState) (r : Option Replacement) → All (IsSoundDevice base len) devices → StaysSoundAt base len r → All (IsSoundDevice base len) (replaced_in devices r)
 all_replaced len devices None all sound = all

@@ -10,7 +10,7 @@ use Rattle.machine.specs.State.{DeviceState}
 use Rattle.machine.specs.declared.event.Event.{Event}
 use Rattle.machine.specs.declared.event.Event.TheVariants.{Step}
 use Rattle.machine.specs.declared.kind.Kind.{Kind}
-use Rattle.machine.specs.declared.kind.Kind.TheVariants.{Block}
+use Rattle.machine.specs.declared.kind.Kind.TheVariants.{Block, Outside}
 use Rattle.machine.specs.declared.reply.Reply.{Reply}
 use Rattle.machine.specs.declared.reply.Reply.TheVariants.{Moved, BadSector, DiskFailed, Completed}
 
@@ -22,9 +22,11 @@ advance_of DiskFailed = advanced.DiskFailed
 advance_of (Completed len) = advanced.Completed len false
 advance_of _ = advanced.Idle
 
--- A step that advanced the k-th outstanding request, from 0, and was answered so has called the disk. Only a block device has any.
+-- A step that advanced the k-th outstanding request, from 0, and was answered so has called the disk. Only a block device has any, and no step calls
+-- one that is outside.
 abbrev pub kind_asks : Kind → ℕ → Reply → Bool
 kind_asks (Block block) k reply = asks_at block k (advance_of reply)
+kind_asks (Outside block) k reply = false
 kind_asks kind k reply = false
 
 -- A step with this pick that was answered so has called the disk of the device: it moved a unit of a request, cleared or flushed. One that

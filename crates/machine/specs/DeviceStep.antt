@@ -18,10 +18,12 @@ use Rattle.chains.specs.declared.next.Next.{Next}
 use Rattle.chains.specs.declared.position.Positions.{Positions}
 use Rattle.blk.specs.Advance.{AdvanceStep, advance_step}
 use Rattle.blk.specs.Block.{has_room}
+use Rattle.blk.specs.Outside.{Failed, awaits_at, outside_step}
 use Rattle.blk.specs.Move.{SectorSet}
 use Rattle.blk.specs.Sectors.{Sector}
 use Rattle.blk.specs.Take.{take_step}
 use Rattle.blk.specs.declared.advancing.Advanced.{Advanced}
+use Rattle.blk.specs.declared.block.Block as blocks
 use Rattle.blk.specs.declared.advancing.Advanced.TheVariants as advanced
 use Rattle.blk.specs.declared.request.Request.{Request}
 use Rattle.blk.specs.declared.request.TheConstants.{HEADER_SIZE}
@@ -33,7 +35,7 @@ use Rattle.net.specs.Transmit.{frame_form}
 use Rattle.machine.specs.Outcome.{Outcome, fine, disk_failed, no_memory, disk_does}
 use Rattle.machine.specs.State.{DeviceState}
 use Rattle.machine.specs.declared.kind.Kind.{Kind}
-use Rattle.machine.specs.declared.kind.Kind.TheVariants.{Network, Block, Console, Entropy}
+use Rattle.machine.specs.declared.kind.Kind.TheVariants.{Network, Block, Outside, Console, Entropy}
 use Rattle.machine.specs.declared.reply.Reply.{Reply}
 use Rattle.machine.specs.declared.reply.Reply.TheVariants.{Idle, Moved, BadSector, DiskFailed, Completed, Sent, Dropped, NeedsReset, NoMemory}
 use Rattle.machine.specs.declared.reply.Reply.TheVariants as replies
@@ -47,6 +49,7 @@ has_work (Network mac inbox) (suc number) = true
 has_work (Console size held) zero = not (length held == 0)
 has_work (Console size held) (suc number) = true
 has_work (Block block) number = has_room block
+has_work (Outside block) number = has_room block
 has_work (Entropy pool) number = not (length pool == 0)
 
 -- A step looks at a queue exactly if DRIVER_OK is set and DEVICE_NEEDS_RESET is not, the queue is ready and notified, and the
@@ -70,6 +73,7 @@ wanted_of (Network mac inbox) (suc number) = wanted.Message (frame_form inbox.lo
 wanted_of (Console size held) zero = wanted.Room
 wanted_of (Console size held) (suc number) = wanted.Message text_form
 wanted_of (Block block) number = wanted.Request HEADER_SIZE
+wanted_of (Outside block) number = wanted.Request HEADER_SIZE
 wanted_of (Entropy pool) number = wanted.Room
 
 -- What a look at a queue may see: with the outcome `fine`, what a device that wants such chains sees there. The disk does not
@@ -86,12 +90,27 @@ MayLook want (Some q) ram o seen = MayLookAt want q ram o seen
 -- The outstanding requests of a device: only a block device has any.
 abbrev pub requests_of : Kind → List Request
 requests_of (Block block) = block.requests
+requests_of (Outside block) = block.requests
 requests_of _ = []
 
+-- A device of this kind has its disk outside.
+abbrev pub is_outside : Kind → Bool
+is_outside (Outside block) = true
+is_outside _ = false
+
+-- The k-th outstanding request, from 0, waits for a disk outside: no step goes on with it before the host has answered for the disk.
+abbrev pub waits_outside : Kind → ℕ → Bool
+waits_outside (Outside block) k = awaits_at block.requests k Failed
+waits_outside _ k = false
+
+-- There is a k-th outstanding request, from 0, and it waits for no disk outside.
+abbrev pub can_advance : Kind → ℕ → Bool
+can_advance kind k = nat_lt k (length (requests_of kind)) && not (waits_outside kind k)
+
 -- With DRIVER_OK set and DEVICE_NEEDS_RESET not, a step whose pick is n > 0 advances the n-th outstanding request, counted from
--- 1 in the order of taking, if there is one (VIRTIO 1.2, 5.2.6).
+-- 1 in the order of taking, if there is one (VIRTIO 1.2, 5.2.6) that waits for no disk outside.
 abbrev pub advances : DeviceState → ℕ → Bool
-advances d pick = is_running d.registers.common && nat_lt 0 pick && nat_lt (pick - 1) (length (requests_of d.kind))
+advances d pick = is_running d.registers.common && nat_lt 0 pick && can_advance d.kind (pick - 1)
 
 abbrev pub advanced_by : DeviceState → ℕ → Option Queue → Option Positions → Option RingState
 advanced_by d pick (Some q) (Some p) = if advances d pick then Some (state_of q d.registers.common.features d.registers.ram_base p) else None
@@ -112,6 +131,7 @@ serve features (Network mac inbox) (suc number) ram q seen = transmit_step (fram
 serve features (Console size held) zero ram q seen = with_state (Console size) (console.receive_step ram q held seen)
 serve features (Console size held) (suc number) ram q seen = transmit_step text_form ram q (Console size held) seen
 serve features (Block block) number ram q seen = with_state Block (take_step features ram q block seen)
+serve features (Outside block) number ram q seen = with_state Outside (take_step features ram q block seen)
 serve features (Entropy pool) number ram q seen = with_state Entropy (console.receive_step ram q pool seen)
 
 -- The reply to a step that did this with a chain.
@@ -166,20 +186,22 @@ is_advance_due (advanced.Completed len is_due) = is_due
 is_advance_due _ = false
 
 -- A request was advanced: the ring's positions become those of queue 0, and the used-buffer interrupt is raised if a chain was
--- published and the interrupt is due.
-abbrev pub after_advance : DeviceState → AdvanceStep → DeviceState
-after_advance d s = record d {
+-- published and the interrupt is due. `kind` says which kind of device it is.
+abbrev pub after_advance : (blocks.Block → Kind) → DeviceState → AdvanceStep → DeviceState
+after_advance kind d s = record d {
   registers = if is_advance_due s.answer then with_common d.registers (used_raised d.registers.common) else d.registers;
   positions = slice_set d.positions 0 (record { taking = s.ring.taking; used = s.ring.used });
-  kind = Block s.block;
+  kind = kind s.block;
 }
 
-abbrev pub after_advancing : DeviceState → AdvanceStep → DeviceAnswer
-after_advancing d s = record { reply = reply_to_advance s.answer; writes = s.writes; sets = s.sets; device = after_advance d s }
+abbrev pub after_advancing : (blocks.Block → Kind) → DeviceState → AdvanceStep → DeviceAnswer
+after_advancing kind d s = record { reply = reply_to_advance s.answer; writes = s.writes; sets = s.sets; device = after_advance kind d s }
 
--- Advances the outstanding request that this pick names, on this ring. Only a block device has any.
+-- Advances the outstanding request that this pick names, on this ring. Only a block device has any. One whose disk is outside asks nothing of
+-- it: its request does not wait.
 abbrev pub advance_on : DeviceState → Kind → List ℕ → List Sector → ℕ → RingState → Outcome → DeviceAnswer
-advance_on d (Block block) ram content pick q o = after_advancing d (advance_step ram q content block (pick - 1) (disk_does o))
+advance_on d (Block block) ram content pick q o = after_advancing Block d (advance_step ram q content block (pick - 1) (disk_does o))
+advance_on d (Outside block) ram content pick q o = after_advancing Outside d (outside_step ram q block (pick - 1))
 advance_on d kind ram content pick q o = unmoved d Idle
 
 -- A step that looks at no queue, given the ring of the request that it advances. Without one it is idle.

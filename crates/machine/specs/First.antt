@@ -12,7 +12,7 @@ use Rattle.machine.specs.Seen.{DeviceSeen, Marks, no_marks, sectors_of, marks_of
 use Rattle.machine.specs.declared.limits.Limits.{Limits}
 use Rattle.machine.specs.declared.machine.TheConstants.{DEVICES_MAX}
 use Rattle.machine.specs.declared.shape.Shape.{Shape}
-use Rattle.machine.specs.declared.shape.Shape.TheVariants.{Net, LongNet, Block}
+use Rattle.machine.specs.declared.shape.Shape.TheVariants.{Net, LongNet, Block, Outside}
 use Rattle.machine.specs.declared.new_error.NewError.{NewError}
 use Rattle.machine.specs.declared.new_error.NewError.TheVariants.{BadShape, DiskMismatch}
 
@@ -102,6 +102,7 @@ abbrev pub HasBytes : Shape → Type 0
 HasBytes (Net mac) = AreBytes 6 mac
 HasBytes (LongNet mac longest) = AreBytes 6 mac
 HasBytes (Block sectors read_only id) = AreBytes 20 id
+HasBytes (Outside sectors read_only id) = AreBytes 20 id
 HasBytes _ = Unit {0}
 
 -- What is known of a disk besides its sectors.

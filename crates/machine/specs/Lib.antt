@@ -7,6 +7,7 @@ pub mod Calls
 pub mod DeviceStep
 pub mod DeviceWork
 pub mod Direct
+pub mod Dropping
 pub mod Effect
 pub mod EffectLaws
 pub mod First
@@ -18,6 +19,8 @@ pub mod NextWork
 pub mod Looked
 pub mod NextBad
 pub mod Outcome
+pub mod Outside
+pub mod OutsideLaws
 pub mod PageLog
 pub mod Parked
 pub mod QueuePositions

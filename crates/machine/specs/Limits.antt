@@ -2,7 +2,7 @@
 use Rattle.std.specs.Prelude.{◌≤◌, ℕ, List, map, All}
 use Rattle.guestmem.specs.declared.limits.TheConstants.{PAGES_GREATEST, PAGES_MAX}
 use Rattle.net.specs.declared.limits.TheConstants.{FRAME_GREATEST, FRAME_MAX}
-use Rattle.blk.specs.declared.shape.TheConstants.{SECTORS_GREATEST, SECTORS_MAX}
+use Rattle.blk.specs.declared.shape.TheConstants.{OUTSIDE_GREATEST, SECTORS_GREATEST, SECTORS_MAX}
 use Rattle.machine.specs.EffectLaws.{IsSameShape}
 use Rattle.machine.specs.Layout.{pages_of}
 use Rattle.machine.specs.Shapes.{made_as}
@@ -10,19 +10,20 @@ use Rattle.machine.specs.Sound.{IsSound}
 use Rattle.machine.specs.State.{MachineState}
 use Rattle.machine.specs.declared.limits.Limits.{Limits}
 use Rattle.machine.specs.declared.shape.Shape.{Shape}
-use Rattle.machine.specs.declared.shape.Shape.TheVariants.{Block, LongNet}
+use Rattle.machine.specs.declared.shape.Shape.TheVariants.{Block, LongNet, Outside}
 
--- The limits of a host that asks for no more.
+-- The limits of a host that asks for no more: no disk is outside.
 abbrev pub usual : Limits
-usual = record { pages = PAGES_MAX; sectors = SECTORS_MAX; frame = FRAME_MAX }
+usual = record { pages = PAGES_MAX; sectors = SECTORS_MAX; frame = FRAME_MAX; outside = 0 }
 
 -- All that a machine and its stream can have.
 abbrev pub greatest : Limits
-greatest = record { pages = PAGES_GREATEST; sectors = SECTORS_GREATEST; frame = FRAME_GREATEST }
+greatest = record { pages = PAGES_GREATEST; sectors = SECTORS_GREATEST; frame = FRAME_GREATEST; outside = OUTSIDE_GREATEST }
 
 -- The limits allow a device of this shape.
 abbrev pub IsShapeWithin : Limits → Shape → Type 0
 IsShapeWithin limits (Block sectors read_only id) = sectors ≤ limits.sectors
+IsShapeWithin limits (Outside sectors read_only id) = sectors ≤ limits.outside
 IsShapeWithin limits (LongNet mac longest) = longest ≤ limits.frame
 IsShapeWithin limits _ = Unit {0}
 

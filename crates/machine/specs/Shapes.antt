@@ -1,6 +1,7 @@
 -- What the kind of a device determines, and what it was made as (its shape).
 use Rattle.std.specs.Prelude.{ℕ, ◌+◌, ◌^◌, ◌==◌, ◌||◌, nat_lt, not, if◌then◌else◌, Bool, false, List, [], ◌∷◌, Option, Some, None, replicate}
 use Rattle.blk.specs.Shape as blocks
+use Rattle.blk.specs.declared.shape.TheConstants.{OUTSIDE_GREATEST}
 use Rattle.blk.specs.Block.{first_block}
 use Rattle.net.specs.Inbox.{no_frames}
 use Rattle.net.specs.Shape as nets
@@ -15,7 +16,7 @@ use Rattle.machine.specs.declared.kind.Kind.{Kind}
 use Rattle.machine.specs.declared.kind.Kind.TheVariants as kinds
 use Rattle.machine.specs.declared.limits.Limits.{Limits}
 use Rattle.machine.specs.declared.shape.Shape.{Shape}
-use Rattle.machine.specs.declared.shape.Shape.TheVariants.{Net, LongNet, Block, Console, Entropy}
+use Rattle.machine.specs.declared.shape.Shape.TheVariants.{Net, LongNet, Block, Outside, Console, Entropy}
 use Rattle.machine.specs.State.{DeviceState}
 use Rattle.machine.specs.QueuePositions.{first_positions}
 
@@ -27,14 +28,16 @@ net_as mac longest = if longest == FRAME_MAX then Net mac else LongNet mac longe
 abbrev pub made_as : Kind → Shape
 made_as (kinds.Network mac inbox) = net_as mac inbox.longest
 made_as (kinds.Block block) = Block block.sectors block.read_only block.id
+made_as (kinds.Outside block) = Outside block.sectors block.read_only block.id
 made_as (kinds.Console size held) = Console
 made_as (kinds.Entropy pool) = Entropy
 
--- The device ID (VIRTIO 1.2, 5).
+-- The device ID (VIRTIO 1.2, 5). One whose disk is outside is a block device to its driver.
 abbrev pub device_id_of : Shape → ℕ
 device_id_of (Net mac) = 1
 device_id_of (LongNet mac longest) = 1
 device_id_of (Block sectors read_only id) = 2
+device_id_of (Outside sectors read_only id) = 2
 device_id_of Console = 3
 device_id_of Entropy = 4
 
@@ -44,11 +47,13 @@ abbrev pub common_features : ℕ
 common_features = 2 ^ 28 + 2 ^ 29 + 2 ^ 32 + 2 ^ 34
 
 -- The feature bits that the device offers: in addition to those that every device offers, a network device offers MAC 5, and MTU 3
--- where it is for long frames (VIRTIO 1.2, 5.1.3), a console SIZE 0 and EMERG_WRITE 2 (5.3.3), and a block device its own (5.2.3).
+-- where it is for long frames (VIRTIO 1.2, 5.1.3), a console SIZE 0 and EMERG_WRITE 2 (5.3.3), and a block device its own (5.2.3), with SEG_MAX 2
+-- where its disk is outside.
 abbrev pub offered_of : Shape → ℕ
 offered_of (Net mac) = common_features + 2 ^ 5
 offered_of (LongNet mac longest) = common_features + (2 ^ 3 + 2 ^ 5)
 offered_of (Block sectors read_only id) = common_features + blocks.features_of read_only
+offered_of (Outside sectors read_only id) = common_features + blocks.outside_features_of read_only
 offered_of Console = common_features + (2 ^ 0 + 2 ^ 2)
 offered_of Entropy = common_features
 
@@ -57,27 +62,31 @@ abbrev pub queues_of : Shape → ℕ
 queues_of (Net mac) = 2
 queues_of (LongNet mac longest) = 2
 queues_of (Block sectors read_only id) = 1
+queues_of (Outside sectors read_only id) = 1
 queues_of Console = 2
 queues_of Entropy = 1
 
 -- The configuration space: of a network device its MAC, and its MTU where it is for long frames (VIRTIO 1.2, 5.1.4), of a block device
--- its own (5.2.4), of a console that of its size (5.3.4); an entropy device has none (5.4.4).
+-- its own (5.2.4), with the limit of SEG_MAX where its disk is outside, of a console that of its size (5.3.4); an entropy device has none
+-- (5.4.4).
 abbrev pub configuration_of : Kind → List ℕ
 configuration_of (kinds.Network mac inbox) = nets.configuration_of mac inbox.longest
 configuration_of (kinds.Block block) = blocks.configuration_of block.sectors
+configuration_of (kinds.Outside block) = blocks.outside_configuration_of block.sectors
 configuration_of (kinds.Console size held) = sizes.configuration_of size
 configuration_of (kinds.Entropy pool) = []
 
--- How many sectors its disk has, if it has one.
+-- How many sectors its disk has, if it has one. A disk outside is not the machine's: none of its sectors is in the machine.
 abbrev pub disk_size_of : Shape → Option ℕ
 disk_size_of (Block sectors read_only id) = Some sectors
+disk_size_of (Outside sectors read_only id) = None
 disk_size_of _ = None
 
 abbrev pub or_zero : Option ℕ → ℕ
 or_zero None = 0
 or_zero (Some n) = n
 
--- How many sectors a device of this shape has.
+-- How many sectors of the machine a device of this shape has.
 abbrev pub sector_count : Shape → ℕ
 sector_count shape = or_zero (disk_size_of shape)
 
@@ -90,10 +99,12 @@ abbrev pub disk_sizes : List Shape → List ℕ
 disk_sizes [] = []
 disk_sizes (shape ∷ shapes) = with_size (disk_size_of shape) (disk_sizes shapes)
 
--- Whether a shape is beyond its limits: a block device has one to as many sectors as they allow, and the longest frame of a network
--- device for long ones has more than 1,514 bytes, and no more than they allow; other devices have no such limit.
+-- Whether a shape is beyond its limits: a block device has one to as many sectors as they allow, for which a disk outside has a limit of its
+-- own, 2^54 at most, and the longest frame of a network device for long ones has more than 1,514 bytes, and no more than they allow; other devices have no
+-- such limit.
 abbrev pub is_beyond : Limits → Shape → Bool
 is_beyond limits (Block sectors read_only id) = sectors == 0 || nat_lt limits.sectors sectors
+is_beyond limits (Outside sectors read_only id) = sectors == 0 || nat_lt OUTSIDE_GREATEST sectors || nat_lt limits.outside sectors
 is_beyond limits (LongNet mac longest) = not (nat_lt FRAME_MAX longest) || nat_lt limits.frame longest
 is_beyond limits _ = false
 
@@ -106,6 +117,7 @@ abbrev pub first_kind : Shape → Kind
 first_kind (Net mac) = kinds.Network mac (no_frames FRAME_MAX)
 first_kind (LongNet mac longest) = kinds.Network mac (no_frames longest)
 first_kind (Block sectors read_only id) = kinds.Block (first_block sectors read_only id)
+first_kind (Outside sectors read_only id) = kinds.Outside (first_block sectors read_only id)
 first_kind Console = kinds.Console first_size []
 first_kind Entropy = kinds.Entropy []
 

@@ -8,7 +8,7 @@ use Rattle.net.specs.Inbox.{AreFrames}
 use Rattle.net.specs.Shape.{IsLongNet, IsMac}
 use Rattle.blk.specs.Sectors.{AreWhole}
 use Rattle.blk.specs.Block.{limits_of}
-use Rattle.blk.specs.Shape.{IsBlockShape}
+use Rattle.blk.specs.Shape.{IsBlockShape, IsOutsideShape}
 use Rattle.blk.specs.Sound.{AreRequestsOf, AreSound}
 use Rattle.chains.specs.State.{RingState}
 use Rattle.blk.specs.declared.block.Block as blocks
@@ -20,13 +20,14 @@ use Rattle.machine.specs.declared.machine.TheConstants.{DEVICES_MAX}
 use Rattle.machine.specs.declared.kind.Kind.{Kind}
 use Rattle.machine.specs.declared.kind.Kind.TheVariants as kinds
 use Rattle.machine.specs.declared.shape.Shape.{Shape}
-use Rattle.machine.specs.declared.shape.Shape.TheVariants.{Net, LongNet, Block}
+use Rattle.machine.specs.declared.shape.Shape.TheVariants.{Net, LongNet, Block, Outside}
 
 -- What a device may be made as.
 abbrev pub IsSoundShape : Shape → Type 0
 IsSoundShape (Net mac) = IsMac mac
 IsSoundShape (LongNet mac longest) = IsLongNet mac longest
 IsSoundShape (Block sectors read_only id) = IsBlockShape sectors id
+IsSoundShape (Outside sectors read_only id) = IsOutsideShape sectors id
 IsSoundShape _ = Unit {0}
 
 -- The outstanding requests of a block device can be so with these registers: they are those of its queue 0.
@@ -37,12 +38,14 @@ AreRequests bytes r block = IsSomeAnd (queue_at r 0) (λ q. AreRequestsOf r.ram_
 abbrev pub IsSoundKind : ℕ → Registers → Kind → Type 0
 IsSoundKind bytes r (kinds.Network mac inbox) = AreFrames inbox
 IsSoundKind bytes r (kinds.Block block) = AreRequests bytes r block
+IsSoundKind bytes r (kinds.Outside block) = AreRequests bytes r block
 IsSoundKind bytes r (kinds.Console size held) = IsSoundConsole size held
 IsSoundKind bytes r (kinds.Entropy pool) = AreHostBytes pool
 
 -- The outstanding requests of a block device are sound beside the ring of its queue, where the driver accepted these features.
 abbrev pub AreSoundBeside : ℕ → RingState → ℕ → Kind → Type 0
 AreSoundBeside len q features (kinds.Block block) = AreSound len q (limits_of block features) block.requests
+AreSoundBeside len q features (kinds.Outside block) = AreSound len q (limits_of block features) block.requests
 AreSoundBeside len q features kind = Unit {0}
 
 -- RAM of `bytes` bytes may begin at this guest-physical address: a multiple of a page, with no byte past the last address.

@@ -21,16 +21,18 @@ use Rattle.console.specs.declared.size.ConsoleSize.{ConsoleSize}
 use Rattle.net.specs.Inbox.{frames_with, is_frame_len, kept_of, no_frames}
 use Rattle.blk.specs.Sectors.{Sector}
 use Rattle.blk.specs.Block.{dropped_unless}
-use Rattle.machine.specs.DeviceStep.{device_step, looked_at, network_with, wanted_of, MayLook}
+use Rattle.machine.specs.DeviceStep.{DeviceAnswer, device_step, looked_at, network_with, wanted_of, MayLook}
 use Rattle.machine.specs.Effect.{Effect, no_effect, sets_on, applied, items_of}
+use Rattle.machine.specs.Outside.{answer_of, disk_answered}
 use Rattle.machine.specs.Outcome.{Outcome, fine, disk_failed, no_memory, outcome_of}
 use Rattle.machine.specs.QueuePositions.{restarted_positions}
 use Rattle.machine.specs.Shapes.{configuration_of}
 use Rattle.machine.specs.State.{DeviceState, MachineState, base_of}
+use Rattle.machine.specs.declared.event.DiskAnswer.{DiskAnswer}
 use Rattle.machine.specs.declared.event.Event.{Event}
-use Rattle.machine.specs.declared.event.Event.TheVariants.{RegRead, RegWrite, MemRead, MemWrite, Step, Input, Resize, Drop}
+use Rattle.machine.specs.declared.event.Event.TheVariants.{RegRead, RegWrite, MemRead, MemWrite, Step, Input, Resize, Drop, Disk}
 use Rattle.machine.specs.declared.kind.Kind.{Kind}
-use Rattle.machine.specs.declared.kind.Kind.TheVariants.{Network, Block, Console, Entropy}
+use Rattle.machine.specs.declared.kind.Kind.TheVariants.{Network, Block, Outside, Console, Entropy}
 use Rattle.machine.specs.declared.reply.Refusal.{Refusal}
 use Rattle.machine.specs.declared.reply.Refusal.TheVariants.{NoDevice, OutOfRam, TooLong, WrongKind, BadFrame}
 use Rattle.machine.specs.declared.reply.Reply.{Reply}
@@ -74,6 +76,7 @@ is_first_ready (q ∷ qs) = q.is_ready
 -- The outstanding requests of a block device are those of its queue 0, and are dropped if that queue is not ready.
 abbrev pub dropped_unready : List Queue → Kind → Kind
 dropped_unready queues (Block block) = Block (dropped_unless (is_first_ready queues) block)
+dropped_unready queues (Outside block) = Outside (dropped_unless (is_first_ready queues) block)
 dropped_unready queues kind = kind
 
 -- A device with these registers: for a queue that is not ready in them the positions are the first ones again, and the requests
@@ -89,6 +92,7 @@ out_reply (Some byte) = OutByte byte
 
 abbrev pub written_out : Kind → ℕ → ℕ → ℕ → Option ℕ
 written_out (Console size held) offset width value = emergency_byte offset width value
+written_out (Outside block) offset width value = None
 written_out _ offset width value = None
 
 -- A device after the driver wrote a register: its registers are those of the register table. Whether the write was accepted is
@@ -124,12 +128,14 @@ accepted_in pool bytes = min (length bytes) (HOST_BYTES_MAX - length pool)
 abbrev pub input_of : Kind → List ℕ → Result ℕ Refusal
 input_of (Network mac inbox) bytes = if is_frame_len inbox.longest (length bytes) then Ok (kept_of inbox bytes) else Err BadFrame
 input_of (Block block) bytes = Err WrongKind
+input_of (Outside block) bytes = Err WrongKind
 input_of (Console size held) bytes = Ok (accepted_in held bytes)
 input_of (Entropy pool) bytes = Ok (accepted_in pool bytes)
 
 abbrev pub kind_with_input : Kind → List ℕ → Kind
 kind_with_input (Network mac inbox) bytes = if is_frame_len inbox.longest (length bytes) then network_with mac inbox (frames_with inbox bytes) else Network mac inbox
 kind_with_input (Block block) bytes = Block block
+kind_with_input (Outside block) bytes = Outside block
 kind_with_input (Console size held) bytes = Console size (held ++ take (accepted_in held bytes) bytes)
 kind_with_input (Entropy pool) bytes = Entropy (pool ++ take (accepted_in pool bytes) bytes)
 
@@ -148,11 +154,13 @@ put_in number (Some d) bytes = put_by number d bytes (input_of d.kind bytes)
 -- the guest's.
 abbrev pub drop_of : Kind → Result (Unit {0}) Refusal
 drop_of (Block block) = Err WrongKind
+drop_of (Outside block) = Err WrongKind
 drop_of kind = Ok tt
 
 abbrev pub kind_without_input : Kind → Kind
 kind_without_input (Network mac inbox) = Network mac (no_frames inbox.longest)
 kind_without_input (Block block) = Block block
+kind_without_input (Outside block) = Outside block
 kind_without_input (Console size held) = Console size []
 kind_without_input (Entropy pool) = Entropy []
 
@@ -170,11 +178,13 @@ drop_input number (Some d) = drop_by number d (drop_of d.kind)
 -- The host sets the size of a console. A different size is a change of its configuration (VIRTIO 1.2, 5.3.6).
 abbrev pub size_by : ℕ → DeviceState → Kind → ConsoleSize → Answer
 size_by number d (Console old held) size = becomes number (record d { registers = resized old size d.registers; kind = Console size held }) Done
+size_by number d (Outside block) size = refused WrongKind
 size_by number d _ size = refused WrongKind
 
 -- As above, for the kind and the registers of the device. Another device refuses, and both stay as they were.
 abbrev pub IsResized : Kind → ConsoleSize → Registers → Result (Unit {0}) Refusal → Kind → Registers → Type 0
 IsResized (Console old held) size r result new new_r = (result ≡ Ok tt) × (new ≡ Console size held) × (new_r ≡ resized old size r)
+IsResized (Outside block) size r result new new_r = (result ≡ Err WrongKind) × (new ≡ Outside block) × (new_r ≡ r)
 IsResized kind size r result new new_r = (result ≡ Err WrongKind) × (new ≡ kind) × (new_r ≡ r)
 
 abbrev pub ResizesDevice : DeviceState → ConsoleSize → Result (Unit {0}) Refusal → DeviceState → Type 0
@@ -193,6 +203,18 @@ step_device number (Some d) ram content pick o seen =
       reply = s.reply;
       effect = record { writes = s.writes; sectors = sets_on number s.sets; replaced = Some (record { number = number; device = s.device }) };
     }
+
+-- The host hands in what a disk outside answered to the request of this pick.
+abbrev pub answered_by : ℕ → Result DeviceAnswer Refusal → Answer
+answered_by number (Err refusal) = refused refusal
+answered_by number (Ok s) = record {
+  reply = s.reply;
+  effect = record { writes = s.writes; sectors = []; replaced = Some (record { number = number; device = s.device }) };
+}
+
+abbrev pub hand_in : ℕ → Option DeviceState → ℕ → DiskAnswer → Answer
+hand_in number None pick given = refused NoDevice
+hand_in number (Some d) pick given = answered_by number (disk_answered d d.kind pick (answer_of given))
 
 abbrev pub disk_or_none : Option (List Sector) → List Sector
 disk_or_none None = []
@@ -213,6 +235,7 @@ answer m (Step dev pick) o seen = step_device dev (slice_get m.devices dev) m.ra
 answer m (Input dev bytes) o seen = put_in dev (slice_get m.devices dev) bytes
 answer m (Resize dev cols rows) o seen = set_size dev (slice_get m.devices dev) (record { columns = cols; rows = rows })
 answer m (Drop dev) o seen = drop_input dev (slice_get m.devices dev)
+answer m (Disk dev pick given) o seen = hand_in dev (slice_get m.devices dev) pick given
 
 -- What a step may see: if it looks at a queue, what the device sees there. This also says when memory may be refused.
 abbrev pub MaySeeAt : Option DeviceState → List ℕ → ℕ → Outcome → Next → Type 0

@@ -10,8 +10,10 @@ use Rattle.machine.specs.Run.{IsRun}
 use Rattle.machine.specs.Sound.{IsSound}
 use Rattle.machine.specs.State.{MachineState, DeviceState}
 use Rattle.machine.specs.Step.{HasEffect, IsStep}
+use Rattle.machine.specs.declared.event.DiskAnswer.{DiskAnswer}
+use Rattle.machine.specs.declared.event.DiskAnswer.TheVariants as answers
 use Rattle.machine.specs.declared.event.Event.{Event}
-use Rattle.machine.specs.declared.event.Event.TheVariants.{RegRead, RegWrite, MemRead, MemWrite, Step, Input, Resize, Drop}
+use Rattle.machine.specs.declared.event.Event.TheVariants.{RegRead, RegWrite, MemRead, MemWrite, Step, Input, Resize, Drop, Disk}
 use Rattle.machine.specs.declared.reply.Reply.{Reply}
 use Rattle.machine.specs.declared.reply.Reply.TheVariants.{NeedsReset, NoMemory, Refused}
 
@@ -27,6 +29,11 @@ StepsAgree = (m : MachineState) (e : Event) (o : Outcome) (r s : Reply) (a b : M
 abbrev pub RunsAgree : Type 0
 RunsAgree = (m : MachineState) (es : List Event) (os : List Outcome) (rs ss : List Reply) (a b : MachineState) → IsRun m es os rs a → IsRun m es os ss b → (rs ≡ ss) × (a ≡ b)
 
+abbrev pub AnswerFits : DiskAnswer → Type 0
+AnswerFits (answers.Gave bytes) = IsBytes bytes
+AnswerFits (answers.Did count) = count < 2 ^ 32
+AnswerFits answers.Failed = Unit {0}
+
 -- The numbers of an event fit their fields, and bytes are bytes.
 abbrev pub Fits : Event → Type 0
 Fits (RegRead dev off width) = (dev < 2 ^ 8) × (off < 2 ^ 32) × (width < 2 ^ 8)
@@ -37,6 +44,7 @@ Fits (Step dev pick) = (dev < 2 ^ 8) × (pick < 2 ^ 8)
 Fits (Input dev bytes) = (dev < 2 ^ 8) × IsBytes bytes
 Fits (Resize dev cols rows) = (dev < 2 ^ 8) × (cols < 2 ^ 16) × (rows < 2 ^ 16)
 Fits (Drop dev) = dev < 2 ^ 8
+Fits (Disk dev pick given) = (dev < 2 ^ 8) × (pick < 2 ^ 8) × AnswerFits given
 
 -- The effect of a step of a sound machine lies within it: in its RAM, its disks and its devices.
 abbrev pub StepStaysWithin : Type 0

@@ -29,6 +29,7 @@ counted t w = record { last = w; left = t.left - 1 }
 
 abbrev pub is_entropy_kind : Kind → Bool
 is_entropy_kind (kinds.Entropy pool) = true
+is_entropy_kind (kinds.Outside block) = false
 is_entropy_kind kind = false
 
 abbrev pub is_entropy : Option DeviceState → Bool

@@ -14,22 +14,26 @@ use Rattle.machine.specs.Sound.{IsSound}
 use Rattle.machine.specs.State.{DeviceState, MachineState}
 use Rattle.machine.specs.Step.{HasEffect}
 use Rattle.machine.specs.declared.kind.Kind.{Kind}
-use Rattle.machine.specs.declared.kind.Kind.TheVariants.{Block}
+use Rattle.machine.specs.declared.kind.Kind.TheVariants.{Block, Outside}
 use Rattle.machine.specs.declared.event.Event.TheVariants.{Step}
 use Rattle.machine.specs.declared.reply.Reply.{Reply}
 use Rattle.machine.specs.declared.reply.Reply.TheVariants.{DiskFailed, Moved}
 
--- The k-th outstanding request, from 0, flushes the disk next. Only a block device has any.
+-- The k-th outstanding request, from 0, flushes the disk next. Only a block device has any. No step flushes a disk outside, and none owes that
+-- something is durable: what a host has to do for such a disk is in the calls that it is handed (`specs/Outside`).
 abbrev pub kind_flushes : Kind → ℕ → Bool
 kind_flushes (Block block) k = flushes_at block k
+kind_flushes (Outside block) k = false
 kind_flushes kind k = false
 
 abbrev pub kind_owed : ℕ → Kind → ℕ → SyncOwed
 kind_owed features (Block block) k = owed_at features block k
+kind_owed features (Outside block) k = Nothing
 kind_owed features kind k = Nothing
 
 abbrev pub kind_flush_failed : Kind → ℕ → Kind
 kind_flush_failed (Block block) k = Block (flush_failed block k)
+kind_flush_failed (Outside block) k = Outside block
 kind_flush_failed kind k = kind
 
 -- The step of this pick flushes the disk of the device: it advances a request whose next unit is a flush.

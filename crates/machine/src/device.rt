@@ -1,6 +1,6 @@
 //! A device and its disk.
 
-ghost use Rattle.std.specs.Prelude.{◌≡◌, ◌<◌, ◌≤◌, ◌+◌, ◌*◌, ℕ, IsTrue, OnErr, OnOk, count_by, is_ok, map, not, true, false, length};
+ghost use Rattle.std.specs.Prelude.{◌≡◌, ◌<◌, ◌≤◌, ◌+◌, ◌*◌, ℕ, List, [], IsTrue, OnErr, OnOk, count_by, is_ok, map, not, true, false, length};
 ghost use Rattle.guestmem.specs.Rises.{Touches};
 ghost use Rattle.dirtylog.specs.Members.{IsLeastFrom};
 ghost use Rattle.machine.specs.Seen.{DeviceSeen, calls_of, called_if, flushed_of, sectors_of, marks_of};
@@ -48,6 +48,8 @@ impl<D: Disk> Device<D> {
     ghost use Rattle.blk.specs.Sectors.{AreWhole, IsFetched, bytes_of, is_asked, is_bad, is_failed, sector_in};
     ghost use Rattle.machine.specs.Calls.{asks_disk};
     ghost use Rattle.machine.specs.Outcome.{is_failure};
+    ghost use Rattle.machine.specs.Outside.{TakesAnswer};
+    ghost use Rattle.blk.specs.Outside.{Did, Failed, Gave};
     ghost use Rattle.machine.specs.Seen.{failed_if};
     ghost use Rattle.machine.specs.Shapes.{made_as, sector_count};
     ghost use Rattle.machine.specs.Unsynced.{HasFlushed, flushes, with_flush_failed};
@@ -147,6 +149,39 @@ impl<D: Disk> Device<D> {
         }
     }
 
+    /// A disk outside gave these bytes to the request of this pick.
+    pub(crate) fn disk_gave<L: TouchLog>(
+        &mut self,
+        pick: u8,
+        bytes: &[u8],
+        ram: &mut Ram,
+        log: &mut L,
+    ) -> Result<bool, Refusal>
+        requires sound { IsSoundDevice self.old.state.registers.ram_base (length ram.old.bytes) self.old.state }
+        requires may { MayPages L.may log.old (length ram.old.bytes) }
+        ensures taken { TakesAnswer (Touches L.after log.old log.new ram.old ram.new) ram.old.bytes self.old.state pick (Gave bytes.now) result ram.new.bytes self.new.state }
+        ensures disk { self.new ≡ record self.old { state = self.new.state } }
+        ensures later { IsLater ram.old ram.new }
+    {
+        self.state.disk_gave(pick, bytes, ram, log)
+    }
+
+    /// A disk outside did so many units of what the request of this pick asks for.
+    pub(crate) fn disk_did(&mut self, pick: u8, count: u32) -> Result<bool, Refusal>
+        ensures taken { (ram : List ℕ) → TakesAnswer (λ items. items ≡ []) ram self.old.state pick (Did count) result ram self.new.state }
+        ensures disk { self.new ≡ record self.old { state = self.new.state } }
+    {
+        self.state.disk_did(pick, count)
+    }
+
+    /// A disk outside failed in what the request of this pick asks for.
+    pub(crate) fn disk_failed(&mut self, pick: u8) -> Result<bool, Refusal>
+        ensures taken { (ram : List ℕ) → TakesAnswer (λ items. items ≡ []) ram self.old.state pick Failed result ram self.new.state }
+        ensures disk { self.new ≡ record self.old { state = self.new.state } }
+    {
+        self.state.disk_failed(pick)
+    }
+
     /// Does one piece of the work of the device, which has this number, on a ring that it makes that of the queue which the pick names.
     #[inline(always)]
     pub(crate) fn step<L: TouchLog>(
@@ -179,6 +214,9 @@ impl<D: Disk> Device<D> {
                 AnyRing::Split(ring) => self.state.look(alloc, work.pick, ring, sent, ram, log),
                 AnyRing::Packed(ring) => self.state.look(alloc, work.pick, ring, sent, ram, log),
             };
+        }
+        if self.state.is_outside() {
+            return self.state.step_outside(alloc, work, ring, ram, log);
         }
         let Some(sectors) = &mut self.disk else {
             return Stepped::Idle;

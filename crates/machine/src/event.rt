@@ -60,4 +60,27 @@ pub enum Event {
     Drop {
         dev: u8,
     },
+
+    /// The host hands in what a disk outside of the machine answered. The answer is for the request that the pick names when it comes: picks
+    /// move up as requests end, a reset drops requests, and the machine does not know who asked. It is `Idle`, and nothing changes, where the
+    /// device does not run or that request asks for nothing of the kind, or for less. So a host answers what it was asked, once, and resets
+    /// no device before (crate `disk_calls`). A device without such a disk refuses: that is `WrongKind`.
+    Disk {
+        dev: u8,
+        pick: u8,
+        answer: DiskAnswer,
+    },
+}
+
+/// What a disk outside of the machine answered.
+#[derive(Debug, Drop, PartialEq, Eq)]
+pub enum DiskAnswer {
+    /// To a read: the bytes of its sectors, whole ones, from its first sector on. Those of fewer sectors are a part of the answer.
+    Gave(Bytes),
+
+    /// To a write, to a clearing, or to a flush, which is one unit: so many units were done, from the first one on.
+    Did(u32),
+
+    /// It failed: the request ends with an error.
+    Failed,
 }

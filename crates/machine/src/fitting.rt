@@ -38,6 +38,10 @@ pub(crate) fn disk_size(shape: Shape) -> Option<u64>
 {
     match shape {
         Shape::Block { sectors, .. } => Some(sectors),
-        Shape::Net { .. } | Shape::LongNet { .. } | Shape::Console | Shape::Entropy => None,
+        Shape::Net { .. }
+        | Shape::LongNet { .. }
+        | Shape::Outside { .. }
+        | Shape::Console
+        | Shape::Entropy => None,
     }
 }

@@ -10,10 +10,10 @@ ghost use Rattle.std.specs.Prelude.{◌≡◌, length, IfOk, true};
 ghost use Rattle.chains.specs.Frame.{MayLook, HasLooked};
 ghost use Rattle.chains.specs.Served.{HasRun, scene};
 ghost use Rattle.blk.specs.Durable.{is_flush_owed};
-ghost use Rattle.machine.specs.DeviceStep.{has_work, serve, wanted_of, requests_of};
+ghost use Rattle.machine.specs.DeviceStep.{can_advance, has_work, serve, wanted_of, requests_of};
 ghost use Rattle.machine.specs.Shapes.{configuration_of, first_kind, made_as, net_as};
 ghost use Rattle.machine.specs.Sound.{AreSoundBeside};
-ghost use Rattle.machine.specs.Step.{IsResized, drop_of, input_of, dropped_unready, kind_with_input, kind_without_input, written_out};
+ghost use Rattle.machine.specs.Step.{IsResized, drop_of, input_of, is_first_ready, dropped_unready, kind_with_input, kind_without_input, written_out};
 ghost use Rattle.machine.specs.Unsynced.{kind_flush_failed, kind_flushes, kind_owed};
 ghost use Rattle.mmio.specs.RegisterRead.{register_read};
 
@@ -41,6 +41,9 @@ pub enum Kind {
 
     /// A block device (VIRTIO 1.2, 5.2).
     Block(Block),
+
+    /// A block device whose disk is outside of the machine (VIRTIO 1.2, 5.2).
+    Outside(Block),
 
     /// A console (VIRTIO 1.2, 5.3).
     Console {
@@ -86,6 +89,11 @@ impl Kind {
                 read_only,
                 id,
             } => Ok(Kind::Block(Block::new(alloc, sectors, read_only, id)?)),
+            Shape::Outside {
+                sectors,
+                read_only,
+                id,
+            } => Ok(Kind::Outside(Block::new(alloc, sectors, read_only, id)?)),
             Shape::Console => Ok(Kind::Console {
                 size: ConsoleSize::FIRST,
                 held: HostBytes::new(alloc)?,
@@ -101,6 +109,11 @@ impl Kind {
         match self {
             Kind::Network { mac, inbox } => net_shape(*mac, inbox.longest()),
             Kind::Block(block) => Shape::Block {
+                sectors: block.sectors,
+                read_only: block.read_only,
+                id: block.id,
+            },
+            Kind::Outside(block) => Shape::Outside {
                 sectors: block.sectors,
                 read_only: block.read_only,
                 id: block.id,
@@ -125,6 +138,9 @@ impl Kind {
             Kind::Block(block) => {
                 registers.read(offset, width, &blk::configuration(block.sectors))
             }
+            Kind::Outside(block) => {
+                registers.read(offset, width, &blk::outside_configuration(block.sectors))
+            }
             Kind::Console { size, .. } => registers.read(offset, width, &size.configuration()),
             Kind::Entropy(_) => registers.read(offset, width, &[]),
         }
@@ -136,7 +152,7 @@ impl Kind {
     {
         match self {
             Kind::Network { inbox, .. } => number > 0 || !inbox.is_empty(),
-            Kind::Block(block) => block.has_room(),
+            Kind::Block(block) | Kind::Outside(block) => block.has_room(),
             Kind::Console { held, .. } => number > 0 || !held.is_empty(),
             Kind::Entropy(pool) => !pool.is_empty(),
         }
@@ -147,8 +163,19 @@ impl Kind {
         ensures { result ≡ length (requests_of self.now) }
     {
         match self {
-            Kind::Block(block) => block.requests.len(),
+            Kind::Block(block) | Kind::Outside(block) => block.requests.len(),
             Kind::Network { .. } | Kind::Console { .. } | Kind::Entropy(_) => 0,
+        }
+    }
+
+    /// Whether a step may go on with the k-th outstanding request, from 0: there is one, and it waits for no disk outside.
+    pub(crate) fn can_advance(&self, k: usize) -> bool
+        ensures { result ≡ can_advance self.now k }
+    {
+        match self {
+            Kind::Block(block) => k < block.requests.len(),
+            Kind::Outside(block) => k < block.requests.len() && !block.waits(k),
+            Kind::Network { .. } | Kind::Console { .. } | Kind::Entropy(_) => false,
         }
     }
 
@@ -157,9 +184,8 @@ impl Kind {
         ensures { self.new ≡ dropped_unready queues.now self.old }
     {
         match self {
-            Kind::Block(block) => {
-                block.drop_requests_unless(matches!(queues, [first, ..] if first.is_ready));
-            }
+            Kind::Block(block) => block.drop_requests_unless(is_first_ready(queues)),
+            Kind::Outside(block) => block.drop_requests_unless(is_first_ready(queues)),
             Kind::Network { .. } | Kind::Console { .. } | Kind::Entropy(_) => {}
         }
     }
@@ -176,7 +202,7 @@ impl Kind {
                 }
                 Ok(inbox.push(bytes) as u32)
             }
-            Kind::Block(_) => Err(Refusal::WrongKind),
+            Kind::Block(_) | Kind::Outside(_) => Err(Refusal::WrongKind),
             Kind::Console { held, .. } => Ok(held.put_in(bytes) as u32),
             Kind::Entropy(pool) => Ok(pool.put_in(bytes) as u32),
         }
@@ -189,7 +215,7 @@ impl Kind {
     {
         match self {
             Kind::Network { inbox, .. } => inbox.clear(),
-            Kind::Block(_) => return Err(Refusal::WrongKind),
+            Kind::Block(_) | Kind::Outside(_) => return Err(Refusal::WrongKind),
             Kind::Console { held, .. } => held.clear(),
             Kind::Entropy(pool) => pool.clear(),
         }
@@ -205,7 +231,9 @@ impl Kind {
                 old.resize(size, registers);
                 Ok(())
             }
-            Kind::Network { .. } | Kind::Block(_) | Kind::Entropy(_) => Err(Refusal::WrongKind),
+            Kind::Network { .. } | Kind::Block(_) | Kind::Outside(_) | Kind::Entropy(_) => {
+                Err(Refusal::WrongKind)
+            }
         }
     }
 
@@ -215,7 +243,7 @@ impl Kind {
     {
         match self {
             Kind::Console { .. } => emergency_byte(offset, width, value),
-            Kind::Network { .. } | Kind::Block(_) | Kind::Entropy(_) => None,
+            Kind::Network { .. } | Kind::Block(_) | Kind::Outside(_) | Kind::Entropy(_) => None,
         }
     }
 
@@ -244,6 +272,7 @@ impl Kind {
                 net::receive(visit.site, ring, inbox, ram, log)
             }
             Kind::Block(block) => block.take(visit.site, visit.features, ring, ram, log),
+            Kind::Outside(block) => block.take(visit.site, visit.features, ring, ram, log),
             Kind::Console { held, .. } => {
                 if visit.number > 0 {
                     return console::transmit(visit.site, ring, sent, ram, log);
@@ -261,7 +290,9 @@ impl Kind {
     {
         match self {
             Kind::Block(block) => block.due_sync(k, features),
-            Kind::Network { .. } | Kind::Console { .. } | Kind::Entropy(_) => SyncOwed::Nothing,
+            Kind::Network { .. } | Kind::Outside(_) | Kind::Console { .. } | Kind::Entropy(_) => {
+                SyncOwed::Nothing
+            }
         }
     }
 
@@ -272,9 +303,18 @@ impl Kind {
     {
         match self {
             Kind::Block(block) => block.fail_flush(k),
-            Kind::Network { .. } | Kind::Console { .. } | Kind::Entropy(_) => false,
+            Kind::Network { .. } | Kind::Outside(_) | Kind::Console { .. } | Kind::Entropy(_) => {
+                false
+            }
         }
     }
+}
+
+/// Whether queue 0 is ready.
+pub(crate) fn is_first_ready(queues: &[Queue]) -> bool
+    ensures { result ≡ is_first_ready queues.now }
+{
+    matches!(queues, [first, ..] if first.is_ready)
 }
 
 /// What a network device was made as: for long frames, unless its longest has 1,514 bytes.

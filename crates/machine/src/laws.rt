@@ -1,5 +1,6 @@
 //! Laws over the definitions alone. These functions do nothing: their contracts are the laws.
 
+mod outside;
 mod work;
 
 ghost use Rattle.machine.specs.AppliedLaws.{HonestDisksGiveTheirs, AnyDiskActsAlike, RefusedChangesNothing};
@@ -10,6 +11,7 @@ ghost use Rattle.machine.specs.Limits.{GreatestAllow, LimitsStay};
 ghost use Rattle.machine.specs.EffectLaws.{UntouchedStays, TouchedExists, ShapeStays};
 ghost use Rattle.machine.specs.StepLaws.{EffectsAgree, StepsAgree, RunsAgree, StepStaysWithin, StepKeepsShape, StepStaysSound, RefusalsChangeNothing, MalformedIsContained, MalformedAsksForReset};
 
+pub use outside::{answers_are_their_parts, asked_is_taken, waiting_is_idle};
 pub use work::{idle_without_work, turn_is_steps, work_gets_on};
 
 /// What an effect does not touch stays as it was.

@@ -1,14 +1,16 @@
 //! The machine: RAM and 1 to 16 virtio devices, to which one event after another is applied.
 //!
-//! An `Event` is one atomic step: a register access, an access to RAM, a piece of a device's work, bytes that the host puts in.
+//! An `Event` is one atomic step: a register access, an access to RAM, a piece of a device's work, bytes that the host puts in, an answer of
+//! a disk that is outside.
 //! `Machine::apply` answers it with a `Reply`, and `Machine::play` plays a whole list. Beside them a machine is changed by a flush that
 //! fails (`fail_flush`) and by RAM that is lent (`lend`) alone, and there is no thread. A machine's state is `MachineState`
 //! (`specs/State`): one list of bytes, the devices, and the sectors of their disks. Versions of pages are no part of it.
 //!
 //! A device finds its work in rings: split ones, or packed ones where the driver accepted them. What a step may see there is
 //! what the definitions of `chains` say of the RAM, so steps with equal outcomes are equal. The disk of a block device is any
-//! type that keeps the contract of the trait `Disk`. A machine holds two rings for each device (`specs/Rings`), with the descriptors
-//! that they keep; what they keep is part of no definition, and changes no answer.
+//! type that keeps the contract of the trait `Disk`; or it is outside of the machine, which then has no sector of it. A machine holds two
+//! rings for each device (`specs/Rings`), with the descriptors that they keep; what they keep is part of no definition, and changes no
+//! answer.
 //!
 //! # What the layers above may rely on
 //! - `apply(event)` is a step in the sense of `specs/Step`, with the outcome that its reply reports, of the machine with its
@@ -21,8 +23,15 @@
 //!   the pages and sectors that the step writes into.
 //! - `PageLog` is a log for a host that asks which pages were written: `hand_out` gives their numbers, each once, ascending, and forgets them
 //!   (`specs/PageLog`, `laws::noted_are_these`). It takes memory as it is made, and no more.
-//! - `read_register`, `write_register`, `read_ram`, `write_ram`, `input`, `resize` and `step` are the steps of their events,
-//!   with no event to be made.
+//! - `read_register`, `write_register`, `read_ram`, `write_ram`, `input`, `resize`, `step`, `disk_gave`, `disk_did` and `disk_failed` are the
+//!   steps of their events, with no event to be made.
+//! - A disk outside (`Shape::Outside`) is the host's (`specs/Outside`). A request that needs it waits: `next_work` does not name it, and its
+//!   step is idle (`laws::waiting_is_idle`). `disk_call(dev, pick)` says what it asks: one sector at least, none past the last, and no change
+//!   of a device that is read-only, whatever a guest or a stream did; `written_bytes` hands out what is to be written. The host does that in
+//!   its own time, and hands the answer in, whole or in part, as the event `Disk`. An answer to what is asked is taken
+//!   (`laws::asked_is_taken`), another one is idle; what was given or done is its parts (`laws::answers_are_their_parts`). It takes no memory,
+//!   and calls no disk: such a device has no marks, and `must_sync` owes nothing for it. `drops_requests` says which register write would
+//!   drop requests that may have a call out (crate `disk_calls`).
 //! - `flush_disk(dev)` is one flush of the disk of a device, beside all steps (`specs/Unsynced`): the machine stays equal, and after an Ok the
 //!   disk is flushed. `DeviceState::must_sync(pick)` says whether what the driver wrote has to be durable before a step: it flushes the
 //!   disk by itself; or it ends a write of a driver that did not accept the feature FLUSH, before which a host calls `flush_disk`.
@@ -85,6 +94,7 @@ pub mod laws;
 mod limits;
 mod machine;
 mod new_error;
+mod outside_call;
 mod page_log;
 mod reply;
 mod shape;
@@ -96,13 +106,14 @@ mod work;
 pub use blk::{Disk, DiskFault, FaultDisk, FileDisk, MemDisk, SECTOR_SIZE, SECTORS_MAX, SyncOwed};
 pub use board::{Board, RamOf, Unmade};
 pub use device::Device;
-pub use event::Event;
+pub use event::{DiskAnswer, Event};
 pub use fitting::are_disks_of;
 pub use guestmem::Bytes;
 pub use kind::Kind;
 pub use limits::Limits;
 pub use machine::{DEVICES_MAX, Machine, Parked, Room, is_base};
 pub use new_error::NewError;
+pub use outside_call::OutsideCall;
 pub use page_log::PageLog;
 pub use reply::{Refusal, Reply};
 pub use shape::Shape;

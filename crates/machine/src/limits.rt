@@ -7,6 +7,7 @@ ghost use Rattle.std.specs.Prelude.{◌≡◌, ◌↔◌, IsTrue};
 ghost use Rattle.machine.specs.Limits.{IsShapeWithin, greatest, usual};
 
 use crate::shape::Shape;
+use blk::OUTSIDE_GREATEST;
 use net::{FRAME_GREATEST, FRAME_MAX};
 
 /// The most that a machine may have.
@@ -20,11 +21,14 @@ pub struct Limits {
 
     /// Bytes of a frame of a network device for long ones.
     pub frame: u16,
+
+    /// Sectors of a disk outside of the machine, of 512 bytes each.
+    pub outside: u64,
 }
 
 impl Limits {
-    /// The limits of a host that asks for no more: 16,384 pages (64 MiB), 2,097,152 sectors of each disk (1 GiB), and no device for long
-    /// frames.
+    /// The limits of a host that asks for no more: 16,384 pages (64 MiB), 2,097,152 sectors of each disk (1 GiB), no device for long frames,
+    /// and no disk outside.
     pub fn usual() -> Limits
         ensures { result ≡ usual }
     {
@@ -32,11 +36,12 @@ impl Limits {
             pages: 16_384,
             sectors: 2_097_152,
             frame: FRAME_MAX,
+            outside: 0,
         }
     }
 
-    /// All that a machine and its stream can have: 4,294,967,295 pages (16 TiB), as many sectors of each disk (2 TiB), and 65,535 bytes of a
-    /// frame.
+    /// All that a machine and its stream can have: 4,294,967,295 pages (16 TiB), as many sectors of each disk (2 TiB), 65,535 bytes of a frame,
+    /// and 2^54 sectors of a disk outside.
     pub fn greatest() -> Limits
         ensures { result ≡ greatest }
     {
@@ -44,6 +49,7 @@ impl Limits {
             pages: 4_294_967_295,
             sectors: 4_294_967_295,
             frame: FRAME_GREATEST,
+            outside: OUTSIDE_GREATEST,
         }
     }
 
@@ -53,6 +59,7 @@ impl Limits {
     {
         match shape {
             Shape::Block { sectors, .. } => sectors <= self.sectors as u64,
+            Shape::Outside { sectors, .. } => sectors <= self.outside,
             Shape::LongNet { longest, .. } => longest <= self.frame,
             Shape::Net { .. } | Shape::Console | Shape::Entropy => true,
         }

@@ -7,6 +7,7 @@ mod getters;
 mod lending;
 mod making;
 mod next_work;
+mod outside;
 mod room;
 mod unsynced;
 mod working;

@@ -57,7 +57,7 @@ pub enum Reply {
     /// What a register read gave.
     Value(u32),
 
-    /// The write is done, whether the register took or ignored it.
+    /// The write is done, whether the register took or ignored it. Likewise what else leaves nothing to be told.
     Done,
 
     /// The byte that the driver wrote into the emergency register of a console.
@@ -66,13 +66,13 @@ pub enum Reply {
     /// What a read of RAM gave.
     Bytes(Bytes),
 
-    /// The step found nothing to do.
+    /// The step found nothing to do, or no request awaited the answer of a disk outside.
     Idle,
 
     /// A block device has taken a request.
     Taken,
 
-    /// A request has moved one unit: a sector, a flush of the disk, or the id.
+    /// A request has moved one unit: a sector, a flush of the disk, or the id. Where its disk is outside, all that the disk answered.
     Moved,
 
     /// The sector that a request is to read is bad. The request ends with an error.
@@ -104,7 +104,9 @@ pub enum Reply {
 }
 
 impl Reply {
-    ghost use Rattle.std.specs.Prelude.{◌≡◌};
+    ghost use Rattle.std.specs.Prelude.{◌≡◌, ℕ, List};
+    ghost use Rattle.blk.specs.Outside.{Did, Failed, Gave};
+    ghost use Rattle.machine.specs.Outside.{disk_reply};
     ghost use Rattle.machine.specs.Direct.{accepted_reply, done_reply, value_reply, written_result};
 
     /// The reply to a read of a register.
@@ -144,6 +146,29 @@ impl Reply {
     {
         match answer {
             Ok(count) => Reply::Accepted(count),
+            Err(refusal) => Reply::Refused(refusal),
+        }
+    }
+
+    /// The reply to an answer of a disk outside that gave bytes or did something: whether a request awaited it, or the refusal.
+    pub fn from_moved(answer: Result<bool, Refusal>) -> Reply
+        ensures gave { (bytes : List ℕ) → result ≡ disk_reply (Gave bytes) answer }
+        ensures did { (count : ℕ) → result ≡ disk_reply (Did count) answer }
+    {
+        match answer {
+            Ok(true) => Reply::Moved,
+            Ok(false) => Reply::Idle,
+            Err(refusal) => Reply::Refused(refusal),
+        }
+    }
+
+    /// The reply to an answer of a disk outside that failed: whether a request waited for it, or the refusal.
+    pub fn from_failed(answer: Result<bool, Refusal>) -> Reply
+        ensures { result ≡ disk_reply Failed answer }
+    {
+        match answer {
+            Ok(true) => Reply::Done,
+            Ok(false) => Reply::Idle,
             Err(refusal) => Reply::Refused(refusal),
         }
     }

@@ -35,6 +35,18 @@ pub enum Shape {
         id: [u8; ID_SIZE],
     },
 
+    /// A block device whose disk is outside of the machine: the host has it, and is asked (VIRTIO 1.2, 5.2).
+    Outside {
+        /// How many sectors of 512 bytes its disk has: one to as many as the limits of the machine allow.
+        sectors: u64,
+
+        /// Whether the driver may only read it.
+        read_only: bool,
+
+        /// What it answers to a driver that asks for its id.
+        id: [u8; ID_SIZE],
+    },
+
     /// A console (VIRTIO 1.2, 5.3).
     Console,
 
@@ -43,13 +55,17 @@ pub enum Shape {
 }
 
 impl Shape {
-    /// How many sectors the disk of such a device has; 0 where it has no disk.
+    /// How many sectors the disk of such a device has; 0 where it has none in the machine.
     pub fn sectors(self) -> u64
         ensures { result ≡ sector_count self }
     {
         match self {
             Shape::Block { sectors, .. } => sectors,
-            Shape::Net { .. } | Shape::LongNet { .. } | Shape::Console | Shape::Entropy => 0,
+            Shape::Net { .. }
+            | Shape::LongNet { .. }
+            | Shape::Outside { .. }
+            | Shape::Console
+            | Shape::Entropy => 0,
         }
     }
 }

@@ -6,6 +6,7 @@
 //! A look and an advance are made on a ring in its layout, a `SplitRing` or a `PackedRing`: `Device::step` tells them apart.
 
 mod first_pick;
+mod outside;
 mod unsynced;
 
 ghost use Rattle.std.specs.Prelude.{◌≡◌, ◌≤◌, ◌<◌, ℕ, List, IfOk, length, take, if◌then◌else◌};
@@ -59,7 +60,7 @@ impl DeviceState {
     ghost use Rattle.blk.specs.Move.{MaySectors};
     ghost use Rattle.blk.specs.Sectors.{Calls, IsKept, AreWhole, Sector};
     ghost use Rattle.machine.specs.Calls.{asks_disk};
-    ghost use Rattle.machine.specs.DeviceStep.{advances, advanced_at, looks, looked_at};
+    ghost use Rattle.machine.specs.DeviceStep.{advances, advanced_at, is_outside, looks, looked_at};
     ghost use Rattle.machine.specs.DeviceWork.{IsDeviceStep};
     ghost use Rattle.machine.specs.Outcome.{is_failure};
     ghost use Rattle.machine.specs.Shapes.{first_device, made_as, saved_device, sector_count};
@@ -235,7 +236,8 @@ impl DeviceState {
         Stepped::of_served(served)
     }
 
-    /// Advances an outstanding request by one unit, or ends it. Sectors are reported to the log under the number of the device.
+    /// Advances an outstanding request by one unit, or ends it, where the disk is in the machine. Sectors are reported to the log under the
+    /// number of the device.
     #[inline(always)]
     pub(crate) fn advance<R: Ring, D: Disk, L: TouchLog>(
         &mut self,
@@ -247,6 +249,7 @@ impl DeviceState {
     ) -> Stepped
         requires sound { IsSoundDevice self.old.registers.ram_base (length ram.old.bytes) self.old }
         requires capacity { length sectors.old.content ≡ sector_count (made_as self.old.kind) }
+        requires inside { is_outside self.old.kind ≡ false }
         requires unlooked { looked_at self.old work.pick ≡ None }
         requires advanced { advanced_at self.old work.pick ≡ Some (R.state ring.old) }
         requires fits { Fits (R.decoder ring.old) ram.old }
@@ -299,7 +302,7 @@ impl DeviceState {
     pub fn advances(&self, pick: u8) -> bool
         ensures { result ≡ advances self.now pick }
     {
-        self.registers.is_running() && pick > 0 && (pick as usize - 1) < self.kind.outstanding()
+        self.registers.is_running() && pick > 0 && self.kind.can_advance(pick as usize - 1)
     }
 
     /// Makes the ring the one that a step with this pick looks at, and says whether it looks at one.
@@ -420,7 +423,7 @@ fn device_id(shape: Shape) -> u32
 {
     match shape {
         Shape::Net { .. } | Shape::LongNet { .. } => net::DEVICE_ID,
-        Shape::Block { .. } => blk::DEVICE_ID,
+        Shape::Block { .. } | Shape::Outside { .. } => blk::DEVICE_ID,
         Shape::Console => console::DEVICE_ID,
         Shape::Entropy => entropy::DEVICE_ID,
     }
@@ -432,6 +435,7 @@ pub fn offered(shape: Shape) -> u64
 {
     match shape {
         Shape::Block { read_only, .. } => COMMON_FEATURES | blk::features(read_only),
+        Shape::Outside { read_only, .. } => COMMON_FEATURES | blk::outside_features(read_only),
         Shape::Net { .. } => COMMON_FEATURES | net::FEATURES,
         Shape::LongNet { .. } => COMMON_FEATURES | net::LONG_FEATURES,
         Shape::Console => COMMON_FEATURES | console::FEATURES,
@@ -444,7 +448,7 @@ fn queue_count(shape: Shape) -> u8
 {
     match shape {
         Shape::Net { .. } | Shape::LongNet { .. } => net::QUEUE_COUNT,
-        Shape::Block { .. } => blk::QUEUE_COUNT,
+        Shape::Block { .. } | Shape::Outside { .. } => blk::QUEUE_COUNT,
         Shape::Console => console::QUEUE_COUNT,
         Shape::Entropy => entropy::QUEUE_COUNT,
     }

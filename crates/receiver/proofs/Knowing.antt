@@ -239,7 +239,7 @@ sent_stream ds held opening i w are =
         sound = sound;
         devices = record {
           each = All-from_recursion (IsDeviceOf opening.version) i.devices.items h.has;
-          late = subst (λ (ss : List Shape). (opening.version ≡ 3) ↔ (list_any told.is_long ss ≡ true)) (sym (whole_shapes h all)) h.head.has;
+          late = subst (λ (ss : List Shape). (opening.version ≡ 3) ↔ (list_any told.is_late ss ≡ true)) (sym (whole_shapes h all)) h.head.has;
         };
         whole = rw size (w.whole ∙ ap (λ (x : List ℕ). x ++ spelled_record (commit (sha256 x))) front);
       };

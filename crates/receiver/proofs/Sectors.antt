@@ -20,7 +20,7 @@ use Rattle.machine.specs.Shapes.{disk_size_of, disk_sizes, sector_count}
 use Rattle.machine.specs.Seen.{Marks}
 use Rattle.machine.specs.Sound.{IsSoundShape}
 use Rattle.machine.specs.declared.shape.Shape.{Shape}
-use Rattle.machine.specs.declared.shape.Shape.TheVariants.{Net, LongNet, Block, Console, Entropy}
+use Rattle.machine.specs.declared.shape.Shape.TheVariants.{Net, LongNet, Block, Outside, Console, Entropy}
 use Rattle.receiver.specs.Disks.{AreHonestDisks, all_marks_in, sizes_in}
 use Rattle.receiver.specs.Fed.{AreWritten}
 use Rattle.receiver.specs.Spots.{disks_before}
@@ -40,6 +40,7 @@ pub record HasNoDisk (shape : Shape) : Type 0 where
 pub with_or_without : (shape : Shape) → IsSoundShape shape → HasDisk shape ⊎ HasNoDisk shape
 with_or_without (Net mac) good = inr (record { size = refl; counts = refl; none = refl })
 with_or_without (LongNet mac longest) good = inr (record { size = refl; counts = refl; none = refl })
+with_or_without (Outside sectors read_only id) good = inr (record { size = refl; counts = refl; none = refl })
 with_or_without (Block sectors read_only id) good = inl (record { size = refl; counts = lt-ltb 0 sectors (omega (arith, good.some)) })
 with_or_without Console good = inr (record { size = refl; counts = refl; none = refl })
 with_or_without Entropy good = inr (record { size = refl; counts = refl; none = refl })

@@ -9,7 +9,7 @@ use Rattle.machine.specs.Outcome.{is_failure}
 use Rattle.machine.specs.Seen.{Marks, Seen, all_marks, failed_at, marks_at, no_marks}
 use Rattle.machine.specs.Shapes.{disk_size_of}
 use Rattle.machine.specs.declared.event.Event.{Event}
-use Rattle.machine.specs.declared.event.Event.TheVariants.{RegRead, RegWrite, MemRead, MemWrite, Step, Input, Resize, Drop}
+use Rattle.machine.specs.declared.event.Event.TheVariants.{RegRead, RegWrite, MemRead, MemWrite, Step, Input, Resize, Drop, Disk}
 use Rattle.machine.specs.declared.reply.Reply.{Reply}
 use Rattle.machine.specs.declared.shape.Shape.{Shape}
 use Rattle.receiver.specs.Disks.{disk_marks_of}
@@ -96,6 +96,7 @@ after_event marks (Step dev pick) reply all unsteady = after_step marks dev pick
 after_event marks (Input dev bytes) reply all unsteady = all
 after_event marks (Resize dev cols rows) reply all unsteady = all
 after_event marks (Drop dev) reply all unsteady = all
+after_event marks (Disk dev pick given) reply all unsteady = all
 
 pub applying_stays_reliable : ApplyingStaysReliable
 applying_stays_reliable m next e reply all applied = subst AreReliable (sym applied.marks) (after_event (all_marks m) e reply all applied.unsteady)

@@ -8,7 +8,7 @@ use Rattle.machine.specs.Shapes.{sector_count, made_as}
 use Rattle.machine.specs.Sound.{IsSound, IsSoundDevice, IsSoundShape}
 use Rattle.machine.specs.State.{DeviceState, MachineState}
 use Rattle.machine.specs.declared.shape.Shape.{Shape}
-use Rattle.machine.specs.declared.shape.Shape.TheVariants.{Net, LongNet, Block, Console, Entropy}
+use Rattle.machine.specs.declared.shape.Shape.TheVariants.{Net, LongNet, Block, Outside, Console, Entropy}
 use Rattle.machine.proofs.Numbering.{has_item, shape_counts}
 use Rattle.sender.specs.Items.{size_on}
 
@@ -27,6 +27,7 @@ pub few_in : (shape : Shape) → IsSoundShape shape → sector_count shape ≤ 4
 few_in (Net mac) sound = omega arith
 few_in (LongNet mac longest) sound = omega arith
 few_in (Block sectors read_only id) sound = omega (arith, sound.few)
+few_in (Outside sectors read_only id) sound = omega arith
 few_in Console sound = omega arith
 few_in Entropy sound = omega arith
 

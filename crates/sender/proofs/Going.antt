@@ -42,6 +42,7 @@ honest_for marks (events.Step dev pick) are = honest_at marks dev are
 honest_for marks (events.Input dev bytes) are = tt
 honest_for marks (events.Resize dev cols rows) are = tt
 honest_for marks (events.Drop dev) are = tt
+honest_for marks (events.Disk dev pick given) are = tt
 
 no_member : (s : List Bool) (i : ℕ) → length s ≤ i → has s i ≡ false
 no_member [] i past = refl

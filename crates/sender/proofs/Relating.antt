@@ -53,6 +53,7 @@ marks_honest marks (events.MemWrite addr bytes) reply are = are
 marks_honest marks (events.Input dev bytes) reply are = are
 marks_honest marks (events.Resize dev cols rows) reply are = are
 marks_honest marks (events.Drop dev) reply are = are
+marks_honest marks (events.Disk dev pick given) reply are = are
 
 same_honest : (old new : LiveSeen) → all_marks new.machine ≡ all_marks old.machine → AreHonest old.machine → AreHonest new.machine
 same_honest old new same are = subst Honest (sym same) are

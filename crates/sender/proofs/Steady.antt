@@ -45,6 +45,7 @@ guest_alike marks (events.MemWrite addr bytes) reply = λ dev. refl
 guest_alike marks (events.Input dev bytes) reply = λ dev. refl
 guest_alike marks (events.Resize dev cols rows) reply = λ dev. refl
 guest_alike marks (events.Drop dev) reply = λ dev. refl
+guest_alike marks (events.Disk dev pick given) reply = λ dev. refl
 
 -- What one entry leaves of the marks, and whom it names.
 pub record Keeps (old : LiveSeen) (e : LiveEvent) (reply : LiveReply) (new : LiveSeen) : Type 0 where
@@ -131,6 +132,7 @@ alike_step old now (events.MemWrite addr bytes) reply same names = tt
 alike_step old now (events.Input dev bytes) reply same names = tt
 alike_step old now (events.Resize dev cols rows) reply same names = tt
 alike_step old now (events.Drop dev) reply same names = tt
+alike_step old now (events.Disk dev pick given) reply same names = tt
 
 alike_guest : (old now : List Marks) (e : LiveEvent) (reply : Reply) → AreAlike old now → GuestNames now e reply → GuestNames old e reply
 alike_guest old now (Guest e) reply same names = alike_step old now e reply same names

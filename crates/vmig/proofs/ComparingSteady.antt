@@ -8,7 +8,7 @@ use Rattle.machine.specs.First.{dealt_marks}
 use Rattle.machine.specs.Outcome.{is_failure}
 use Rattle.machine.specs.Seen.{Marks, Seen, all_marks, failed_at, failed_once, marks_at, or_no_marks}
 use Rattle.machine.specs.declared.event.Event.{Event}
-use Rattle.machine.specs.declared.event.Event.TheVariants.{RegRead, RegWrite, MemRead, MemWrite, Step, Input, Resize, Drop}
+use Rattle.machine.specs.declared.event.Event.TheVariants.{RegRead, RegWrite, MemRead, MemWrite, Step, Input, Resize, Drop, Disk}
 use Rattle.machine.specs.declared.reply.Reply.{Reply}
 use Rattle.machine.specs.declared.shape.Shape.{Shape}
 use Rattle.machine.proofs.Dealing.{dealt_all}
@@ -50,6 +50,7 @@ event_stays marks (Step dev pick) r are = failing_stays marks dev (is_failure r)
 event_stays marks (Input dev bytes) r are = are
 event_stays marks (Resize dev cols rows) r are = are
 event_stays marks (Drop dev) r are = are
+event_stays marks (Disk dev pick given) r are = are
 
 run_stays : (marks : List Marks) (es : List Event) (rs : List Reply) → AreSteady marks → AreSteady (marks_run marks es rs)
 run_stays marks [] rs are = are

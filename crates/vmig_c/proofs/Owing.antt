@@ -12,7 +12,7 @@ use Rattle.machine.specs.Seen.{Seen, state_of}
 use Rattle.machine.specs.State.{DeviceState}
 use Rattle.machine.specs.Unsynced.{flushes, flushes_if, kind_flushes, kind_owed, owed}
 use Rattle.machine.specs.declared.kind.Kind.{Kind}
-use Rattle.machine.specs.declared.kind.Kind.TheVariants.{Network, Block, Console, Entropy}
+use Rattle.machine.specs.declared.kind.Kind.TheVariants.{Network, Block, Outside, Console, Entropy}
 use Rattle.machine.specs.declared.event.Event.TheVariants.{Step}
 use Rattle.machine.specs.declared.reply.Reply.{Reply}
 use Rattle.machine.specs.declared.reply.Reply.TheVariants.{Value, Done, OutByte, Bytes, Idle, Taken, Moved, BadSector, DiskFailed, Completed, Sent, Dropped, Accepted, NeedsReset, NoMemory, Refused}
@@ -45,6 +45,7 @@ made_of features None is = absurd cc
 made_kind : (features : ℕ) (kind : Kind) (k : ℕ) → kind_owed features kind k ≡ Flush → kind_flushes kind k ≡ true
 made_kind features (Block block) k is = made_of features (slice_get block.requests k) is
 made_kind features (Network mac inbox) k is = absurd cc
+made_kind features (Outside block) k is = absurd cc
 made_kind features (Console size held) k is = absurd cc
 made_kind features (Entropy pool) k is = absurd cc
 

@@ -13,7 +13,7 @@ use Rattle.machine.specs.Step.{drop_by, drop_input, drop_of, out_reply, write_re
 use Rattle.machine.specs.declared.event.Event.{Event}
 use Rattle.machine.specs.declared.event.Event.TheVariants.{RegWrite, Drop}
 use Rattle.machine.specs.declared.kind.Kind.{Kind}
-use Rattle.machine.specs.declared.kind.Kind.TheVariants.{Network, Block, Console, Entropy}
+use Rattle.machine.specs.declared.kind.Kind.TheVariants.{Network, Block, Outside, Console, Entropy}
 use Rattle.machine.specs.declared.reply.Reply.{Reply}
 use Rattle.machine.specs.declared.shape.Shape.{Shape}
 use Rattle.sender.specs.Calls.{Does}
@@ -45,6 +45,7 @@ write_done dev (Some d) shape off width value is = out_done (written_out d.kind 
 drop_kind : (dev : ℕ) (d : DeviceState) (kind : Kind) → has_input (made_as kind) ≡ true → status_of (drop_by dev d (drop_of kind)).reply ≡ 0
 drop_kind dev d (Network mac inbox) some = refl
 drop_kind dev d (Block block) some = absurd (true≢false (sym some))
+drop_kind dev d (Outside block) some = absurd (true≢false (sym some))
 drop_kind dev d (Console size held) some = refl
 drop_kind dev d (Entropy pool) some = refl
 

@@ -4,7 +4,7 @@ use Rattle.std.specs.Prelude.{◌≡◌, ◌⊎◌, ℕ, ◌*◌, ◌==◌, ◌&
 use Rattle.guestmem.specs.declared.limits.TheConstants.{PAGE_SIZE}
 use Rattle.machine.specs.First.{is_base}
 use Rattle.machine.specs.declared.shape.Shape.{Shape}
-use Rattle.machine.specs.declared.shape.Shape.TheVariants.{Net, LongNet, Block, Console, Entropy}
+use Rattle.machine.specs.declared.shape.Shape.TheVariants.{Net, LongNet, Block, Outside, Console, Entropy}
 use Rattle.machine.specs.Limits.{AreWithin}
 use Rattle.machine.specs.declared.limits.Limits.{Limits}
 use Rattle.wire.specs.Header.{Begins, Opening}
@@ -33,6 +33,7 @@ abbrev pub is_same_shape : Shape → Shape → Bool
 is_same_shape (Net mac) (Net other) = bytes_eq mac other
 is_same_shape (LongNet mac longest) (LongNet other its) = longest == its && bytes_eq mac other
 is_same_shape (Block sectors read_only id) (Block count only other) = sectors == count && (same_flag read_only only && bytes_eq id other)
+is_same_shape (Outside sectors read_only id) (Outside count only other) = sectors == count && (same_flag read_only only && bytes_eq id other)
 is_same_shape Console Console = true
 is_same_shape Entropy Entropy = true
 is_same_shape _ _ = false

@@ -10,7 +10,7 @@ use Rattle.machine.specs.Seen.{Seen, state_of}
 use Rattle.machine.specs.State.{DeviceState, MachineState}
 use Rattle.machine.specs.Unsynced.{FailsFlush, FailsFlushIf, makes_flush, owed}
 use Rattle.machine.specs.declared.kind.Kind.{Kind}
-use Rattle.machine.specs.declared.kind.Kind.TheVariants.{Network, Block, Console, Entropy}
+use Rattle.machine.specs.declared.kind.Kind.TheVariants.{Network, Block, Outside, Console, Entropy}
 use Rattle.machine.specs.declared.reply.Refusal.TheVariants.{WrongKind}
 use Rattle.machine.specs.declared.reply.Reply.TheVariants.{DiskFailed}
 use Rattle.sender.specs.LiveState.{HasPlaces, LiveSeen, now}
@@ -73,6 +73,7 @@ FailsKept k dev pick status next =
 abbrev pub kind_refusal : Kind → Option ℕ
 kind_refusal (Block block) = None
 kind_refusal (Network mac inbox) = Some (code_of WrongKind)
+kind_refusal (Outside block) = Some (code_of WrongKind)
 kind_refusal (Console size held) = Some (code_of WrongKind)
 kind_refusal (Entropy pool) = Some (code_of WrongKind)
 

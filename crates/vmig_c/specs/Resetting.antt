@@ -8,7 +8,7 @@ use Rattle.machine.specs.State.{DeviceState}
 use Rattle.machine.specs.declared.event.Event.{Event}
 use Rattle.machine.specs.declared.event.Event.TheVariants.{RegWrite, Drop}
 use Rattle.machine.specs.declared.shape.Shape.{Shape}
-use Rattle.machine.specs.declared.shape.Shape.TheVariants.{Net, LongNet, Block, Console, Entropy}
+use Rattle.machine.specs.declared.shape.Shape.TheVariants.{Net, LongNet, Block, Outside, Console, Entropy}
 use Rattle.sender.specs.declared.mig_error.MigError.TheVariants.{AlreadyStopped}
 use Rattle.sender.specs.declared.phase.Phase.{Phase}
 use Rattle.vmig_c.specs.Kept.{KeptSeen, LoanSeen, StillLent, MovingLent, State, Still, Moving, Arriving, Lent, parked_in}
@@ -31,6 +31,7 @@ AreDone k (e ∷ es) next = (mid : State) × IsDone k e mid × AreDone mid es ne
 -- The host puts something into such a device.
 abbrev pub has_input : Shape → Bool
 has_input (Block sectors read_only id) = false
+has_input (Outside sectors read_only id) = false
 has_input (Net mac) = true
 has_input (LongNet mac longest) = true
 has_input Console = true

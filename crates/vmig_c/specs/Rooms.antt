@@ -7,7 +7,7 @@ use Rattle.machine.specs.Refusal.{code_of}
 use Rattle.machine.specs.Seen.{state_of}
 use Rattle.machine.specs.State.{DeviceState}
 use Rattle.machine.specs.declared.kind.Kind.{Kind}
-use Rattle.machine.specs.declared.kind.Kind.TheVariants.{Network, Block, Console, Entropy}
+use Rattle.machine.specs.declared.kind.Kind.TheVariants.{Network, Block, Outside, Console, Entropy}
 use Rattle.machine.specs.declared.reply.Refusal.TheVariants.{WrongKind}
 use Rattle.vmig_c.specs.Kept.{KeptSeen, State}
 use Rattle.vmig_c.specs.OnHandle.{OfEachState, OfHandle, Refuses}
@@ -18,6 +18,7 @@ use Rattle.std.specs.Prelude.{slice_get}
 abbrev pub room_of : Kind → Option ℕ
 room_of (Network mac inbox) = Some (most_waiting inbox.longest - length inbox.frames)
 room_of (Block block) = None
+room_of (Outside block) = None
 room_of (Console size held) = Some (HOST_BYTES_MAX - length held)
 room_of (Entropy pool) = Some (HOST_BYTES_MAX - length pool)
 

@@ -219,6 +219,18 @@ fn is_same_shape(one: Shape, other: Shape) -> bool
                 id: other,
             },
         ) => sectors == count && read_only == only && id.as_slice() == other.as_slice(),
+        (
+            Shape::Outside {
+                sectors,
+                read_only,
+                id,
+            },
+            Shape::Outside {
+                sectors: count,
+                read_only: only,
+                id: other,
+            },
+        ) => sectors == count && read_only == only && id.as_slice() == other.as_slice(),
         (Shape::Console, Shape::Console) => true,
         (Shape::Entropy, Shape::Entropy) => true,
         _ => false,

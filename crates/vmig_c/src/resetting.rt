@@ -112,5 +112,5 @@ fn reset_device(kept: &mut Kept, dev: u8)
 fn has_input(shape: Shape) -> bool
     ensures { result ≡ has_input shape }
 {
-    !matches!(shape, Shape::Block { .. })
+    !matches!(shape, Shape::Block { .. } | Shape::Outside { .. })
 }

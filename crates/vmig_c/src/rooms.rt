@@ -45,7 +45,7 @@ fn room_of(kind: &Kind) -> Option<usize>
         Kind::Network { inbox, .. } => Some(most_waiting(inbox.longest()).saturating_sub(
             inbox.len(),
         )),
-        Kind::Block(_) => None,
+        Kind::Block(_) | Kind::Outside(_) => None,
         Kind::Console { held, .. } => Some(HOST_BYTES_MAX - held.len()),
         Kind::Entropy(pool) => Some(HOST_BYTES_MAX - pool.len()),
     }

@@ -98,7 +98,9 @@ fn kind_refusal(kind: &Kind) -> Option<u32>
 {
     match kind {
         Kind::Block(_) => None,
-        Kind::Network { .. } | Kind::Console { .. } | Kind::Entropy { .. } => Some(WRONG_KIND),
+        Kind::Network { .. } | Kind::Outside(_) | Kind::Console { .. } | Kind::Entropy { .. } => {
+            Some(WRONG_KIND)
+        }
     }
 }
 

@@ -6,19 +6,20 @@ use Rattle.guestmem.specs.Number.{number_at, IsBytes}
 use Rattle.wire.specs.Numbers.{digits, spelled, Fit, flag}
 use Rattle.wire.proofs.Digits.{digits-number_at, number_at-digits, spelled-numbers, numbers-spelled, length-digits, length-spelled, flag-number, number-flag, number_at-fits}
 use Rattle.wire.proofs.Choices.{some, same_found, not_chosen, neither}
-use Rattle.std.proofs.Common.{◌≡◌, ℕ, suc, ◌+◌, ◌-◌, ◌<◌, ◌≤◌, List, [], ◌∷◌, ◌++◌, length, drop, take, get_or, subst, ◌≢◌, nat_eq, nat_lt, Some, None, Bool, true, false, cond, refl, sym, ap, ◌∙◌, length-append, append_assoc, take-append-drop, arith, eqb, not}
+use Rattle.std.proofs.Common.{◌≡◌, ℕ, suc, ◌+◌, ◌-◌, ◌<◌, ◌≤◌, List, [], ◌∷◌, ◌++◌, length, drop, take, get_or, subst, ◌≢◌, nat_eq, nat_lt, Option, Some, None, Bool, true, false, cond, refl, sym, ap, ◌∙◌, length-append, append_assoc, take-append-drop, arith, eqb, not}
 use Rattle.std.specs.Int.{byte_at}
 use Rattle.std.specs.Prelude.{codes, ◌||◌, ◌%◌}
 use Rattle.machine.specs.declared.shape.Shape.{Shape}
-use Rattle.machine.specs.declared.shape.Shape.TheVariants.{Net, LongNet, Block, Console, Entropy}
-use Rattle.blk.specs.Shape.{IsBlockShape}
+use Rattle.machine.specs.declared.shape.Shape.TheVariants.{Net, LongNet, Block, Outside, Console, Entropy}
+use Rattle.blk.specs.Shape.{IsBlockShape, IsOutsideShape}
 use Rattle.net.specs.Shape.{IsLongNet, IsMac}
 use Rattle.machine.specs.Limits.{IsShapeWithin}
 use Rattle.machine.specs.Sound.{IsSoundShape}
 use Rattle.machine.specs.declared.limits.Limits.{Limits}
-use Rattle.wire.specs.ShapeReading.{block_shape_of, long_net_shape_of, net_shape_of, shape_of}
+use Rattle.wire.specs.ShapeReading.{block_shape_of, long_net_shape_of, net_shape_of, outside_shape_of, shape_of}
 use Rattle.wire.proofs.Lists.{WasSpelled}
-use Rattle.wire.specs.Header.{spelled_shape, front, shape_length}
+use Rattle.wire.proofs.Versions.{late_within}
+use Rattle.wire.specs.Header.{allow_late, spelled_shape, front, shape_length}
 
 -- A shape that is spelled is read, and one that is read was spelled.
 abbrev block_widths : List ℕ
@@ -40,17 +41,17 @@ flag_few : (b : Bool) → flag b ≤ 1
 flag_few true = omega arith
 flag_few false = omega arith
 
-block_says : (sectors : ℕ) (read_only : Bool) (id rest : List ℕ) → IsBlockShape sectors id → SaysBlock ((digits 8 sectors ++ (flag read_only ∷ id)) ++ rest) sectors read_only id rest
-block_says sectors read_only id rest good =
-    let fits : Fit block_widths (sectors ∷ flag read_only ∷ []) = (omega (arith, good.few), (flag_fits read_only, tt)) in
+block_says : (sectors : ℕ) (read_only : Bool) (id rest : List ℕ) → sectors ≤ 18014398509481984 → length id ≡ 20 → SaysBlock ((digits 8 sectors ++ (flag read_only ∷ id)) ++ rest) sectors read_only id rest
+block_says sectors read_only id rest few id_size =
+    let fits : Fit block_widths (sectors ∷ flag read_only ∷ []) = (omega (arith, few), (flag_fits read_only, tt)) in
     let read = numbers-spelled block_widths (sectors ∷ flag read_only ∷ []) [] (id ++ rest) fits in
     let nth = λ (k : ℕ). ap (λ (ns : List ℕ). get_or ns k 0) read in
     record {
-      long = omega (arith, length-append (digits 8 sectors ++ (flag read_only ∷ id)) rest, length-append (digits 8 sectors) (flag read_only ∷ id), length-digits 8 sectors, good.id_size);
+      long = omega (arith, length-append (digits 8 sectors ++ (flag read_only ∷ id)) rest, length-append (digits 8 sectors) (flag read_only ∷ id), length-digits 8 sectors, id_size);
       sectors_are = nth 0;
       only = nth 1;
-      id_is = take_at id rest 20 good.id_size;
-      rest_is = drop_at id rest 20 good.id_size;
+      id_is = take_at id rest 20 id_size;
+      rest_is = drop_at id rest 20 id_size;
     }
 
 block_reads : (bytes : List ℕ) (sectors : ℕ) (read_only : Bool) (id rest : List ℕ) → IsBlockShape sectors id → SaysBlock bytes sectors read_only id rest → block_shape_of bytes ≡ Some (Block sectors read_only id, rest)
@@ -60,6 +61,15 @@ block_reads bytes sectors read_only id rest good says =
     let one : nat_lt 1 (flag read_only) ≡ false = le-ltb _ _ (flag_few read_only) in
     let some : eqb sectors 0 ≡ false = ne_eqb _ _ (λ (z : sectors ≡ 0). omega (arith, good.some)) in
     let few : nat_lt 4294967295 sectors ≡ false = le-ltb _ _ good.few in
+    rw (long, says.only, one, says.sectors_are, some, few, number-flag read_only, says.id_is, says.rest_is) refl
+
+outside_reads : (bytes : List ℕ) (sectors : ℕ) (read_only : Bool) (id rest : List ℕ) → IsOutsideShape sectors id → SaysBlock bytes sectors read_only id rest → outside_shape_of bytes ≡ Some (Outside sectors read_only id, rest)
+unfolding outside_shape_of
+outside_reads bytes sectors read_only id rest good says =
+    let long : nat_lt (length bytes) 29 ≡ false = le-ltb _ _ says.long in
+    let one : nat_lt 1 (flag read_only) ≡ false = le-ltb _ _ (flag_few read_only) in
+    let some : eqb sectors 0 ≡ false = ne_eqb _ _ (λ (z : sectors ≡ 0). omega (arith, good.some)) in
+    let few : nat_lt 18014398509481984 sectors ≡ false = le-ltb _ _ good.few in
     rw (long, says.only, one, says.sectors_are, some, few, number-flag read_only, says.id_is, says.rest_is) refl
 
 net_reads : (mac rest : List ℕ) → IsMac mac → net_shape_of (mac ++ rest) ≡ Some (Net mac, rest)
@@ -85,7 +95,9 @@ unfolding shape_of spelled_shape
 shape_of-spelled (Net mac) rest good = net_reads mac rest good
 shape_of-spelled (LongNet mac longest) rest good = long_reads mac rest longest good
 shape_of-spelled (Block sectors read_only id) rest good =
-    block_reads ((digits 8 sectors ++ (flag read_only ∷ id)) ++ rest) sectors read_only id rest good (block_says sectors read_only id rest good)
+    block_reads ((digits 8 sectors ++ (flag read_only ∷ id)) ++ rest) sectors read_only id rest good (block_says sectors read_only id rest (omega (arith, good.few)) good.id_size)
+shape_of-spelled (Outside sectors read_only id) rest good =
+    outside_reads ((digits 8 sectors ++ (flag read_only ∷ id)) ++ rest) sectors read_only id rest good (block_says sectors read_only id rest good.few good.id_size)
 shape_of-spelled Console rest good = refl
 shape_of-spelled Entropy rest good = refl
 
@@ -109,6 +121,16 @@ block_sound bytes are long some few =
     record {
       some = omega (arith, is);
       few = ltb-false 4294967295 (number_at bytes 0 8) few;
+      id_size = omega (arith, long, length-take 20 (drop 9 bytes), length-drop 9 bytes);
+      id_bytes = IsBytes-take 20 (drop 9 bytes) (IsBytes-drop 9 bytes are);
+    }
+
+outside_sound : (bytes : List ℕ) → IsBytes bytes → 29 ≤ length bytes → eqb (number_at bytes 0 8) 0 ≡ false → nat_lt 18014398509481984 (number_at bytes 0 8) ≡ false → IsOutsideShape (number_at bytes 0 8) (take 20 (drop 9 bytes))
+outside_sound bytes are long some few =
+    let is : number_at bytes 0 8 ≢ 0 = eqb-false (number_at bytes 0 8) 0 some in
+    record {
+      some = omega (arith, is);
+      few = ltb-false 18014398509481984 (number_at bytes 0 8) few;
       id_size = omega (arith, long, length-take 20 (drop 9 bytes), length-drop 9 bytes);
       id_bytes = IsBytes-take 20 (drop 9 bytes) (IsBytes-drop 9 bytes are);
     }
@@ -139,6 +161,19 @@ block_read n bytes found are two e =
       whole = ap (λ (k : ℕ). k ∷ bytes) two ∙ ap (λ (x : List ℕ). 2 ∷ x) (block_written bytes (number_at bytes 0 8) are within refl (ltb-false 1 (number_at bytes 8 1) size.1));
     })
 
+outside_read : (n : ℕ) (bytes : List ℕ) (found : Shape × List ℕ) → IsBytes bytes → n ≡ 130 → outside_shape_of bytes ≡ Some found → ShapeRead (n ∷ bytes) found
+unfolding outside_shape_of spelled_shape
+outside_read n bytes found are is e =
+    let long = not_chosen (nat_lt (length bytes) 29 || nat_lt 1 (number_at bytes 8 1)) _ found e in
+    let some = not_chosen (eqb (number_at bytes 0 8) 0 || nat_lt 18014398509481984 (number_at bytes 0 8)) _ found long.1 in
+    let size = neither (nat_lt (length bytes) 29) (nat_lt 1 (number_at bytes 8 1)) long.0 in
+    let limits = neither (eqb (number_at bytes 0 8) 0) (nat_lt 18014398509481984 (number_at bytes 0 8)) some.0 in
+    let within = ltb-false (length bytes) 29 size.0 in
+    subst (λ (y : Shape × List ℕ). ShapeRead (n ∷ bytes) y) (same_found _ found some.1) (record {
+      good = outside_sound bytes are within limits.0 limits.1;
+      whole = ap (λ (k : ℕ). k ∷ bytes) is ∙ ap (λ (x : List ℕ). 130 ∷ x) (block_written bytes (number_at bytes 0 8) are within refl (ltb-false 1 (number_at bytes 8 1) size.1));
+    })
+
 long_written : (bytes : List ℕ) → IsBytes bytes → 8 ≤ length bytes → bytes ≡ (take 6 bytes ++ digits 2 (number_at bytes 6 2)) ++ drop 8 bytes
 long_written bytes are long =
     let two : digits 2 (number_at bytes 6 2) ≡ take 2 (drop 6 bytes) = digits-number_at 2 bytes 6 are (omega (arith, long)) in
@@ -164,29 +199,37 @@ long_read n bytes found are is e =
       whole = ap (λ (k : ℕ). k ∷ bytes) is ∙ ap (λ (x : List ℕ). 129 ∷ x) (long_written bytes are within);
     })
 
-last_read : (n : ℕ) (bytes : List ℕ) (found : Shape × List ℕ) (is : Bool) → IsBytes bytes → eqb n 129 ≡ is → cond is (long_net_shape_of bytes) None ≡ Some found → ShapeRead (n ∷ bytes) found
-last_read n bytes found true are long e = long_read n bytes found are (eqb-true n 129 long) e
-last_read n bytes found false are long e = absurd cc
+last_read : (n : ℕ) (bytes : List ℕ) (found : Shape × List ℕ) (is : Bool) → IsBytes bytes → eqb n 130 ≡ is → cond is (outside_shape_of bytes) None ≡ Some found → ShapeRead (n ∷ bytes) found
+last_read n bytes found true are outside e = outside_read n bytes found are (eqb-true n 130 outside) e
+last_read n bytes found false are outside e = absurd cc
 
-entropy_read : (n : ℕ) (bytes : List ℕ) (found : Shape × List ℕ) (is : Bool) → IsBytes bytes → eqb n 4 ≡ is → cond is (Some (Entropy, bytes)) (cond (eqb n 129) (long_net_shape_of bytes) None) ≡ Some found → ShapeRead (n ∷ bytes) found
+-- The shapes that are since version 3.
+abbrev late_shape_of : ℕ → List ℕ → Option (Shape × List ℕ)
+late_shape_of n bytes = cond (eqb n 129) (long_net_shape_of bytes) (cond (eqb n 130) (outside_shape_of bytes) None)
+
+late_read : (n : ℕ) (bytes : List ℕ) (found : Shape × List ℕ) (is : Bool) → IsBytes bytes → eqb n 129 ≡ is → cond is (long_net_shape_of bytes) (cond (eqb n 130) (outside_shape_of bytes) None) ≡ Some found → ShapeRead (n ∷ bytes) found
+late_read n bytes found true are long e = long_read n bytes found are (eqb-true n 129 long) e
+late_read n bytes found false are long e = last_read n bytes found (eqb n 130) are refl e
+
+entropy_read : (n : ℕ) (bytes : List ℕ) (found : Shape × List ℕ) (is : Bool) → IsBytes bytes → eqb n 4 ≡ is → cond is (Some (Entropy, bytes)) (late_shape_of n bytes) ≡ Some found → ShapeRead (n ∷ bytes) found
 unfolding spelled_shape
 entropy_read n bytes found true are four e =
     subst (λ (y : Shape × List ℕ). ShapeRead (n ∷ bytes) y) (same_found (Entropy, bytes) found e) (record { good = tt; whole = ap (λ (k : ℕ). k ∷ bytes) (eqb-true n 4 four) })
-entropy_read n bytes found false are four e = last_read n bytes found (eqb n 129) are refl e
+entropy_read n bytes found false are four e = late_read n bytes found (eqb n 129) are refl e
 
-console_read : (n : ℕ) (bytes : List ℕ) (found : Shape × List ℕ) (is : Bool) → IsBytes bytes → eqb n 3 ≡ is → cond is (Some (Console, bytes)) (cond (eqb n 4) (Some (Entropy, bytes)) (cond (eqb n 129) (long_net_shape_of bytes) None)) ≡ Some found → ShapeRead (n ∷ bytes) found
+console_read : (n : ℕ) (bytes : List ℕ) (found : Shape × List ℕ) (is : Bool) → IsBytes bytes → eqb n 3 ≡ is → cond is (Some (Console, bytes)) (cond (eqb n 4) (Some (Entropy, bytes)) (late_shape_of n bytes)) ≡ Some found → ShapeRead (n ∷ bytes) found
 unfolding spelled_shape
 console_read n bytes found true are three e =
     subst (λ (y : Shape × List ℕ). ShapeRead (n ∷ bytes) y) (same_found (Console, bytes) found e) (record { good = tt; whole = ap (λ (k : ℕ). k ∷ bytes) (eqb-true n 3 three) })
 console_read n bytes found false are three e = entropy_read n bytes found (eqb n 4) are refl e
 
 from_block_read : (n : ℕ) (bytes : List ℕ) (found : Shape × List ℕ) (is : Bool) → IsBytes bytes → eqb n 2 ≡ is
-    → cond is (block_shape_of bytes) (cond (eqb n 3) (Some (Console, bytes)) (cond (eqb n 4) (Some (Entropy, bytes)) (cond (eqb n 129) (long_net_shape_of bytes) None))) ≡ Some found → ShapeRead (n ∷ bytes) found
+    → cond is (block_shape_of bytes) (cond (eqb n 3) (Some (Console, bytes)) (cond (eqb n 4) (Some (Entropy, bytes)) (late_shape_of n bytes))) ≡ Some found → ShapeRead (n ∷ bytes) found
 from_block_read n bytes found true are two e = block_read n bytes found are (eqb-true n 2 two) e
 from_block_read n bytes found false are two e = console_read n bytes found (eqb n 3) are refl e
 
 shape_read : (n : ℕ) (bytes : List ℕ) (found : Shape × List ℕ) (is : Bool) → IsBytes bytes → eqb n 1 ≡ is
-    → cond is (net_shape_of bytes) (cond (eqb n 2) (block_shape_of bytes) (cond (eqb n 3) (Some (Console, bytes)) (cond (eqb n 4) (Some (Entropy, bytes)) (cond (eqb n 129) (long_net_shape_of bytes) None)))) ≡ Some found → ShapeRead (n ∷ bytes) found
+    → cond is (net_shape_of bytes) (cond (eqb n 2) (block_shape_of bytes) (cond (eqb n 3) (Some (Console, bytes)) (cond (eqb n 4) (Some (Entropy, bytes)) (late_shape_of n bytes)))) ≡ Some found → ShapeRead (n ∷ bytes) found
 shape_read n bytes found true are one e = net_read n bytes found are (eqb-true n 1 one) e
 shape_read n bytes found false are one e = from_block_read n bytes found (eqb n 2) are refl e
 
@@ -201,13 +244,15 @@ no_shape bytes none s rest good is = let read = ap shape_of is ∙ shape_of-spel
 
 -- The number of a shape is known within these limits.
 abbrev pub IsKnown : Limits → Shape → Type 0
-IsKnown limits (LongNet mac longest) = 1514 < limits.frame
+IsKnown limits (LongNet mac longest) = allow_late limits ≡ true
+IsKnown limits (Outside sectors read_only id) = allow_late limits ≡ true
 IsKnown limits _ = Unit {0}
 
 pub known_within : (limits : Limits) (s : Shape) → IsSoundShape s → IsShapeWithin limits s → IsKnown limits s
 known_within limits (Net mac) good within = tt
-known_within limits (LongNet mac longest) good within = omega (arith, within, good.longer)
+known_within limits (LongNet mac longest) good within = late_within limits (LongNet mac longest) refl (record { sound = good; within = within })
 known_within limits (Block sectors read_only id) good within = tt
+known_within limits (Outside sectors read_only id) good within = late_within limits (Outside sectors read_only id) refl (record { sound = good; within = within })
 known_within limits Console good within = tt
 known_within limits Entropy good within = tt
 
@@ -224,11 +269,15 @@ length_shape limits (Net mac) good within = record { number = 1; others = mac; i
 length_shape limits (LongNet mac longest) good within =
     let others = mac ++ digits 2 longest in
     let size : suc (length others) ≡ 9 = omega (arith, length-append mac (digits 2 longest), length-digits 2 longest, good.address.size) in
-    record { number = 129; others = others; is = refl; long = rw (lt-ltb 1514 limits.frame within) (ap some (sym size)) }
+    record { number = 129; others = others; is = refl; long = rw within (ap some (sym size)) }
 length_shape limits (Block sectors read_only id) good within =
     let others = digits 8 sectors ++ (flag read_only ∷ id) in
     let size : suc (length others) ≡ 30 = omega (arith, length-append (digits 8 sectors) (flag read_only ∷ id), length-digits 8 sectors, good.id_size) in
     record { number = 2; others = others; is = refl; long = ap some (sym size) }
+length_shape limits (Outside sectors read_only id) good within =
+    let others = digits 8 sectors ++ (flag read_only ∷ id) in
+    let size : suc (length others) ≡ 30 = omega (arith, length-append (digits 8 sectors) (flag read_only ∷ id), length-digits 8 sectors, good.id_size) in
+    record { number = 130; others = others; is = refl; long = rw within (ap some (sym size)) }
 length_shape limits Console good within = record { number = 3; others = []; is = refl; long = refl }
 length_shape limits Entropy good within = record { number = 4; others = []; is = refl; long = refl }
 

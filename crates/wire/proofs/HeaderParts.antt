@@ -1,5 +1,5 @@
 -- Headers as far as they came, and their faults.
-use Rattle.std.proofs.Common.{◌≡◌, ◌≢◌, ◌&&◌, nat_lt, Bool, true, false, cond, eqb, ℕ, zero, suc, ◌+◌, ◌<◌, ◌≤◌, ◌⊎◌, inl, inr, List, [], ◌∷◌, ◌++◌, length, take, drop, Option, Some, None, refl, sym, ap, subst, ◌∙◌, append_assoc, append-nil, arith}
+use Rattle.std.proofs.Common.{◌≡◌, ◌≢◌, ◌&&◌, Bool, true, false, cond, eqb, ℕ, zero, suc, ◌+◌, ◌<◌, ◌≤◌, ◌⊎◌, inl, inr, List, [], ◌∷◌, ◌++◌, length, take, drop, Option, Some, None, refl, sym, ap, subst, ◌∙◌, append_assoc, append-nil, arith}
 use Rattle.std.specs.Prelude.{All}
 use Rattle.std.specs.List.{AllByRecursion, list_any}
 use Rattle.std.proofs.lemmas.List.{take-append-drop, length-append, length-take, drop_at}
@@ -9,10 +9,9 @@ use Rattle.machine.specs.Limits.{AreWithin, IsShapeWithin, greatest, usual}
 use Rattle.machine.specs.Sound.{IsSoundShape}
 use Rattle.machine.specs.declared.limits.Limits.{Limits}
 use Rattle.machine.specs.declared.shape.Shape.{Shape}
-use Rattle.wire.specs.Header.{front, is_long, spelled_shape, spelled_shapes, Begins, Opening, IsVersion, shape_length}
-use Rattle.machine.specs.declared.shape.Shape.TheVariants.{Net, LongNet, Block, Console, Entropy}
-use Rattle.std.proofs.lemmas.Bool.{ltb-true}
-use Rattle.wire.specs.Numbers.{digits}
+use Rattle.wire.specs.Header.{allow_late, front, is_late, spelled_shape, spelled_shapes, Begins, Opening, IsVersion, shape_length}
+use Rattle.machine.specs.declared.shape.Shape.TheVariants.{Net, LongNet, Block, Outside, Console, Entropy}
+use Rattle.wire.specs.Numbers.{digits, flag}
 use Rattle.wire.specs.HeaderFaults.{IsBeyond, IsShapeFor, IsUnknown, MayCount, IsBadMagic, IsBadVersion, IsRead, Says, IsBadCount, IsNoShape, IsBadShape, IsPlain, IsHeaderPart, OnFault, ShowsFault, limits_in}
 use Rattle.wire.specs.HeaderParts.{ShapeWaits, BadFirst, FewShapes, ShapesWait, ShapesBad, ShapesRead, OnBad}
 use Rattle.wire.specs.ShapeReading.{shape_of}
@@ -22,7 +21,7 @@ use Rattle.wire.proofs.Choices.{same_found}
 use Rattle.wire.proofs.HeaderLemmas.{HeadSays, IsKnown, known_within, head_says, head_spelled, head_written, length_shape, no_shape, shape_of-spelled}
 use Rattle.wire.proofs.PartLengths.{length-front}
 use Rattle.wire.proofs.Spelling.{head_same, split_same}
-use Rattle.wire.proofs.Versions.{any_long, for_each_version, for_its_version, long_is_late}
+use Rattle.wire.proofs.Versions.{any_late, for_each_version, for_its_version, late_is_third}
 
 -- One list of shapes is the beginning of the other.
 
@@ -83,7 +82,7 @@ in_version {bytes} {opening} {rest} l w b =
 read_of : {bytes : List ℕ} {opening : Opening} {rest : List ℕ} (l : Limits) → AreWithin l opening.pages opening.shapes → Begins bytes opening rest → IsRead l opening.version
 read_of {bytes} {opening} {rest} l w b = record {
   known = b.good.known;
-  late = λ third. any_long l opening.shapes (recursion_from_All (IsShapeFor l) opening.shapes (are_for l bytes opening rest w b)) (b.good.has.0 (omega (arith, third, b.good.known.most)));
+  late = λ third. any_late l opening.shapes (recursion_from_All (IsShapeFor l) opening.shapes (are_for l bytes opening rest w b)) (b.good.has.0 (omega (arith, third, b.good.known.most)));
 }
 
 -- No wrong shape is spelled.
@@ -161,7 +160,7 @@ has_some false n other some others len e = others len e
 pub some_length : (l : Limits) (number len : ℕ) → shape_length l number ≡ Some len → 0 < len
 some_length l number len e =
     has_some (eqb number 1) 7 _ (omega arith) (has_some (eqb number 2) 30 _ (omega arith)
-    (has_some (eqb number 3) 1 _ (omega arith) (has_some (eqb number 4) 1 _ (omega arith) (has_some (eqb number 129 && nat_lt 1514 l.frame) 9 None (omega arith) (λ n none. absurd cc))))) len e
+    (has_some (eqb number 3) 1 _ (omega arith) (has_some (eqb number 4) 1 _ (omega arith) (has_some (eqb number 129 && allow_late l) 9 _ (omega arith) (has_some (eqb number 130 && allow_late l) 30 None (omega arith) (λ n none. absurd cc)))))) len e
 
 -- No shape has more than 30.
 few_by : (b : Bool) (n : ℕ) (other : Option ℕ) → n ≤ 30 → ((len : ℕ) → other ≡ Some len → len ≤ 30) → (len : ℕ) → cond b (Some n) other ≡ Some len → len ≤ 30
@@ -171,12 +170,14 @@ few_by false n other few others len e = others len e
 pub few_length : (l : Limits) (number len : ℕ) → shape_length l number ≡ Some len → len ≤ 30
 few_length l number len e =
     few_by (eqb number 1) 7 _ (omega arith) (few_by (eqb number 2) 30 _ (omega arith)
-    (few_by (eqb number 3) 1 _ (omega arith) (few_by (eqb number 4) 1 _ (omega arith) (few_by (eqb number 129 && nat_lt 1514 l.frame) 9 None (omega arith) (λ n none. absurd cc))))) len e
+    (few_by (eqb number 3) 1 _ (omega arith) (few_by (eqb number 4) 1 _ (omega arith) (few_by (eqb number 129 && allow_late l) 9 _ (omega arith) (few_by (eqb number 130 && allow_late l) 30 None (omega arith) (λ n none. absurd cc)))))) len e
 
 known_greatest : (s : Shape) → IsKnown greatest s
+unfolding allow_late
 known_greatest (Net mac) = tt
-known_greatest (LongNet mac longest) = omega arith
+known_greatest (LongNet mac longest) = refl
 known_greatest (Block sectors read_only id) = tt
+known_greatest (Outside sectors read_only id) = refl
 known_greatest Console = tt
 known_greatest Entropy = tt
 
@@ -220,15 +221,22 @@ over_known l bytes rest s good whole out known =
       });
     }
 
-over_long : (l : Limits) (bytes rest mac : List ℕ) (longest : ℕ) (long : Bool) → nat_lt 1514 l.frame ≡ long → IsSoundShape (LongNet mac longest) → bytes ≡ spelled_shape (LongNet mac longest) ++ rest → ¬ (IsShapeWithin l (LongNet mac longest)) → BadFirst l bytes
+over_long : (l : Limits) (bytes rest mac : List ℕ) (longest : ℕ) (late : Bool) → allow_late l ≡ late → IsSoundShape (LongNet mac longest) → bytes ≡ spelled_shape (LongNet mac longest) ++ rest → ¬ (IsShapeWithin l (LongNet mac longest)) → BadFirst l bytes
 unfolding spelled_shape
-over_long l bytes rest mac longest true e good whole out = over_known l bytes rest (LongNet mac longest) good whole out (ltb-true 1514 l.frame e)
+over_long l bytes rest mac longest true e good whole out = over_known l bytes rest (LongNet mac longest) good whole out e
 over_long l bytes rest mac longest false e good whole out = unknown_shape l 129 bytes ((mac ++ digits 2 longest) ++ rest) whole (rw e refl)
+
+over_outside : (l : Limits) (bytes rest : List ℕ) (sectors : ℕ) (read_only : Bool) (id : List ℕ) (late : Bool) → allow_late l ≡ late → IsSoundShape (Outside sectors read_only id) → bytes ≡ spelled_shape (Outside sectors read_only id) ++ rest
+    → ¬ (IsShapeWithin l (Outside sectors read_only id)) → BadFirst l bytes
+unfolding spelled_shape
+over_outside l bytes rest sectors read_only id true e good whole out = over_known l bytes rest (Outside sectors read_only id) good whole out e
+over_outside l bytes rest sectors read_only id false e good whole out = unknown_shape l 130 bytes ((digits 8 sectors ++ (flag read_only ∷ id)) ++ rest) whole (rw e refl)
 
 pub over_shape : (l : Limits) (bytes rest : List ℕ) (s : Shape) → IsSoundShape s → bytes ≡ spelled_shape s ++ rest → ¬ (IsShapeWithin l s) → BadFirst l bytes
 over_shape l bytes rest (Net mac) good whole out = over_known l bytes rest (Net mac) good whole out tt
-over_shape l bytes rest (LongNet mac longest) good whole out = over_long l bytes rest mac longest (nat_lt 1514 l.frame) refl good whole out
+over_shape l bytes rest (LongNet mac longest) good whole out = over_long l bytes rest mac longest (allow_late l) refl good whole out
 over_shape l bytes rest (Block sectors read_only id) good whole out = over_known l bytes rest (Block sectors read_only id) good whole out tt
+over_shape l bytes rest (Outside sectors read_only id) good whole out = over_outside l bytes rest sectors read_only id (allow_late l) refl good whole out
 over_shape l bytes rest Console good whole out = over_known l bytes rest Console good whole out tt
 over_shape l bytes rest Entropy good whole out = over_known l bytes rest Entropy good whole out tt
 
@@ -275,14 +283,14 @@ says_of {opening = opening} {rest = rest} b =
 pub shapes_behind : {bytes : List ℕ} {opening : Opening} {rest : List ℕ} → Begins bytes opening rest → drop 16 bytes ≡ spelled_shapes opening.shapes ++ rest
 shapes_behind {opening = opening} {rest = rest} b = ap (drop 16) (grouped b) ∙ drop_at (front opening.version opening.pages (length opening.shapes)) (spelled_shapes opening.shapes ++ rest) 16 (length-front opening.version opening.pages (length opening.shapes))
 
--- A version that has a device for long frames is the third.
-third : (l : Limits) (version count : ℕ) (bytes rest : List ℕ) (ss : List Shape) → IsVersion version → ShapesRead (limits_in version l) count bytes ss rest → list_any is_long ss ≡ true → version ≡ 3
-third l version count bytes rest ss known read long =
-    let late = long_is_late l version (any_long (limits_in version l) ss (recursion_from_All (IsShapeFor (limits_in version l)) ss read.sound) long) in
-    omega (arith, known.most, late)
+-- A version that has a device since version 3 is the third.
+third : (l : Limits) (version count : ℕ) (bytes rest : List ℕ) (ss : List Shape) → IsVersion version → ShapesRead (limits_in version l) count bytes ss rest → list_any is_late ss ≡ true → version ≡ 3
+third l version count bytes rest ss known read late =
+    let least = late_is_third l version (any_late (limits_in version l) ss (recursion_from_All (IsShapeFor (limits_in version l)) ss read.sound) late) in
+    omega (arith, known.most, least)
 
 pub begins_so : (l : Limits) (bytes : List ℕ) (version pages count : ℕ) (ss : List Shape) (rest : List ℕ) → l.pages ≤ 4294967295 → IsBytes bytes → version ≡ number_at bytes 4 4 → Says l bytes pages count → MayCount l pages count
-    → ShapesRead (limits_in version l) count (drop 16 bytes) ss rest → (version ≡ 3 → list_any is_long ss ≡ true) → Begins bytes (record { version = version; pages = pages; shapes = ss }) rest
+    → ShapesRead (limits_in version l) count (drop 16 bytes) ss rest → (version ≡ 3 → list_any is_late ss ≡ true) → Begins bytes (record { version = version; pages = pages; shapes = ss }) rest
 begins_so l bytes version pages count ss rest most are is says may read late =
     let known : IsVersion version = subst IsVersion (sym is) says.known.known in
     let written = head_written bytes version pages count are (record { long = says.long; magic = says.magic; version_is = sym is; pages_are = says.pages_are; count_is = says.count_is }) in
@@ -294,7 +302,7 @@ begins_so l bytes version pages count ss rest most are is says may read late =
         some_device = omega (arith, may.some_device, read.count_is);
         few_devices = omega (arith, may.few_devices, read.count_is);
         sound = are_sound (limits_in version l) ss read.sound;
-        has = (late, λ long. third l version count (drop 16 bytes) rest ss known read long);
+        has = (late, λ is. third l version count (drop 16 bytes) rest ss known read is);
       };
       whole =
           written
@@ -388,9 +396,9 @@ told_shapes l bytes pages count errors.NoMemory says may h = tt
 told_shapes l bytes pages count errors.BadMagic says may h = absurd h
 told_shapes l bytes pages count errors.BadVersion says may h = absurd h
 
--- Version 3 without a device for long frames.
+-- Version 3 without a device that only it has.
 pub plain_third : (l : Limits) (bytes : List ℕ) (pages count : ℕ) (ss : List Shape) (rest : List ℕ) → Says l bytes pages count → MayCount l pages count → ShapesRead (limits_in (number_at bytes 4 4) l) count (drop 16 bytes) ss rest
-    → number_at bytes 4 4 ≡ 3 → list_any is_long ss ≡ false → (at : ℕ) × ShowsFault l errors.BadVersion bytes at
+    → number_at bytes 4 4 ≡ 3 → list_any is_late ss ≡ false → (at : ℕ) × ShowsFault l errors.BadVersion bytes at
 plain_third l bytes pages count ss rest says may read late none = (
   16 + length (spelled_shapes ss),
   inr (record {
@@ -430,19 +438,19 @@ not_bad_whole : (limits : Limits) (ss ts : List Shape) (bad x y : List ℕ) → 
 not_bad_whole limits ss ts bad x y good n lt (inl l) = omega (arith, lt, ap length l.all, length-append ss l.more)
 not_bad_whole limits ss ts bad x y good n lt (inr l) = bad_within limits l.more bad x y (sound_behind (IsShapeFor limits) ts l.more ss l.all good) n (omega (arith, lt, ap length l.all, length-append ts l.more)) l.left
 
--- A header of version 3 has a device for long frames.
+-- A header of version 3 has a device that only it has.
 plain_not_begun : (l : Limits) (bytes : List ℕ) (opening : Opening) (rest : List ℕ) (ss : List Shape) (more : List ℕ) → Begins bytes opening rest → number_at bytes 12 4 ≡ length ss → All IsSoundShape ss → drop 16 bytes ≡ spelled_shapes ss ++ more
-    → number_at bytes 4 4 ≡ 3 → list_any is_long ss ≡ false → ⊥
+    → number_at bytes 4 4 ≡ 3 → list_any is_late ss ≡ false → ⊥
 plain_not_begun l bytes opening rest ss more b count sound whole late none =
     let says = says_of b in
     let same : opening.shapes ≡ ss = shapes_same opening.shapes ss rest more (sym says.count_is ∙ count) (shapes_led opening.shapes ss rest more b.good.sound sound (sym (shapes_behind b) ∙ whole)) in
-    not_both_ways (list_any is_long opening.shapes) (b.good.has.0 (sym says.version_is ∙ late)) (ap (list_any is_long) same ∙ none)
+    not_both_ways (list_any is_late opening.shapes) (b.good.has.0 (sym says.version_is ∙ late)) (ap (list_any is_late) same ∙ none)
 
 -- Nor has it a wrong shape, where it is whole.
 pub plain_not_bad : (l : Limits) (bytes : List ℕ) (p q : ℕ) → IsPlain l bytes p → IsBadShape l bytes q → ⊥
 plain_not_bad l bytes p q f h =
     let limits = limits_in (number_at bytes 4 4) l in
-    let within : All (IsShapeFor limits) f.shapes = All-from_recursion (IsShapeFor limits) f.shapes (for_its_version l (number_at bytes 4 4) f.shapes (λ long. f.late) (recursion_from_All (IsShapeFor l) f.shapes f.sound)) in
+    let within : All (IsShapeFor limits) f.shapes = All-from_recursion (IsShapeFor limits) f.shapes (for_its_version l (number_at bytes 4 4) f.shapes (λ late. f.late) (recursion_from_All (IsShapeFor l) f.shapes f.sound)) in
     not_bad_whole limits f.shapes h.shapes h.bad f.more h.more within h.never (omega (arith, h.fewer, sym h.says.count_is ∙ f.says.count_is)) (shapes_led f.shapes h.shapes f.more (h.bad ++ h.more) (are_sound l f.shapes f.sound) (are_sound limits h.shapes h.sound) (sym f.whole ∙ h.whole))
 
 pub begun_without_fault : (l : Limits) (bytes : List ℕ) (opening : Opening) (rest : List ℕ) → AreWithin l opening.pages opening.shapes → Begins bytes opening rest → (k : HeaderError) (at : ℕ) → ¬ (ShowsFault l k bytes at)

@@ -24,7 +24,7 @@ use Rattle.console.specs.Shape.{AreHostBytes, IsSoundConsole}
 use Rattle.machine.specs.declared.kind.Kind.{Kind}
 use Rattle.machine.specs.declared.kind.Kind.TheVariants as kinds
 use Rattle.machine.specs.declared.shape.Shape.{Shape}
-use Rattle.machine.specs.declared.shape.Shape.TheVariants.{Net, LongNet, Block, Console, Entropy}
+use Rattle.machine.specs.declared.shape.Shape.TheVariants.{Net, LongNet, Block, Outside, Console, Entropy}
 use Rattle.wire.specs.Numbers.{Fit, digits}
 use Rattle.wire.specs.RequestText.{request_text, requests_text}
 use Rattle.wire.specs.RequestReading.{request_of}
@@ -32,7 +32,7 @@ use Rattle.wire.specs.Several.{several}
 use Rattle.wire.specs.DeviceBody.{held_text, kind_text, size_numbers, size_text, size_widths}
 use Rattle.wire.specs.FrameReading.{frame_of}
 use Rattle.wire.specs.FrameText.{frame_text, frames_text}
-use Rattle.wire.specs.BodyReading.{block_with, all_of, block_kind_in, console_kind_in, entropy_kind_in, held_of, net_kind_in, kind_in, console_size_from, console_size_of, net_with}
+use Rattle.wire.specs.BodyReading.{block_in, block_with, all_of, console_kind_in, entropy_kind_in, held_of, net_kind_in, kind_in, console_size_from, console_size_of, net_with}
 use Rattle.wire.proofs.Choices.{map_found, same_found, not_chosen, neither, so}
 use Rattle.wire.proofs.Digits.{digits-number_at, number_at-digits, numbers-spelled, spelled-numbers, length-digits, IsBytes-digits, IsBytes-append, IsBytes-spelled}
 use Rattle.wire.proofs.FrameLemmas.{frame_of-text, frames_bytes, frames_short, text-frame_of, frames_together}
@@ -132,18 +132,18 @@ console_written bytes o are e =
     sym (take-append-drop 4 bytes) ∙ ap (λ (x : List ℕ). x ++ drop 4 bytes) (sym size) ∙ ap (λ (x : List ℕ). size_text (console_size_of bytes) ++ x) held ∙ ap kind_text found.2
 
 -- Things behind which nothing stands.
-record AllRead {A : Type 0} (has : List A → Kind) (found : Option (List A × List ℕ)) (o : Kind) : Type 0 where
+record AllRead {A B : Type 0} (has : List A → B) (found : Option (List A × List ℕ)) (o : B) : Type 0 where
   pub things : List A
   pub found_is : found ≡ Some (things, [])
-  pub kind_is : o ≡ has things
+  pub is : o ≡ has things
 
-none_left : {A : Type 0} (has : List A → Kind) (xs : List A) (rest : List ℕ) (o : Kind) (b : Bool) → eqb (length rest) 0 ≡ b → cond b (Some (has xs)) None ≡ Some o → AllRead has (Some (xs, rest)) o
-none_left has xs [] o true e is = record { things = xs; found_is = refl; kind_is = sym (same_found (has xs) o is) }
+none_left : {A B : Type 0} (has : List A → B) (xs : List A) (rest : List ℕ) (o : B) (b : Bool) → eqb (length rest) 0 ≡ b → cond b (Some (has xs)) None ≡ Some o → AllRead has (Some (xs, rest)) o
+none_left has xs [] o true e is = record { things = xs; found_is = refl; is = sym (same_found (has xs) o is) }
 none_left has xs [] o false e is = absurd cc
 none_left has xs (x ∷ rest) o true e is = absurd (let zero = eqb-true (length (x ∷ rest)) 0 e in omega (arith, zero))
 none_left has xs (x ∷ rest) o false e is = absurd cc
 
-all_read : {A : Type 0} (has : List A → Kind) (found : Option (List A × List ℕ)) (o : Kind) → all_of has found ≡ Some o → AllRead has found o
+all_read : {A B : Type 0} (has : List A → B) (found : Option (List A × List ℕ)) (o : B) → all_of has found ≡ Some o → AllRead has found o
 all_read has None o e = absurd cc
 all_read has (Some found) o e = none_left has found.0 found.1 o (eqb (length found.1) 0) refl e
 
@@ -193,12 +193,12 @@ frames_written mac longest bytes o are e =
     let were = spelled-several (frame_of longest) frame_text (IsFrame longest) (text-frame_of longest) (number_at bytes 0 2) (drop 2 bytes) (all.things, []) (IsBytes-drop 2 bytes are) all.found_is in
     let texts : drop 2 bytes ≡ flat_map frame_text all.things = were.whole ∙ append-nil (flat_map frame_text all.things) in
     let two : digits 2 (length all.things) ≡ take 2 bytes = ap (digits 2) were.count ∙ digits-number_at 2 bytes 0 are (ltb-false (length bytes) 2 long.0) in
-    sym (take-append-drop 2 bytes) ∙ ap (λ (x : List ℕ). x ++ drop 2 bytes) (sym two) ∙ ap (λ (x : List ℕ). digits 2 (length all.things) ++ x) texts ∙ ap kind_text (sym all.kind_is)
+    sym (take-append-drop 2 bytes) ∙ ap (λ (x : List ℕ). x ++ drop 2 bytes) (sym two) ∙ ap (λ (x : List ℕ). digits 2 (length all.things) ++ x) texts ∙ ap kind_text (sym all.is)
 
 -- Of a block device.
 
-requests_read : (sectors : ℕ) (read_only : Bool) (id : List ℕ) (rs : List Request) → RequestsFit rs → block_kind_in sectors read_only id (requests_text rs) ≡ Some (block_with sectors read_only id rs)
-unfolding block_kind_in
+requests_read : (sectors : ℕ) (read_only : Bool) (id : List ℕ) (rs : List Request) → RequestsFit rs → block_in sectors read_only id (requests_text rs) ≡ Some (block_with sectors read_only id rs)
+unfolding block_in
 requests_read sectors read_only id rs fit =
     let few : nat_lt 8 (length rs) ≡ false = le-ltb _ _ fit.few in
     let all : several request_of (length rs) (flat_map request_text rs) ≡ Some (rs, []) =
@@ -209,22 +209,45 @@ requests_short : (rs : List Request) → AllByRecursion HasFewSegments rs → le
 requests_short [] h = omega arith
 requests_short (r ∷ rs) h = omega (arith, length-append (request_text r) (flat_map request_text rs), length-request_text r, h.0, requests_short rs h.1)
 
-requests_own : (sectors : ℕ) (read_only : Bool) (id : List ℕ) (rs : List Request) → RequestsFit rs → ReadsKind (block_with sectors read_only id rs)
-requests_own sectors read_only id rs fit = record {
-  read = requests_read sectors read_only id rs fit;
-  bytes = IsBytes-append (digits 1 (length rs)) (flat_map request_text rs) (IsBytes-digits 1 (length rs) (omega (arith, fit.few))) (requests_bytes rs fit.each);
-  short = omega (arith, length-append (digits 1 (length rs)) (flat_map request_text rs), requests_short rs fit.short, fit.few);
+requests_are : (rs : List Request) → RequestsFit rs → IsBytes (requests_text rs)
+requests_are rs fit = IsBytes-append (digits 1 (length rs)) (flat_map request_text rs) (IsBytes-digits 1 (length rs) (omega (arith, fit.few))) (requests_bytes rs fit.each)
+
+requests_few : (rs : List Request) → RequestsFit rs → length (requests_text rs) ≤ 130000
+requests_few rs fit = omega (arith, length-append (digits 1 (length rs)) (flat_map request_text rs), requests_short rs fit.short, fit.few)
+
+block_own : (b : blocks.Block) → RequestsFit b.requests → ReadsKind (kinds.Block b)
+block_own b fit = record {
+  read = ap (option_map kinds.Block) (requests_read b.sectors b.read_only b.id b.requests fit);
+  bytes = requests_are b.requests fit;
+  short = requests_few b.requests fit;
 }
 
-requests_written : (sectors : ℕ) (read_only : Bool) (id bytes : List ℕ) (o : Kind) → IsBytes bytes → block_kind_in sectors read_only id bytes ≡ Some o → bytes ≡ kind_text o
-unfolding block_kind_in
-requests_written sectors read_only id [] o are e = absurd cc
-requests_written sectors read_only id (count ∷ bytes) o are e =
-    let good = not_chosen (nat_lt 8 count) _ o e in
-    let all = all_read (block_with sectors read_only id) (several request_of count bytes) o good.1 in
+outside_own : (b : blocks.Block) → RequestsFit b.requests → ReadsKind (kinds.Outside b)
+outside_own b fit = record {
+  read = ap (option_map kinds.Outside) (requests_read b.sectors b.read_only b.id b.requests fit);
+  bytes = requests_are b.requests fit;
+  short = requests_few b.requests fit;
+}
+
+requests_written : (sectors : ℕ) (read_only : Bool) (id bytes : List ℕ) (b : blocks.Block) → IsBytes bytes → block_in sectors read_only id bytes ≡ Some b → bytes ≡ requests_text b.requests
+unfolding block_in
+requests_written sectors read_only id [] b are e = absurd cc
+requests_written sectors read_only id (count ∷ bytes) b are e =
+    let good = not_chosen (nat_lt 8 count) _ b e in
+    let all = all_read (block_with sectors read_only id) (several request_of count bytes) b good.1 in
     let were = spelled-several request_of request_text Any text-request_of count bytes (all.things, []) (λ i. are (suc i)) all.found_is in
     let texts : bytes ≡ flat_map request_text all.things = were.whole ∙ append-nil (flat_map request_text all.things) in
-    ap (λ (x : List ℕ). count ∷ x) texts ∙ ap (λ (n : ℕ). n ∷ flat_map request_text all.things) (sym were.count) ∙ ap kind_text (sym all.kind_is)
+    ap (λ (x : List ℕ). count ∷ x) texts ∙ ap (λ (n : ℕ). n ∷ flat_map request_text all.things) (sym were.count) ∙ ap (λ (x : blocks.Block). requests_text x.requests) (sym all.is)
+
+block_written : (sectors : ℕ) (read_only : Bool) (id bytes : List ℕ) (o : Kind) → IsBytes bytes → kind_in (Block sectors read_only id) bytes ≡ Some o → bytes ≡ kind_text o
+block_written sectors read_only id bytes o are e =
+    let found = map_found kinds.Block (block_in sectors read_only id bytes) o e in
+    requests_written sectors read_only id bytes found.0 are found.1 ∙ ap kind_text found.2
+
+outside_written : (sectors : ℕ) (read_only : Bool) (id bytes : List ℕ) (o : Kind) → IsBytes bytes → kind_in (Outside sectors read_only id) bytes ≡ Some o → bytes ≡ kind_text o
+outside_written sectors read_only id bytes o are e =
+    let found = map_found kinds.Outside (block_in sectors read_only id bytes) o e in
+    requests_written sectors read_only id bytes found.0 are found.1 ∙ ap kind_text found.2
 
 -- Of any device.
 
@@ -235,12 +258,13 @@ long_written mac longest bytes o false are e = absurd cc
 pub kind_written : (s : Shape) (bytes : List ℕ) (o : Kind) → IsBytes bytes → kind_in s bytes ≡ Some o → bytes ≡ kind_text o
 kind_written (Net mac) bytes o are e = frames_written mac 1514 bytes o are e
 kind_written (LongNet mac longest) bytes o are e = long_written mac longest bytes o (ltb 1514 longest) are e
-kind_written (Block sectors read_only id) bytes o are e = requests_written sectors read_only id bytes o are e
+kind_written (Block sectors read_only id) bytes o are e = block_written sectors read_only id bytes o are e
+kind_written (Outside sectors read_only id) bytes o are e = outside_written sectors read_only id bytes o are e
 kind_written Console bytes o are e = console_written bytes o are e
 kind_written Entropy bytes o are e = pool_written bytes o are e
 
 -- The requests of a device's first queue.
-queue_requests : (base len : ℕ) (block : blocks.Block) (r : Registers) (found : Option Queue) → queue_at r 0 ≡ found → block.sectors ≤ 4294967295 → IsSoundRegisters r
+queue_requests : (base len : ℕ) (block : blocks.Block) (r : Registers) (found : Option Queue) → queue_at r 0 ≡ found → block.sectors ≤ 18014398509481984 → IsSoundRegisters r
     → IsSomeAnd found (λ q. AreRequestsOf base len (is_packed_by r.common) q (limits_of block r.common.features) block.requests) → RequestsFit block.requests
 queue_requests base len block r None at few sound are = absurd are
 queue_requests base len block r (Some q) at few sound are =
@@ -252,13 +276,15 @@ kind_reads len r (kinds.Network mac inbox) shape sound are =
     let longest = net_longest mac inbox.longest (eqb inbox.longest 1514) refl shape in
     frames_own mac inbox longest.0 longest.1 are
 kind_reads len r (kinds.Block block) shape sound are =
-    requests_own block.sectors block.read_only block.id block.requests (queue_requests r.ram_base len block r (queue_at r 0) refl shape.few sound are)
+    block_own block (queue_requests r.ram_base len block r (queue_at r 0) refl (omega (arith, shape.few)) sound are)
+kind_reads len r (kinds.Outside block) shape sound are =
+    outside_own block (queue_requests r.ram_base len block r (queue_at r 0) refl shape.few sound are)
 kind_reads len r (kinds.Console size held) shape sound are = console_own size held are
 kind_reads len r (kinds.Entropy pool) shape sound are = pool_own pool are
 
 -- What is read is of the shape that was asked for.
 all_made : {A : Type 0} (has : List A → Kind) (shape : Shape) → ((things : List A) → made_as (has things) ≡ shape) → (found : Option (List A × List ℕ)) (o : Kind) → all_of has found ≡ Some o → made_as o ≡ shape
-all_made has shape each found o e = let all = all_read has found o e in ap made_as all.kind_is ∙ each all.things
+all_made has shape each found o e = let all = all_read has found o e in ap made_as all.is ∙ each all.things
 
 frames_made : (mac : List ℕ) (longest : ℕ) (bytes : List ℕ) (o : Kind) → net_kind_in mac longest bytes ≡ Some o → made_as o ≡ net_as mac longest
 unfolding net_kind_in
@@ -271,11 +297,29 @@ long_made mac longest bytes o true is e =
     frames_made mac longest bytes o e ∙ rw (ne_eqb longest 1514 (λ (same : longest ≡ 1514). omega (arith, same, more))) refl
 long_made mac longest bytes o false is e = absurd cc
 
-requests_made : (sectors : ℕ) (read_only : Bool) (id bytes : List ℕ) (o : Kind) → block_kind_in sectors read_only id bytes ≡ Some o → made_as o ≡ Block sectors read_only id
-unfolding block_kind_in
-requests_made sectors read_only id [] o e = absurd cc
-requests_made sectors read_only id (count ∷ bytes) o e =
-    all_made (block_with sectors read_only id) (Block sectors read_only id) (λ things. refl) (several request_of count bytes) o (not_chosen (nat_lt 8 count) _ o e).1
+-- The block that is read is as it was asked for, with some requests.
+record HasRequests (sectors : ℕ) (read_only : Bool) (id : List ℕ) (b : blocks.Block) : Type 0 where
+  pub requests : List Request
+  pub is : b ≡ block_with sectors read_only id requests
+
+requests_had : (sectors : ℕ) (read_only : Bool) (id bytes : List ℕ) (b : blocks.Block) → block_in sectors read_only id bytes ≡ Some b → HasRequests sectors read_only id b
+unfolding block_in
+requests_had sectors read_only id [] b e = absurd cc
+requests_had sectors read_only id (count ∷ bytes) b e =
+    let all = all_read (block_with sectors read_only id) (several request_of count bytes) b (not_chosen (nat_lt 8 count) _ b e).1 in
+    record { requests = all.things; is = all.is }
+
+block_made : (sectors : ℕ) (read_only : Bool) (id bytes : List ℕ) (o : Kind) → kind_in (Block sectors read_only id) bytes ≡ Some o → made_as o ≡ Block sectors read_only id
+block_made sectors read_only id bytes o e =
+    let found = map_found kinds.Block (block_in sectors read_only id bytes) o e in
+    let had = requests_had sectors read_only id bytes found.0 found.1 in
+    ap made_as (sym found.2) ∙ ap (λ (x : blocks.Block). made_as (kinds.Block x)) had.is
+
+outside_made : (sectors : ℕ) (read_only : Bool) (id bytes : List ℕ) (o : Kind) → kind_in (Outside sectors read_only id) bytes ≡ Some o → made_as o ≡ Outside sectors read_only id
+outside_made sectors read_only id bytes o e =
+    let found = map_found kinds.Outside (block_in sectors read_only id bytes) o e in
+    let had = requests_had sectors read_only id bytes found.0 found.1 in
+    ap made_as (sym found.2) ∙ ap (λ (x : blocks.Block). made_as (kinds.Outside x)) had.is
 
 console_made : (bytes : List ℕ) (o : Kind) → console_kind_in bytes ≡ Some o → made_as o ≡ Console
 unfolding console_kind_in
@@ -284,6 +328,7 @@ console_made bytes o e = ap made_as (sym (map_found (kinds.Console (console_size
 pub kind_made : (s : Shape) (bytes : List ℕ) (o : Kind) → kind_in s bytes ≡ Some o → made_as o ≡ s
 kind_made (Net mac) bytes o e = frames_made mac 1514 bytes o e
 kind_made (LongNet mac longest) bytes o e = long_made mac longest bytes o (ltb 1514 longest) refl e
-kind_made (Block sectors read_only id) bytes o e = requests_made sectors read_only id bytes o e
+kind_made (Block sectors read_only id) bytes o e = block_made sectors read_only id bytes o e
+kind_made (Outside sectors read_only id) bytes o e = outside_made sectors read_only id bytes o e
 kind_made Console bytes o e = console_made bytes o e
 kind_made Entropy bytes o e = ap made_as (sym (map_found kinds.Entropy (held_of bytes) o e).2)

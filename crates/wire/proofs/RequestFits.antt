@@ -41,20 +41,22 @@ record FitsWork (first units done : ℕ) : Type 0 where
   pub units_fit : units < 2 ^ 32
   pub done_fits : done < 2 ^ 32
 
-small_work : (first units done : ℕ) → first + units ≤ 4294967295 → done ≤ units → FitsWork first units done
-small_work first units done few some = record { first_fits = omega (arith, few); units_fit = omega (arith, few); done_fits = omega (arith, few, some) }
+small_work : (first units done : ℕ) → first + units ≤ 18014398509481984 → units < 2 ^ 32 → done ≤ units → FitsWork first units done
+small_work first units done within few some = record { first_fits = omega (arith, within); units_fit = few; done_fits = omega (arith, few, some) }
 
-work_fits : (k : Kind) (readable writable : ℕ) (limits : Limits) (v : Verdict) (first units done : ℕ) → limits.sectors ≤ 4294967295 → IsSoundWork k readable writable limits v first units done → FitsWork first units done
-work_fits Refused readable writable limits v first units done few h = small_work first units done (omega (arith, h.1, h.2)) (omega (arith, h.2, h.3))
-work_fits In readable writable limits v first units done few h = small_work first units done (omega (arith, few, h.2)) (may_end v done units h.0)
-work_fits Out readable writable limits v first units done few h = small_work first units done (omega (arith, few, h.2)) (may_end v done units h.0)
-work_fits Flush readable writable limits v first units done few h = small_work first units done (omega (arith, h.1, h.2)) (may_end v done units h.0)
-work_fits GetId readable writable limits v first units done few h = small_work first units done (omega (arith, h.2, h.3)) h.1
-work_fits Zero readable writable limits v first units done few h = small_work first units done (omega (arith, few, h.3)) (may_end v done units h.0)
+-- A disk may have more sectors than a count of units can tell, but a request has the bytes of what it moves, fewer than 2^32 in all, and
+-- one that clears has few units.
+work_fits : (k : Kind) (readable writable : ℕ) (limits : Limits) (v : Verdict) (first units done : ℕ) → limits.sectors ≤ 18014398509481984 → readable + writable < 2 ^ 32 → IsSoundWork k readable writable limits v first units done → FitsWork first units done
+work_fits Refused readable writable limits v first units done few total h = small_work first units done (omega (arith, h.1, h.2)) (omega (arith, h.2)) (omega (arith, h.2, h.3))
+work_fits In readable writable limits v first units done few total h = small_work first units done (omega (arith, few, h.2)) (omega (arith, total, h.1)) (may_end v done units h.0)
+work_fits Out readable writable limits v first units done few total h = small_work first units done (omega (arith, few, h.2)) (omega (arith, total, h.1)) (may_end v done units h.0)
+work_fits Flush readable writable limits v first units done few total h = small_work first units done (omega (arith, h.1, h.2)) (omega (arith, h.1)) (may_end v done units h.0)
+work_fits GetId readable writable limits v first units done few total h = small_work first units done (omega (arith, h.2, h.3)) (omega (arith, h.2)) h.1
+work_fits Zero readable writable limits v first units done few total h = small_work first units done (omega (arith, few, h.3)) (omega (arith, h.2)) (may_end v done units h.0)
 
-pub request_fits : (base len size : ℕ) (is_packed : Bool) (limits : Limits) (r : Request) → size ≤ 256 → limits.sectors ≤ 4294967295 → IsSoundRequest base len is_packed size limits r → FitsRequest r
+pub request_fits : (base len size : ℕ) (is_packed : Bool) (limits : Limits) (r : Request) → size ≤ 256 → limits.sectors ≤ 18014398509481984 → IsSoundRequest base len is_packed size limits r → FitsRequest r
 request_fits base len size is_packed limits r few capacity h =
-    let work = work_fits r.kind (length (places r.readable)) (length (places r.writable)) limits r.verdict r.first r.units r.done capacity h.work in
+    let work = work_fits r.kind (length (places r.readable)) (length (places r.writable)) limits r.verdict r.first r.units r.done capacity h.total h.work in
     let kind : kind_number r.kind < 256 = omega (arith, few_kinds r.kind) in
     let verdict : verdict_byte r.verdict < 256 = omega (arith, few_verdicts r.verdict) in
     let readable : length r.readable < 2 ^ 16 = omega (arith, h.few, few) in
@@ -74,7 +76,7 @@ pub record RequestsFit (rs : List Request) : Type 0 where
   pub each : AllByRecursion FitsRequest rs
   pub short : AllByRecursion HasFewSegments rs
 
-each_fits : (base len size : ℕ) (is_packed : Bool) (limits : Limits) (rs : List Request) → size ≤ 256 → limits.sectors ≤ 4294967295 → AllByRecursion (IsSoundRequest base len is_packed size limits) rs → AllByRecursion FitsRequest rs
+each_fits : (base len size : ℕ) (is_packed : Bool) (limits : Limits) (rs : List Request) → size ≤ 256 → limits.sectors ≤ 18014398509481984 → AllByRecursion (IsSoundRequest base len is_packed size limits) rs → AllByRecursion FitsRequest rs
 each_fits base len size is_packed limits [] few capacity h = tt
 each_fits base len size is_packed limits (r ∷ rs) few capacity h = (request_fits base len size is_packed limits r few capacity h.0, each_fits base len size is_packed limits rs few capacity h.1)
 
@@ -83,7 +85,7 @@ each_short base len size is_packed limits [] few h = tt
 each_short base len size is_packed limits (r ∷ rs) few h = (omega (arith, h.0.few, few), each_short base len size is_packed limits rs few h.1)
 
 -- Where there are requests, the queue is ready, so it has at most 256 slots.
-fit_by : {r_base r_len : ℕ} (base len : ℕ) (is_packed : Bool) (q : Queue) (c : Common) (limits : Limits) (rs : List Request) (is_ready : Bool) → q.is_ready ≡ is_ready → limits.sectors ≤ 4294967295 → IsSoundQueue r_base r_len c q
+fit_by : {r_base r_len : ℕ} (base len : ℕ) (is_packed : Bool) (q : Queue) (c : Common) (limits : Limits) (rs : List Request) (is_ready : Bool) → q.is_ready ≡ is_ready → limits.sectors ≤ 18014398509481984 → IsSoundQueue r_base r_len c q
     → length rs ≤ 8 → AllByRecursion (IsSoundRequest base len is_packed q.size limits) rs → MatchBool is_ready (Unit {0}) (rs ≡ []) → RequestsFit rs
 fit_by base len is_packed q c limits rs true ready capacity queue few sound where_ready =
     let size : q.size ≤ 256 = (queue.ready ready).few in
@@ -91,6 +93,6 @@ fit_by base len is_packed q c limits rs true ready capacity queue few sound wher
 fit_by base len is_packed q c limits rs false ready capacity queue few sound where_ready =
     subst RequestsFit (sym where_ready) (record { few = omega arith; each = tt; short = tt })
 
-pub requests_fit : {r_base r_len : ℕ} (base len : ℕ) (is_packed : Bool) (q : Queue) (c : Common) (limits : Limits) (rs : List Request) → limits.sectors ≤ 4294967295 → IsSoundQueue r_base r_len c q → AreRequestsOf base len is_packed q limits rs → RequestsFit rs
+pub requests_fit : {r_base r_len : ℕ} (base len : ℕ) (is_packed : Bool) (q : Queue) (c : Common) (limits : Limits) (rs : List Request) → limits.sectors ≤ 18014398509481984 → IsSoundQueue r_base r_len c q → AreRequestsOf base len is_packed q limits rs → RequestsFit rs
 requests_fit base len is_packed q c limits rs capacity queue are =
     fit_by base len is_packed q c limits rs q.is_ready refl capacity queue are.few (recursion_from_All (IsSoundRequest base len is_packed q.size limits) rs are.sound) are.where_ready

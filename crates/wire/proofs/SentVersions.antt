@@ -9,35 +9,35 @@ use Rattle.guestmem.specs.Item.{Item}
 use Rattle.machine.specs.Layout.{Layout}
 use Rattle.machine.specs.State.{DeviceState}
 use Rattle.machine.specs.declared.shape.Shape.{Shape}
-use Rattle.wire.specs.Header.{IsVersion, is_long, version_of}
+use Rattle.wire.specs.Header.{IsVersion, is_late, version_of}
 use Rattle.wire.specs.Records.{Record, page, sector, round_end, device, commit, zero_page, IsOf}
 use Rattle.wire.specs.Stream.{HasDevices, IsEntry, record_in, shapes_in}
 
 abbrev sent : Bool → ℕ
-sent long = cond long 3 2
+sent late = cond late 3 2
 
-known_by : (long : Bool) → IsVersion (sent long)
+known_by : (late : Bool) → IsVersion (sent late)
 known_by true = record { least = omega arith; most = omega arith }
 known_by false = record { least = omega arith; most = omega arith }
 
 pub sent_known : (shapes : List Shape) → IsVersion (version_of shapes)
-sent_known shapes = known_by (list_any is_long shapes)
+sent_known shapes = known_by (list_any is_late shapes)
 
-later_by : (long : Bool) → sent long ≢ 1
+later_by : (late : Bool) → sent late ≢ 1
 later_by true e = omega (arith, e)
 later_by false e = omega (arith, e)
 
 sent_later : (shapes : List Shape) → version_of shapes ≢ 1
-sent_later shapes = later_by (list_any is_long shapes)
+sent_later shapes = later_by (list_any is_late shapes)
 
-third_by : (long : Bool) → (sent long ≡ 3) ↔ (long ≡ true)
+third_by : (late : Bool) → (sent late ≡ 3) ↔ (late ≡ true)
 third_by true = (λ e. refl, λ e. refl)
 third_by false = (λ e. absurd (omega (arith, e)), λ e. absurd cc)
 
 pub sent_devices : (ds : List DeviceState) → HasDevices (version_of (shapes_in ds)) ds
 sent_devices ds = record {
   each = λ k d below first. absurd (sent_later (shapes_in ds) first);
-  late = third_by (list_any is_long (shapes_in ds));
+  late = third_by (list_any is_late (shapes_in ds));
 }
 
 of_since : (version : ℕ) → version ≢ 1 → (r : Record) → IsOf 2 r → IsOf version r

@@ -17,7 +17,7 @@ use Rattle.machine.specs.Shapes.{sector_count, made_as}
 use Rattle.machine.specs.Sound.{IsSound, IsSoundDevice, IsSoundShape}
 use Rattle.machine.specs.State.{DeviceState, MachineState, base_of}
 use Rattle.machine.specs.declared.shape.Shape.{Shape}
-use Rattle.machine.specs.declared.shape.Shape.TheVariants.{Net, LongNet, Block, Console, Entropy}
+use Rattle.machine.specs.declared.shape.Shape.TheVariants.{Net, LongNet, Block, Outside, Console, Entropy}
 use Rattle.machine.proofs.Numbering.{either_way, has_item, item_there}
 use Rattle.wire.specs.Records.{Record, page, sector, round_end, device, commit, zero_page, is_zero_page, page_record, spelled_record, HasSpelling}
 use Rattle.wire.specs.Stream.{HasDevices, IsStream, IsStreamBy, IsEntry, MayStand, AreNumbered, content_of, record_in, records_in, shapes_in, texts, whole, whole_in}
@@ -101,6 +101,7 @@ few_sectors : (shape : Shape) (n : ℕ) → IsSoundShape shape → n < sector_co
 few_sectors (Net mac) n good below = omega (arith, below)
 few_sectors (LongNet mac longest) n good below = omega (arith, below)
 few_sectors (Block sectors read_only id) n good below = omega (arith, good.few, below)
+few_sectors (Outside sectors read_only id) n good below = omega (arith, below)
 few_sectors Console n good below = omega (arith, below)
 few_sectors Entropy n good below = omega (arith, below)
 

@@ -2,6 +2,7 @@
 use Rattle.std.specs.Prelude.{ℕ, zero, suc, ◌+◌, ◌*◌, ◌≤◌, ◌==◌, ◌||◌, not, nat_eq, nat_lt, if◌then◌else◌, List, [], ◌∷◌, drop, length, Option, Some, None, Bool}
 use Rattle.std.specs.Option.{option_map}
 use Rattle.guestmem.specs.Number.{number_at}
+use Rattle.blk.specs.declared.block.Block.{Block}
 use Rattle.blk.specs.declared.request.Request.{Request}
 use Rattle.blk.specs.declared.requests.TheConstants.{REQUESTS_MAX}
 use Rattle.chains.specs.declared.position.Positions.{Positions}
@@ -23,7 +24,7 @@ use Rattle.machine.specs.State.{DeviceState}
 use Rattle.machine.specs.declared.kind.Kind.{Kind}
 use Rattle.machine.specs.declared.kind.Kind.TheVariants as kinds
 use Rattle.machine.specs.declared.shape.Shape.{Shape}
-use Rattle.machine.specs.declared.shape.Shape.TheVariants.{Net, LongNet, Block, Console, Entropy}
+use Rattle.machine.specs.declared.shape.Shape.TheVariants as shapes
 
 abbrev pub common_from : List ℕ → Common
 common_from (a ∷ b ∷ c ∷ d ∷ e ∷ f ∷ g ∷ rest) = record { status = a; interrupts = b; device_select = c; driver_select = d; features = e; queue_select = f; generation = g }
@@ -73,8 +74,8 @@ pub record HasFront (queues : ℕ) (bytes : List ℕ) : Type 0 where
   pub long : 26 + 36 * queues ≤ length bytes
   pub flags : HaveFlags queues (drop 26 bytes)
 
--- The kind that has all these, if no bytes follow them.
-abbrev pub all_of : {A : Type 0} → (List A → Kind) → Option (List A × List ℕ) → Option Kind
+-- What has all these, if no bytes follow them.
+abbrev pub all_of : {A B : Type 0} → (List A → B) → Option (List A × List ℕ) → Option B
 all_of has None = None
 all_of has (Some found) = if length found.1 == 0 then Some (has found.0) else None
 
@@ -89,13 +90,20 @@ net_kind_in mac longest bytes =
     else all_of (net_with mac longest) (several (frame_of longest) (number_at bytes 0 2) (drop 2 bytes))
 
 -- A block device that was made as this, with these requests.
-abbrev pub block_with : ℕ → Bool → List ℕ → List Request → Kind
-block_with sectors read_only id requests = kinds.Block (record { sectors = sectors; read_only = read_only; id = id; requests = requests })
+abbrev pub block_with : ℕ → Bool → List ℕ → List Request → Block
+block_with sectors read_only id requests = record { sectors = sectors; read_only = read_only; id = id; requests = requests }
 
 -- A block device that was made as this: its requests.
-unfoldable pub block_kind_in : ℕ → Bool → List ℕ → List ℕ → Option Kind
-block_kind_in sectors read_only id [] = None
-block_kind_in sectors read_only id (count ∷ bytes) = if nat_lt REQUESTS_MAX count then None else all_of (block_with sectors read_only id) (several request_of count bytes)
+unfoldable pub block_in : ℕ → Bool → List ℕ → List ℕ → Option Block
+block_in sectors read_only id [] = None
+block_in sectors read_only id (count ∷ bytes) = if nat_lt REQUESTS_MAX count then None else all_of (block_with sectors read_only id) (several request_of count bytes)
+
+-- One with its disk in the machine, and one with its disk outside: they are read alike.
+abbrev pub block_kind_in : ℕ → Bool → List ℕ → List ℕ → Option Kind
+block_kind_in sectors read_only id bytes = option_map kinds.Block (block_in sectors read_only id bytes)
+
+abbrev pub outside_kind_in : ℕ → Bool → List ℕ → List ℕ → Option Kind
+outside_kind_in sectors read_only id bytes = option_map kinds.Outside (block_in sectors read_only id bytes)
 
 -- Bytes of the host, which are all that follows their count in two bytes, and at most 4,096.
 unfoldable pub held_of : List ℕ → Option (List ℕ)
@@ -120,11 +128,12 @@ entropy_kind_in bytes = option_map kinds.Entropy (held_of bytes)
 
 -- The kind of a device of this shape, with its state in the bytes after its queues.
 abbrev pub kind_in : Shape → List ℕ → Option Kind
-kind_in (Net mac) bytes = net_kind_in mac FRAME_MAX bytes
-kind_in (LongNet mac longest) bytes = if nat_lt FRAME_MAX longest then net_kind_in mac longest bytes else None
-kind_in (Block sectors read_only id) bytes = block_kind_in sectors read_only id bytes
-kind_in Console bytes = console_kind_in bytes
-kind_in Entropy bytes = entropy_kind_in bytes
+kind_in (shapes.Net mac) bytes = net_kind_in mac FRAME_MAX bytes
+kind_in (shapes.LongNet mac longest) bytes = if nat_lt FRAME_MAX longest then net_kind_in mac longest bytes else None
+kind_in (shapes.Block sectors read_only id) bytes = block_kind_in sectors read_only id bytes
+kind_in (shapes.Outside sectors read_only id) bytes = outside_kind_in sectors read_only id bytes
+kind_in shapes.Console bytes = console_kind_in bytes
+kind_in shapes.Entropy bytes = entropy_kind_in bytes
 
 -- The device of this shape, in a machine with `ram_len` bytes of RAM from the address `base` on, whose common registers and queues are encoded in the
 -- first of these bytes, and whose kind, with its state, is `kind_is`.

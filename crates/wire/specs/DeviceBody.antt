@@ -12,7 +12,7 @@ use Rattle.machine.specs.Shapes.{made_as}
 use Rattle.machine.specs.Sound.{IsSoundDevice}
 use Rattle.machine.specs.State.{DeviceState}
 use Rattle.machine.specs.declared.kind.Kind.{Kind}
-use Rattle.machine.specs.declared.kind.Kind.TheVariants.{Network, Block, Console, Entropy}
+use Rattle.machine.specs.declared.kind.Kind.TheVariants.{Network, Block, Outside, Console, Entropy}
 use Rattle.machine.specs.declared.shape.Shape.{Shape}
 use Rattle.machine.specs.declared.shape.Shape.TheVariants as shapes
 use Rattle.wire.specs.FrameText.{frames_text}
@@ -68,6 +68,7 @@ size_text s = spelled size_widths (size_numbers s)
 abbrev pub kind_text : Kind → List ℕ
 kind_text (Network mac inbox) = frames_text inbox.frames
 kind_text (Block block) = requests_text block.requests
+kind_text (Outside block) = requests_text block.requests
 kind_text (Console size held) = size_text size ++ held_text held
 kind_text (Entropy pool) = held_text pool
 
@@ -78,6 +79,7 @@ body d = common_text d.registers.common ++ (queues_text d.registers.queues d.pos
 -- and 5.2.3).
 abbrev pub has_zeroes : Shape → Common → Bool
 has_zeroes (shapes.Block sectors read_only id) c = has c.status FEATURES_OK && has c.features (2 ^ 14)
+has_zeroes (shapes.Outside sectors read_only id) c = has c.status FEATURES_OK && has c.features (2 ^ 14)
 has_zeroes _ c = false
 
 -- A version that has its shape has this device. In version 1 no block device has a driver that accepted WRITE_ZEROES, and so none has a request to clear

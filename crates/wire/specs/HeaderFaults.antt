@@ -1,6 +1,6 @@
 -- The faults of a header, each with its place: the number of bytes up to and including the one at which it is found. What a machine
 -- may have is what the limits of the host that reads it allow.
-use Rattle.std.specs.Prelude.{◌≡◌, ◌≢◌, ◌<◌, ◌≤◌, ◌⊎◌, ℕ, ◌+◌, nat_lt, if◌then◌else◌, false, List, [], ◌∷◌, ◌++◌, length, drop, All, Some, None}
+use Rattle.std.specs.Prelude.{◌≡◌, ◌≢◌, ◌<◌, ◌≤◌, ◌⊎◌, ℕ, ◌+◌, nat_lt, if◌then◌else◌, false, true, List, [], ◌∷◌, ◌++◌, length, drop, All, Some, None}
 use Rattle.std.specs.List.{list_any}
 use Rattle.guestmem.specs.Number.{number_at}
 use Rattle.net.specs.declared.limits.TheConstants.{FRAME_MAX}
@@ -8,7 +8,7 @@ use Rattle.machine.specs.Limits.{IsShapeWithin}
 use Rattle.machine.specs.Sound.{IsSoundShape}
 use Rattle.machine.specs.declared.limits.Limits.{Limits}
 use Rattle.machine.specs.declared.shape.Shape.{Shape}
-use Rattle.wire.specs.Header.{Begins, IsVersion, Opening, is_long, shape_length, spelled_shape, spelled_shapes}
+use Rattle.wire.specs.Header.{Begins, IsVersion, Opening, allow_late, is_late, shape_length, spelled_shape, spelled_shapes}
 use Rattle.wire.specs.declared.header_error.HeaderError.{HeaderError}
 use Rattle.wire.specs.declared.header_error.HeaderError.TheVariants.{BadMagic, BadVersion, BadShape, NoMemory}
 
@@ -22,11 +22,11 @@ pub record MayCount (limits : Limits) (pages count : ℕ) : Type 0 where
 -- The versions that a host with these limits reads: version 3 only where they allow a device that no version before it has.
 pub record IsRead (limits : Limits) (version : ℕ) : Type 0 where
   pub known : IsVersion version
-  pub late : 3 ≤ version → FRAME_MAX < limits.frame
+  pub late : 3 ≤ version → allow_late limits ≡ true
 
--- What the limits allow in a stream of this version: no device for long frames before version 3.
+-- What the limits allow in a stream of this version: no device for long frames and no disk outside before version 3.
 abbrev pub limits_in : ℕ → Limits → Limits
-limits_in version limits = if nat_lt version 3 then record limits { frame = FRAME_MAX } else limits
+limits_in version limits = if nat_lt version 3 then record limits { frame = FRAME_MAX; outside = 0 } else limits
 
 -- BadMagic, found at the fourth byte.
 pub record IsBadMagic (bytes : List ℕ) (at : ℕ) : Type 0 where
@@ -104,7 +104,7 @@ pub record IsPlain (limits : Limits) (bytes : List ℕ) (at : ℕ) : Type 0 wher
   pub sound : All (IsShapeFor limits) shapes
   pub whole : drop 16 bytes ≡ spelled_shapes shapes ++ more
   pub late : number_at bytes 4 4 ≡ 3
-  pub never : list_any is_long shapes ≡ false
+  pub never : list_any is_late shapes ≡ false
   pub there : at ≡ 16 + length (spelled_shapes shapes)
 
 -- The bytes show this fault of a header, at this byte.

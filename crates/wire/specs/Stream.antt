@@ -14,7 +14,7 @@ use Rattle.machine.specs.State.{DeviceState, MachineState}
 use Rattle.machine.specs.Shapes.{made_as}
 use Rattle.machine.specs.declared.shape.Shape.{Shape}
 use Rattle.wire.specs.DeviceBody.{body, IsDeviceOf}
-use Rattle.wire.specs.Header.{IsVersion, Opening, header, is_long, version_of}
+use Rattle.wire.specs.Header.{IsVersion, Opening, header, is_late, version_of}
 use Rattle.wire.specs.Records.{Record, page, sector, round_end, device, commit, zero_page, page_record, spelled_record, HasSpelling, IsOf}
 
 abbrev pub shapes_in : List DeviceState → List Shape
@@ -23,7 +23,7 @@ shapes_in devices = map (λ d. made_as d.kind) devices
 -- A version has the devices of a machine: it has each of them, and version 3 is that of the devices that version 2 has not.
 pub record HasDevices (version : ℕ) (devices : List DeviceState) : Type 0 where
   pub each : All (IsDeviceOf version) devices
-  pub late : (version ≡ 3) ↔ (list_any is_long (shapes_in devices) ≡ true)
+  pub late : (version ≡ 3) ↔ (list_any is_late (shapes_in devices) ≡ true)
 
 -- The records that may come before the devices: pages and sectors that exist, and ends of rounds.
 abbrev pub MayStand : Layout → Record → Type 0

@@ -23,7 +23,7 @@ use crate::decode_error::DecodeError;
 use crate::header::FIRST_VERSION;
 use crate::kind_reading::kind_at;
 use crate::registers_text::{COMMON_LEN, QUEUE_LEN, common_at, has_flags, positions_at, queue_at};
-use blk::{Block, WRITE_ZEROES, is_block_shape};
+use blk::{Block, WRITE_ZEROES, is_block_shape, is_outside_shape};
 use chains::{Position, Positions};
 use console::recall_console;
 use guestmem::recall_bytes;
@@ -98,7 +98,7 @@ fn queue_count(shape: Shape) -> usize
 {
     match shape {
         Shape::Net { .. } | Shape::LongNet { .. } => net::QUEUE_COUNT as usize,
-        Shape::Block { .. } => blk::QUEUE_COUNT as usize,
+        Shape::Block { .. } | Shape::Outside { .. } => blk::QUEUE_COUNT as usize,
         Shape::Console => console::QUEUE_COUNT as usize,
         Shape::Entropy => console::entropy::QUEUE_COUNT as usize,
     }
@@ -117,7 +117,7 @@ fn has_zeroes(shape: Shape, common: &Common) -> bool
     ensures { result ≡ has_zeroes shape common.now }
 {
     match shape {
-        Shape::Block { .. } => {
+        Shape::Block { .. } | Shape::Outside { .. } => {
             common.status & FEATURES_OK == FEATURES_OK && accepts_zeroes(common)
         }
         Shape::Net { .. } | Shape::LongNet { .. } | Shape::Console | Shape::Entropy => false,
@@ -215,6 +215,7 @@ fn is_sound_shape(shape: Shape) -> bool
             longest > FRAME_MAX
         }
         Shape::Block { sectors, id, .. } => is_block_shape(sectors, &id),
+        Shape::Outside { sectors, id, .. } => is_outside_shape(sectors, &id),
         Shape::Console | Shape::Entropy => true,
     }
 }
@@ -238,6 +239,7 @@ fn is_sound_kind(base: u64, ram_len: u64, common: &Common, queues: &[Queue], kin
             true
         }
         Kind::Block(block) => has_sound_requests(base, ram_len, common, queues, block),
+        Kind::Outside(block) => has_sound_requests(base, ram_len, common, queues, block),
         Kind::Console { size, held } => {
             recall_console(size, held);
             true

@@ -11,7 +11,7 @@ ghost use Rattle.wire.specs.HeaderParts.{FirstShape, ReadShapes};
 
 use crate::header_error::HeaderError;
 use crate::numbers::u32_at;
-use crate::shape_spelling::{has_long, shape_at, shape_len};
+use crate::shape_spelling::{allow_late, has_late, shape_at, shape_len};
 use machine::{DEVICES_MAX, Limits, Shape};
 use net::FRAME_MAX;
 use std::alloc::{AllocError, Global};
@@ -19,12 +19,12 @@ use std::alloc::{AllocError, Global};
 /// "VMIG" as a little-endian number.
 pub const MAGIC: u32 = 0x4749_4d56;
 
-/// The version in which machines are written, unless they have a device for long frames. It is read, too.
+/// The version in which machines are written, unless they have a device that only version 3 has. It is read, too.
 pub const VERSION: u32 = 2;
 
-/// The version in which a machine with a device for long frames is written: version 2 with one more row of shapes. It is read where
-/// the limits allow such a device.
-pub const LONG_VERSION: u32 = 3;
+/// The version in which a machine is written with a network device for long frames or a disk outside: version 2 with two more rows of
+/// shapes. It is read where the limits allow such a device.
+pub const LATE_VERSION: u32 = 3;
 
 /// The first version of the stream, which is read. It has no records of pages of zeros.
 pub const FIRST_VERSION: u32 = 1;
@@ -104,7 +104,7 @@ pub fn read_header(
         return Ok(None);
     };
     // Version 3 is that of the devices which version 2 has not: so a machine has one stream of each version that has it.
-    if version == LONG_VERSION && !has_long(&shapes) {
+    if version == LATE_VERSION && !has_late(&shapes) {
         return Err(HeaderError::BadVersion);
     }
     let len = bytes.len() - rest.len();
@@ -174,20 +174,19 @@ fn may_count(limits: Limits, pages: u32, count: u32) -> bool
 pub fn is_version(limits: Limits, version: u32) -> bool
     ensures known { IsTrue result ↔ IsRead limits version }
 {
-    version == FIRST_VERSION
-        || version == VERSION
-        || version == LONG_VERSION && limits.frame > FRAME_MAX
+    version == FIRST_VERSION || version == VERSION || version == LATE_VERSION && allow_late(limits)
 }
 
-/// What these limits allow in a stream of this version: no device for long frames before version 3.
+/// What these limits allow in a stream of this version: no device for long frames and no disk outside before version 3.
 fn limits_in(version: u32, limits: Limits) -> Limits
     ensures { result ≡ limits_in version limits }
 {
-    if version >= LONG_VERSION {
+    if version >= LATE_VERSION {
         return limits;
     }
     Limits {
         frame: FRAME_MAX,
+        outside: 0,
         ..limits
     }
 }

@@ -13,8 +13,8 @@ pub enum HeaderError {
     #[error("bad magic: not a machine stream")]
     BadMagic,
 
-    /// There is no such version, or it is 3 and the limits allow no device for long frames, reported at the eighth byte; or it is 3 and
-    /// the machine has no such device, reported at the end of the header.
+    /// There is no such version, or it is 3 and the limits allow no device that only version 3 has, reported at the eighth byte; or it is
+    /// 3 and the machine has no such device, reported at the end of the header.
     #[error("unsupported stream version")]
     BadVersion,
 

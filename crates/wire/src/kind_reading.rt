@@ -4,7 +4,7 @@
 //! their number was read and found good, before they are read one by one.
 
 ghost use Rattle.std.specs.Prelude.{◌≡◌, IfOk, MatchOption, None, Some};
-ghost use Rattle.wire.specs.BodyReading.{block_kind_in, console_kind_in, entropy_kind_in, held_of, net_kind_in, kind_in};
+ghost use Rattle.wire.specs.BodyReading.{block_in, block_kind_in, console_kind_in, entropy_kind_in, held_of, kind_in, net_kind_in, outside_kind_in};
 
 use crate::frame_reading::frames_at;
 use crate::numbers::{COUNT_LEN, u16_at};
@@ -32,6 +32,11 @@ pub fn kind_at(alloc: Global, shape: Shape, bytes: &[u8]) -> Result<Option<Kind>
             read_only,
             id,
         } => block_kind_at(alloc, sectors, read_only, id, bytes),
+        Shape::Outside {
+            sectors,
+            read_only,
+            id,
+        } => outside_kind_at(alloc, sectors, read_only, id, bytes),
         Shape::Console => console_kind_at(alloc, bytes),
         Shape::Entropy => entropy_kind_at(alloc, bytes),
     }
@@ -60,7 +65,6 @@ fn net_kind_at(
     Ok(Some(Kind::Network { mac, inbox }))
 }
 
-#[tactic(auto, unfolding(crate::specs::BodyReading::block_kind_in))]
 fn block_kind_at(
     alloc: Global,
     sectors: u64,
@@ -69,6 +73,38 @@ fn block_kind_at(
     bytes: &[u8],
 ) -> Result<Option<Kind>, NoMemory>
     ensures { IfOk result (λ found. MatchOption found (block_kind_in sectors read_only id bytes.now ≡ None) (λ kind. block_kind_in sectors read_only id bytes.now ≡ Some kind)) }
+{
+    let Some(block) = block_at(alloc, sectors, read_only, id, bytes)? else {
+        return Ok(None);
+    };
+    Ok(Some(Kind::Block(block)))
+}
+
+fn outside_kind_at(
+    alloc: Global,
+    sectors: u64,
+    read_only: bool,
+    id: [u8; ID_SIZE],
+    bytes: &[u8],
+) -> Result<Option<Kind>, NoMemory>
+    ensures { IfOk result (λ found. MatchOption found (outside_kind_in sectors read_only id bytes.now ≡ None) (λ kind. outside_kind_in sectors read_only id bytes.now ≡ Some kind)) }
+{
+    let Some(block) = block_at(alloc, sectors, read_only, id, bytes)? else {
+        return Ok(None);
+    };
+    Ok(Some(Kind::Outside(block)))
+}
+
+/// Decodes the requests of a block device, which are all of the bytes.
+#[tactic(auto, unfolding(crate::specs::BodyReading::block_in))]
+fn block_at(
+    alloc: Global,
+    sectors: u64,
+    read_only: bool,
+    id: [u8; ID_SIZE],
+    bytes: &[u8],
+) -> Result<Option<Block>, NoMemory>
+    ensures { IfOk result (λ found. MatchOption found (block_in sectors read_only id bytes.now ≡ None) (λ block. block_in sectors read_only id bytes.now ≡ Some block)) }
 {
     let Some((count, rest)) = bytes.split_first() else {
         return Ok(None);
@@ -82,12 +118,12 @@ fn block_kind_at(
     if !rest.is_empty() {
         return Ok(None);
     }
-    Ok(Some(Kind::Block(Block {
+    Ok(Some(Block {
         sectors,
         read_only,
         id,
         requests,
-    })))
+    }))
 }
 
 #[tactic(auto, unfolding(crate::specs::BodyReading::console_kind_in))]

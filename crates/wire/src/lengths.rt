@@ -8,7 +8,9 @@ ghost use Rattle.wire.specs.Records.{device, page_record, spelled_record};
 
 use crate::header::FRONT_LEN;
 use crate::record_head::{DEVICE_HEAD, PAGE_RECORD, ZERO_PAGE_RECORD};
-use crate::shape_spelling::{BLOCK_SHAPE, CONSOLE_SHAPE, ENTROPY_SHAPE, LONG_NET_SHAPE, NET_SHAPE};
+use crate::shape_spelling::{
+    BLOCK_SHAPE, CONSOLE_SHAPE, ENTROPY_SHAPE, LONG_NET_SHAPE, NET_SHAPE, OUTSIDE_SHAPE,
+};
 use crate::writing::body_len;
 use guestmem::is_zero;
 use machine::{DeviceState, Shape};
@@ -37,6 +39,7 @@ fn spelled_len(shape: Shape) -> u64
         Shape::Net { .. } => NET_SHAPE as u64,
         Shape::LongNet { .. } => LONG_NET_SHAPE as u64,
         Shape::Block { .. } => BLOCK_SHAPE as u64,
+        Shape::Outside { .. } => OUTSIDE_SHAPE as u64,
         Shape::Console => CONSOLE_SHAPE as u64,
         Shape::Entropy => ENTROPY_SHAPE as u64,
     }

@@ -20,9 +20,9 @@
 //!   one call each.
 //! - A `Digesting` sink gives the digest of what was put into it. `Eager` makes one of any sink, and digests each byte as it is put.
 //!   `Waiting` keeps its bytes until they are taken, and digests them then, at the latest when the digest is asked for.
-//! - Three versions of the stream are read. A machine is written in version 3 if it has a network device for long frames, and else in
-//!   version 2. Version 3 has one more shape than version 2, that of such a device: it is read only where the limits allow one, and is
-//!   no version of a machine that has none. Version 1 has another encoding of a page of zeros, and no block device whose driver accepted
+//! - Three versions of the stream are read. A machine is written in version 3 if it has a network device for long frames or a disk outside,
+//!   and else in version 2. Version 3 has two more shapes than version 2, those of such devices: it is read only where the limits allow one,
+//!   and is no version of a machine that has none. A disk outside has no sector in a stream. Version 1 has another encoding of a page of zeros, and no block device whose driver accepted
 //!   WRITE_ZEROES, so no request to clear sectors. They differ in nothing else. A page has one encoding in each.
 //! - `laws`: no encoding of a record is a prefix of another's; a stream has one machine of each base, one number of rounds and one version;
 //!   a sound machine has a stream in each version that has its devices, and the whole stream of it is one.
@@ -60,7 +60,7 @@ pub use device_reading::{decode_device, decode_device_at};
 pub use digesting::{Digesting, Eager, Nowhere};
 pub use fault_writer::FaultWriter;
 pub use header::{
-    FIRST_VERSION, FRONT_LEN, Header, LONG_VERSION, MAGIC, VERSION, decode_header, is_version,
+    FIRST_VERSION, FRONT_LEN, Header, LATE_VERSION, MAGIC, VERSION, decode_header, is_version,
     read_header,
 };
 pub use header_error::HeaderError;

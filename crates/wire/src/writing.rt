@@ -17,7 +17,7 @@ ghost use Rattle.wire.specs.Records.{commit, page, page_record, round_end, devic
 ghost use Rattle.wire.specs.Sinks.{Appends, Takes};
 
 use crate::frame_writing::{frames_len, write_frames};
-use crate::header::{FRONT_LEN, LONG_VERSION, MAGIC, VERSION};
+use crate::header::{FRONT_LEN, LATE_VERSION, MAGIC, VERSION};
 use crate::numbers::{COUNT_LEN, count_bytes};
 use crate::record_head::{
     COMMIT_TAG, DEVICE_HEAD, HEAD_MAX, PAGE_HEAD, PAGE_RECORD, ROUND_END_HEAD, RecordHead,
@@ -25,7 +25,9 @@ use crate::record_head::{
 };
 use crate::registers_text::{COMMON_LEN, QUEUE_LEN, common_bytes, queue_bytes};
 use crate::request_writing::{requests_len, write_requests};
-use crate::shape_spelling::{BLOCK_ID, CONSOLE_ID, ENTROPY_ID, LONG_NET_ID, NET_ID, has_long};
+use crate::shape_spelling::{
+    BLOCK_ID, CONSOLE_ID, ENTROPY_ID, LONG_NET_ID, NET_ID, OUTSIDE_ID, has_late,
+};
 use crate::sink::{Sink, SinkFault};
 use crate::size_text::{SIZE_LEN, size_bytes};
 use byteorder::{ByteOrder, LittleEndian};
@@ -68,8 +70,8 @@ fn front_bytes(version: u32, pages: u32, count: u32) -> [u8; FRONT_LEN]
 fn version_of(shapes: &[Shape]) -> u32
     ensures { result ≡ version_of shapes.now }
 {
-    if has_long(shapes) {
-        return LONG_VERSION;
+    if has_late(shapes) {
+        return LATE_VERSION;
     }
     VERSION
 }
@@ -106,6 +108,16 @@ fn write_shape<S: Sink>(shape: Shape, out: &mut S) -> Result<(), SinkFault>
             id,
         } => {
             let mut head = [BLOCK_ID, 0, 0, 0, 0, 0, 0, 0, 0, read_only as u8];
+            LittleEndian::write_u64(&mut head[1..], sectors);
+            out.put(&head)?;
+            out.put(&id)
+        }
+        Shape::Outside {
+            sectors,
+            read_only,
+            id,
+        } => {
+            let mut head = [OUTSIDE_ID, 0, 0, 0, 0, 0, 0, 0, 0, read_only as u8];
             LittleEndian::write_u64(&mut head[1..], sectors);
             out.put(&head)?;
             out.put(&id)
@@ -212,6 +224,7 @@ fn kind_len(kind: &Kind) -> u32
     match kind {
         Kind::Network { inbox, .. } => frames_len(inbox),
         Kind::Block(block) => requests_len(&block.requests),
+        Kind::Outside(block) => requests_len(&block.requests),
         Kind::Console { held, .. } => (SIZE_LEN + COUNT_LEN + held.len()) as u32,
         Kind::Entropy(pool) => (COUNT_LEN + pool.len()) as u32,
     }
@@ -255,6 +268,7 @@ fn write_kind<S: Sink>(kind: &Kind, out: &mut S) -> Result<(), SinkFault>
     match kind {
         Kind::Network { inbox, .. } => write_frames(inbox, out),
         Kind::Block(block) => write_requests(&block.requests, out),
+        Kind::Outside(block) => write_requests(&block.requests, out),
         Kind::Console { size, held } => {
             out.put(&size_bytes(size))?;
             write_held(held, out)

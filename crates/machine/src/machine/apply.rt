@@ -58,6 +58,7 @@ impl<D: Disk> Machine<D> {
                 Reply::from_done(self.resize(*dev, *cols, *rows))
             }
             Event::Drop { dev } => Reply::from_done(self.drop_input(*dev)),
+            Event::Disk { dev, pick, answer } => self.hand_in(*dev, *pick, answer, log),
         }
     }
 

@@ -21,7 +21,7 @@ use crate::machine::{DEVICES_MAX, Machine};
 use crate::new_error::NewError;
 use crate::shape::Shape;
 use crate::state::DeviceState;
-use blk::Disk;
+use blk::{Disk, OUTSIDE_GREATEST};
 use dirtylog::BitSet;
 use guestmem::{NoMemory, PAGE_SIZE, Ram, recall_bytes};
 use net::FRAME_MAX;
@@ -287,6 +287,9 @@ fn is_beyond(limits: Limits, shape: Shape) -> bool
 {
     match shape {
         Shape::Block { sectors, .. } => sectors == 0 || sectors > limits.sectors as u64,
+        Shape::Outside { sectors, .. } => {
+            sectors == 0 || sectors > OUTSIDE_GREATEST || sectors > limits.outside
+        }
         Shape::LongNet { longest, .. } => longest <= FRAME_MAX || longest > limits.frame,
         Shape::Net { .. } | Shape::Console | Shape::Entropy => false,
     }
@@ -307,7 +310,7 @@ fn recall_one(shape: Shape)
 {
     match shape {
         Shape::Net { mac } | Shape::LongNet { mac, .. } => recall_bytes(mac.as_slice()),
-        Shape::Block { id, .. } => recall_bytes(id.as_slice()),
+        Shape::Block { id, .. } | Shape::Outside { id, .. } => recall_bytes(id.as_slice()),
         Shape::Console | Shape::Entropy => {}
     }
 }

@@ -2,7 +2,7 @@ use Rattle.std.proofs.Common.{arith, rules, refl, subst, sym, ap, ◌∙◌, ◌
 use Rattle.std.specs.List.{list_any}
 use Rattle.std.proofs.lemmas.Result.{err_from_is_err_and}
 use Rattle.guestmem.specs.Number.{number_at}
-use Rattle.wire.specs.Header.{is_long}
+use Rattle.wire.specs.Header.{is_late}
 use Rattle.wire.specs.HeaderFaults.{IsRead, Says, limits_in}
 use Rattle.wire.proofs.HeaderLemmas.{behind}
 use Rattle.wire.proofs.HeaderParts.{begins_so, bad_count, head_part, head_short, not_both_ways, plain_third, told_shapes, within_so}
@@ -50,14 +50,14 @@ returns-in_default-clause-read c =
     let lims : c.limits_in.result ≡ limits_in (number_at c.args.bytes.now 4 4) c.args.limits = c.limits_in.ensures ∙ ap (λ (v : ℕ). limits_in v c.args.limits) c.u32_at-version.ensures in
     head_part c.args.limits c.args.bytes.now c.u32_at-pages.result c.u32_at-count.result says may (rw (c.in_default.is, lims, rest) at c.in_ok-shapes.ensures.read)
 
-pub returns-then-not-has_long-clause-refused : goal.returns-then-not-has_long-clause-refused
-returns-then-not-has_long-clause-refused c =
+pub returns-then-not-has_late-clause-refused : goal.returns-then-not-has_late-clause-refused
+returns-then-not-has_late-clause-refused c =
     let says : Says c.args.limits c.args.bytes.now c.u32_at-pages.result c.u32_at-count.result = record { long = omega arith; magic = search rules; known = subst (IsRead c.args.limits) c.u32_at-version.ensures (c.is_version.ensures.known.0 (search rules)); pages_are = search rules; count_is = search rules } in
     let may = c.may_count.ensures.0 (search rules) in
     let rest : c.split_at.result.1.now ≡ drop 16 c.args.bytes.now = search rules in
     let lims : c.limits_in.result ≡ limits_in (number_at c.args.bytes.now 4 4) c.args.limits = c.limits_in.ensures ∙ ap (λ (v : ℕ). limits_in v c.args.limits) c.u32_at-version.ensures in
     let late : number_at c.args.bytes.now 4 4 ≡ 3 = search rules in
-    let none : list_any is_long c.in-Some.shapes.items ≡ false = search rules in
+    let none : list_any is_late c.in-Some.shapes.items ≡ false = search rules in
     plain_third c.args.limits c.args.bytes.now c.u32_at-pages.result c.u32_at-count.result c.in-Some.shapes.items c.in-Some.rest.now says may (rw (c.in-Some.is, lims, rest) at c.in_ok-shapes.ensures.read) late none
 
 pub returns-clause-read : goal.returns-clause-read
@@ -65,7 +65,7 @@ returns-clause-read c =
     let says : Says c.args.limits c.args.bytes.now c.u32_at-pages.result c.u32_at-count.result = record { long = omega arith; magic = search rules; known = subst (IsRead c.args.limits) c.u32_at-version.ensures (c.is_version.ensures.known.0 (search rules)); pages_are = search rules; count_is = search rules } in
     let may = c.may_count.ensures.0 (search rules) in
     let rest : c.split_at.result.1.now ≡ drop 16 c.args.bytes.now = search rules in
-    let late : c.u32_at-version.result ≡ 3 → list_any is_long c.in-Some.shapes.items ≡ true = λ third. search rules in
+    let late : c.u32_at-version.result ≡ 3 → list_any is_late c.in-Some.shapes.items ≡ true = λ third. search rules in
     let begins = begins_so c.args.limits c.args.bytes.now c.u32_at-version.result c.u32_at-pages.result c.u32_at-count.result _ _ (omega arith) (λ i. omega (arith, c.type_inv.bytes i)) c.u32_at-version.ensures says may (rw (c.in-Some.is, c.limits_in.ensures, rest) at c.in_ok-shapes.ensures.read) late in
     let after = behind _ c.in-Some.rest.now c.args.bytes.now begins.whole in
     (omega (arith, after.shorter), rw after.dropped begins)

@@ -7,7 +7,7 @@ use Rattle.net.specs.Receive as net
 use Rattle.chains.specs.Served.{HasRun, scene}
 use Rattle.machine.specs.DeviceStep.{network_with, serve}
 use Rattle.machine.specs.declared.kind.Kind.{Kind}
-use Rattle.machine.specs.declared.kind.Kind.TheVariants.{Network, Block, Console, Entropy}
+use Rattle.machine.specs.declared.kind.Kind.TheVariants.{Network, Block, Outside, Console, Entropy}
 use Rattle.machine.proofs.Turns.{run_whole}
 use Rattle.machine.proofs.kind.Kind.serve.Goals as goal
 
@@ -48,3 +48,11 @@ returns-in-Block-clause-served g c =
     rw c.in-Block.is
     (run_whole Block g.L.TouchLog.after c.args.ram.now c.take.new.ram c.args.log.now c.take.new.log q new_q c.in-Block.block c.take.new.self (Request HEADER_SIZE) (take_step c.args.visit.features)
     (λ ram q kind seen. serve c.args.visit.features kind c.args.visit.number ram q seen) c.take.result c.args.sent.now.items (λ seen. refl) (c.take.ensures.taken c.args.sent.now.items))
+
+pub returns-in-Outside-clause-served : goal.returns-in-Outside-clause-served
+returns-in-Outside-clause-served g c =
+    let q = g.R.Ring.state c.args.ring.now in
+    let new_q = g.R.Ring.state c.take-in-Outside.new.ring in
+    rw c.in-Outside.is
+    (run_whole Outside g.L.TouchLog.after c.args.ram.now c.take-in-Outside.new.ram c.args.log.now c.take-in-Outside.new.log q new_q c.in-Outside.block c.take-in-Outside.new.self (Request HEADER_SIZE) (take_step c.args.visit.features)
+    (λ ram q kind seen. serve c.args.visit.features kind c.args.visit.number ram q seen) c.take-in-Outside.result c.args.sent.now.items (λ seen. refl) (c.take-in-Outside.ensures.taken c.args.sent.now.items))
