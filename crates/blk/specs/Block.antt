@@ -26,6 +26,6 @@ dropped_unless is_ready b = with_requests b (if is_ready then b.requests else []
 abbrev pub limits_of : Block → ℕ → Limits
 limits_of b features = record { sectors = b.sectors; read_only = b.read_only; may_clear = has features (2 ^ 14) }
 
--- What a driver may ask for at most, of a device with so many sectors.
+-- What a driver may ask for at most, of a device with this many sectors.
 abbrev pub widest : ℕ → Limits
 widest sectors = record { sectors = sectors; read_only = false; may_clear = true }

@@ -7,7 +7,7 @@ use Rattle.blk.specs.declared.request.Kind.{Kind}
 use Rattle.blk.specs.declared.request.Kind.TheVariants as kind
 use Rattle.blk.specs.declared.request.Request.{Request}
 
--- The number of bytes that a request of this kind writes in so many units: those of its driver. One that clears writes none of these.
+-- The number of bytes that a request of this kind writes in this many units: those of its driver. One that clears writes none of these.
 abbrev pub bytes_in : Kind → ℕ → ℕ
 bytes_in kind.Out units = SECTOR_SIZE * units
 bytes_in kind.In units = 0

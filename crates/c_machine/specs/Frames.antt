@@ -3,7 +3,7 @@ use Rattle.std.specs.Prelude.{ℕ, ◌||◌, nat_lt, Bool, false, List, [], ◌�
 use Rattle.machine.specs.declared.shape.Shape.{Shape}
 use Rattle.machine.specs.declared.shape.Shape.TheVariants.{Net, LongNet, Block, Outside, Console, Entropy}
 
--- It is a network device for longer frames than of so many bytes.
+-- It is a network device for frames longer than this many bytes.
 abbrev pub is_longer : ℕ → Shape → Bool
 is_longer most (LongNet mac longest) = nat_lt most longest
 is_longer most (Net mac) = false

@@ -33,7 +33,7 @@ pub record HasDecoded (old new : DecoderState) (ram : Memory) (most : ℕ) : Typ
   pub bounded : new.decoded ≤ old.decoded + most
   pub rises : old.decoded ≤ new.decoded
 
--- A decoder that has decoded so many descriptors, and keeps none.
+-- A decoder that has decoded this many descriptors, and keeps none.
 abbrev pub empty_decoder : ℕ → DecoderState
 empty_decoder decoded = record { decoded = decoded; kept = replicate KEPT_MAX None }
 

@@ -59,7 +59,7 @@ fn machines_are_within(alloc: Global) -> Result<()> {
     Ok(())
 }
 
-/// The number of why no machine of so many pages, and a disk of so many sectors, is made; or 0.
+/// The number of the reason why no machine with this many pages, and a disk of this many sectors, is made; or 0.
 fn refusal_of(alloc: Global, limits: Limits, pages: u32, sectors: u64) -> Result<u8> {
     let mut disks = Vec::new(alloc);
     disks.push(MemDisk::new(alloc, sectors)?)?;

@@ -89,7 +89,7 @@ make_refusal limits base bytes shapes sizes =
     else if not (are_same (disk_sizes shapes) sizes) then Some DiskMismatch
     else None
 
--- Why no machine of so many pages from the address 0 on is made within the usual limits, if so.
+-- Why no machine with this many pages from the address 0 on is made within the usual limits, if so.
 abbrev pub new_refusal : ℕ → List Shape → List ℕ → Option NewError
 new_refusal pages shapes sizes = make_refusal usual 0 (PAGE_SIZE * pages) shapes sizes
 

@@ -27,7 +27,7 @@ IsShapeWithin limits (Outside sectors read_only id) = sectors ≤ limits.outside
 IsShapeWithin limits (LongNet mac longest) = longest ≤ limits.frame
 IsShapeWithin limits _ = Unit {0}
 
--- The limits allow a machine of so many pages and devices of these shapes.
+-- The limits allow a machine with this many pages and devices of these shapes.
 pub record AreWithin (limits : Limits) (pages : ℕ) (shapes : List Shape) : Type 0 where
   pub few_pages : pages ≤ limits.pages
   pub few_sectors : All (IsShapeWithin limits) shapes

@@ -76,7 +76,7 @@ next_work devices last = find (has_work_at devices) (in_turn_after last (length 
 abbrev pub next_work_with_lost : List DeviceState → List Bool → Work → Option Work
 next_work_with_lost devices lost last = find (can_work_at lost devices) (in_turn_after last (length devices))
 
--- The first of the steps of so many devices that passes a test, where the step of the number `first` is the one after the last.
+-- The first of the steps of this many devices that passes a test, where the step of the number `first` is the one after the last.
 abbrev pub next_from : (Work → Bool) → ℕ → ℕ → Option Work
 next_from p devices first = find p (steps_between first (256 * devices) ++ steps_between 0 first)
 

@@ -41,11 +41,11 @@ parked_sectors p = map (λ d. d.sectors) p.devices
 abbrev pub parked_calls : ParkedSeen → List (Option ℕ)
 parked_calls p = map (λ d. d.calls) p.devices
 
--- It is so whatever its RAM holds meanwhile, which has so many pages.
+-- It is so whatever its RAM holds meanwhile, which has this many pages.
 abbrev pub WhateverRam : ParkedSeen → (Memory → Type 0) → Type 0
 WhateverRam p P = (m : Memory) → IsMemory m → IsBytes m.bytes → length m.versions ≡ length p.versions → P m
 
--- With any memory of so many pages it is a machine as the code holds it.
+-- With any memory of this many pages it is a machine as the code holds it.
 abbrev pub WasHeld : List Shape → ParkedSeen → Type 0
 WasHeld shapes p = WhateverRam p (λ m. IsHeld shapes (back_with p m))
 

@@ -17,12 +17,12 @@ use Rattle.machine.specs.declared.any_ring.AnyRing.TheVariants.{Split, Packed}
 abbrev pub FitAll : List AnyRing → Memory → Type 0
 FitAll rings ram = All (λ r. Fits (decoder_in r) ram) rings
 
--- There are two rings for each of so many devices, one after another, and what they keep fits the RAM.
+-- There are two rings for each of this many devices, one after another, and what they keep fits the RAM.
 pub record AreRings (rings : List AnyRing) (ram : Memory) (devices : ℕ) : Type 0 where
   pub each : length rings ≡ QUEUE_COUNT_MAX * devices
   pub fit : FitAll rings ram
 
--- New rings for so many devices fit every RAM.
+-- New rings for this many devices fit every RAM.
 pub record AreNewRings (rings : List AnyRing) (devices : ℕ) : Type 0 where
   pub each : length rings ≡ QUEUE_COUNT_MAX * devices
   pub fit : (ram : Memory) → FitAll rings ram

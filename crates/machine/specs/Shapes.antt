@@ -20,7 +20,7 @@ use Rattle.machine.specs.declared.shape.Shape.TheVariants.{Net, LongNet, Block, 
 use Rattle.machine.specs.State.{DeviceState}
 use Rattle.machine.specs.QueuePositions.{first_positions}
 
--- What a network device was made as, whose longest frame has so many bytes: for long frames, unless these are the usual 1,514.
+-- What a network device was made as, whose longest frame has this many bytes: for long frames, unless these are the usual 1,514.
 abbrev pub net_as : List ℕ → ℕ → Shape
 net_as mac longest = if longest == FRAME_MAX then Net mac else LongNet mac longest
 

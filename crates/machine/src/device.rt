@@ -166,7 +166,7 @@ impl<D: Disk> Device<D> {
         self.state.disk_gave(pick, bytes, ram, log)
     }
 
-    /// A disk outside did so many units of what the request of this pick asks for.
+    /// A disk outside did this many units of what the request of this pick asks for.
     pub(crate) fn disk_did(&mut self, pick: u8, count: u32) -> Result<bool, Refusal>
         ensures taken { (ram : List ℕ) → TakesAnswer (λ items. items ≡ []) ram self.old.state pick (Did count) result ram self.new.state }
         ensures disk { self.new ≡ record self.old { state = self.new.state } }

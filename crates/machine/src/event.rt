@@ -78,7 +78,7 @@ pub enum DiskAnswer {
     /// To a read: the bytes of its sectors, whole ones, from its first sector on. Those of fewer sectors are a part of the answer.
     Gave(Bytes),
 
-    /// To a write, to a clearing, or to a flush, which is one unit: so many units were done, from the first one on.
+    /// To a write, to a clearing, or to a flush, which is one unit: this many units were done, from the first one on.
     Did(u32),
 
     /// It failed: the request ends with an error.

@@ -7,7 +7,7 @@ use Rattle.std.specs.List.{concat}
 abbrev pub bytes_of : List (List ℕ) → List ℕ
 bytes_of = concat
 
--- Bytes, cut into so many sectors.
+-- Bytes, cut into this many sectors.
 abbrev pub cut : ℕ → List ℕ → List (List ℕ)
 cut zero bytes = []
 cut (suc n) bytes = take 512 bytes ∷ cut n (drop 512 bytes)

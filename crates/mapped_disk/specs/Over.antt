@@ -6,7 +6,7 @@ use Rattle.blk.specs.Disk.{AreSectors}
 use Rattle.mapped_disk.specs.Bytes.{cut}
 use Rattle.mapped_disk.specs.declared.image.Image.{Image}
 
--- The bytes of the region are those of so many sectors.
+-- The bytes of the region are those of this many sectors.
 pub record IsOver (region : Region) (sectors : ℕ) : Type 0 where
   pub count : length region.content ≡ sectors * 512
   pub whole : AreSectors (cut sectors region.content)

@@ -13,7 +13,7 @@ pub record Inbox : Type 0 where
 abbrev pub no_frames : ℕ → Inbox
 no_frames longest = record { longest = longest; frames = [] }
 
--- How many frames may wait in an inbox whose longest frame has so many bytes: 64 of at most 1,514 bytes, and of longer ones as many
+-- How many frames may wait in an inbox whose longest frame has this many bytes: 64 of at most 1,514 bytes, and of longer ones as many
 -- as these 64 have bytes for.
 abbrev pub most_waiting : ℕ → ℕ
 most_waiting longest = if nat_lt FRAME_MAX longest then INBOX_BYTES / longest else INBOX_MAX

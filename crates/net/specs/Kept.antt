@@ -14,7 +14,7 @@ bytes_of kept = kept.bytes
 abbrev pub HasRoom : ℕ → Kept → Type 0
 HasRoom longest kept = longest ≤ kept.room
 
--- What holds of the frames that are kept, of which so many may be, and of the rooms of none, for which there are so many places.
+-- What holds of the frames that are kept, of which there may be this many, and of the rooms of none, for which there are this many places.
 pub record AreKept (longest most : ℕ) (frames spare : List Kept) (places : ℕ) : Type 0 where
   pub most_are : most ≡ most_waiting longest
   pub each : length frames + length spare ≡ most

@@ -147,7 +147,7 @@ impl Inbox {
     }
 }
 
-/// Rooms for so many frames. Its only error is out of memory.
+/// Rooms for `count` frames. Its only error is out of memory.
 fn new_rooms(alloc: Global, longest: u16, count: usize) -> Result<Vec<Frame>, NoMemory>
     ensures each { IfOk result (λ rooms. length rooms.items ≡ count) }
     ensures placed { IfOk result (λ rooms. count ≤ vec_capacity rooms) }

@@ -18,7 +18,7 @@ pub const INBOX_MAX: usize = 64;
 /// The most bytes that these frames can have together: 64 of 1,514 bytes.
 pub(crate) const INBOX_BYTES: usize = INBOX_MAX * FRAME_MAX as usize;
 
-/// How many frames may wait where the longest has so many bytes: 64, or as many of the longest as `INBOX_BYTES` hold.
+/// How many frames may wait where a frame has at most `longest` bytes: 64, or as many of the longest as `INBOX_BYTES` hold.
 pub fn most_waiting(longest: u16) -> usize
     ensures { result ≡ most_waiting longest }
 {

@@ -143,7 +143,7 @@ pub record Stops (old : LiveSeen) (pages sectors : ℕ) (new : LiveSeen) : Type 
   pub pages_are : pages ≡ pages_among (layout_of (now old)) (in_either old) (size_of (layout_of (now old)))
   pub sectors_are : sectors ≡ sectors_among (layout_of (now old)) (in_either old) (size_of (layout_of (now old)))
 
--- No stop writes more bytes than so many, where the writer is honest and its digest is of known bytes.
+-- No stop writes more bytes than this, where the writer is honest and its digest is of known bytes.
 abbrev pub StopsWithin : LiveSeen → ℕ → Type 0
 StopsWithin old most = (pages sectors : ℕ) (b : List ℕ) (new : LiveSeen) → IsTrue old.out.honest → Covers old.digest b → Stops old pages sectors new → length new.out.held ≤ length old.out.held + most
 

@@ -57,12 +57,12 @@ none_lost = replicate DEVICES_MAX false
 abbrev pub is_lost : KeptSeen → ℕ → Bool
 is_lost k dev = slice_index_or k.lost dev false
 
--- A log has a place for each page of so many bytes of RAM.
+-- A log has a place for each page of this many bytes of RAM.
 abbrev pub FitsLog : Option (List Bool) → ℕ → Type 0
 FitsLog None bytes = Unit {0}
 FitsLog (Some pages) bytes = bytes ≤ PAGE_SIZE * length pages
 
--- For how many pages a log has a place from the first, of a machine whose RAM has so many bytes, or no more where it arrives: for these,
+-- For how many pages a log has a place from the first, of a machine whose RAM has this many bytes, or no more where it arrives: for these,
 -- as far as the flags allow them, and for no fewer than a machine may have without flags.
 abbrev pub places_for : ℕ → ℕ → ℕ
 places_for flags bytes = max (min (bytes / PAGE_SIZE) (limits_for flags).pages) PAGES_MAX

@@ -164,7 +164,7 @@ pub struct Asked {
 }
 
 impl Asked {
-    /// By these flags, of a machine whose RAM has so many bytes, or no more where it arrives.
+    /// By these flags, of a machine whose RAM has this many bytes, or no more where it arrives.
     pub(crate) fn by(flags: u32, bytes: u64) -> Asked
         ensures large { result.large ≡ asks_large flags }
         ensures places { result.places ≡ places_for flags bytes }

@@ -45,7 +45,7 @@ impl Output {
     }
 }
 
-/// The log that these flags ask for, with a place for each of so many pages.
+/// The log that these flags ask for, with a place for each of `pages` pages.
 #[tactic(auto, using(crate::proofs::PageLogs::asked, crate::proofs::PageLogs::unasked))]
 pub(crate) fn log_for(alloc: Global, flags: u32, places: u32) -> Result<Option<PageLog>, NoMemory>
     ensures { IfOk result (λ log. log ≡ first_log flags places) }

@@ -82,8 +82,8 @@ has_zeroes (shapes.Block sectors read_only id) c = has c.status FEATURES_OK && h
 has_zeroes (shapes.Outside sectors read_only id) c = has c.status FEATURES_OK && has c.features (2 ^ 14)
 has_zeroes _ c = false
 
--- A version that has its shape has this device. In version 1 no block device has a driver that accepted WRITE_ZEROES, and so none has a request to clear
--- sectors.
+-- A version that has its shape has this device. In version 1 no block device has a driver that accepted WRITE_ZEROES, and so none
+-- has a request to clear sectors.
 abbrev pub IsDeviceOf : ℕ → DeviceState → Type 0
 IsDeviceOf version d = version ≡ 1 → has_zeroes (made_as d.kind) d.registers.common ≡ false
 

@@ -86,7 +86,7 @@ pub record Begins (bytes : List ℕ) (opening : Opening) (rest : List ℕ) : Typ
   pub good : IsHeader opening
   pub whole : bytes ≡ header opening ++ rest
 
--- The items of a machine with so many pages and these devices.
+-- The items of a machine with this many pages and these devices.
 abbrev pub layout_in : Opening → Layout
 layout_in opening = layout_by opening.pages opening.shapes
 

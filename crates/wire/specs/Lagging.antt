@@ -7,7 +7,7 @@ pub record WaitingSeen : Type 0 where
   pub out : SinkState
   pub sum : Digested
 
--- So many of the bytes are gone, and so many digested: all that are gone, and maybe more.
+-- This many of the bytes are gone, and this many digested: all that are gone, and maybe more.
 pub record IsWaiting (bytes : List ℕ) (gone seen : ℕ) : Type 0 where
   pub behind : gone ≤ seen
   pub inside : seen ≤ length bytes

@@ -98,7 +98,7 @@ impl<D: Disk> Machine<D> {
         gave
     }
 
-    /// A disk outside did so many sectors of a write or of a clearing, from the first one that is asked for on; or a flush, which is one. The
+    /// A disk outside did this many sectors of a write or of a clearing, from the first one that is asked for on; or a flush, which is one. The
     /// result says whether the request that the pick names awaits this; if not, nothing has changed (`Event::Disk`).
     pub fn disk_did(&mut self, dev: u8, pick: u8, count: u32) -> Result<bool, Refusal>
         ensures applied { IsApplied self.old (events.Disk dev pick (answers.Did count)) (disk_reply (Did count) result) self.new }

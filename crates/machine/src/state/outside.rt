@@ -123,7 +123,7 @@ impl DeviceState {
         }
     }
 
-    /// A disk outside did so many units of what the request of this pick asks for. The result says whether that request awaits this.
+    /// A disk outside did this many units of what the request of this pick asks for. The result says whether that request awaits this.
     pub(crate) fn disk_did(&mut self, pick: u8, count: u32) -> Result<bool, Refusal>
         ensures taken { (ram : List ℕ) → TakesAnswer (λ items. items ≡ []) ram self.old pick (Did count) result ram self.new }
     {
