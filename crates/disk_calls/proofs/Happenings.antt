@@ -1,13 +1,12 @@
 -- What happens to a machine and to the calls of its disks is turns of each device.
-use Rattle.std.proofs.Common.{◌≡◌, ◌≢◌, ℕ, zero, suc, ◌+◌, ◌-◌, ◌<◌, ◌≤◌, ◌∙◌, ◌⊎◌, inl, inr, List, [], ◌∷◌, ◌++◌, length, map, set, get_or, Bool, true, false, cond, ltb, Option, Some, None, Result, Ok, Err, slice_get, refl, sym, ap, subst, arith}
-use borrow.Author.Tests.{ltb-true}
+use Rattle.std.proofs.Common.{◌≡◌, ◌≢◌, ℕ, ◌+◌, ◌-◌, ◌≤◌, ◌∙◌, inl, inr, List, [], ◌∷◌, ◌++◌, length, map, set, get_or, Bool, true, false, cond, ltb, Option, Some, None, Result, Ok, Err, slice_get, refl, sym, ap, subst, arith}
 use Rattle.std.specs.Prelude.{◌&&◌, not}
 use Rattle.std.specs.List.{remove}
 use Rattle.std.proofs.lemmas.Bool.{cases_Bool, lt-ltb, true≢false}
 use Rattle.guestmem.specs.Address.{access_refusal, index_of}
 use Rattle.guestmem.specs.declared.error.RamError.{RamError}
 use Rattle.mmio.specs.RegisterWrite.{register_write}
-use Rattle.mmio.specs.State.{Registers, queue_at}
+use Rattle.mmio.specs.State.{queue_at}
 use Rattle.mmio.specs.Status.{is_running}
 use Rattle.mmio.specs.declared.queue.Queue.{Queue}
 use Rattle.chains.specs.State.{RingState, state_of}
@@ -28,11 +27,11 @@ use Rattle.blk.specs.declared.outside.DiskCall.{DiskCall}
 use Rattle.blk.specs.declared.request.Kind as requests_
 use Rattle.blk.specs.declared.request.Kind.TheVariants.{Refused, In, Out, Flush, GetId, Zero}
 use Rattle.blk.specs.declared.request.Request.{Request}
-use Rattle.machine.specs.DeviceStep.{DeviceAnswer, advance_at, advance_on, advanced_at, advanced_by, advances, can_advance, device_step, looked_at, looked_step, requests_of, serve, step_at, waits_outside}
-use Rattle.machine.specs.Dropping.{drops_in, drops_requests}
-use Rattle.machine.specs.Effect.{Effect, Replacement, applied, replaced_in}
+use Rattle.machine.specs.DeviceStep.{DeviceAnswer, advance_at, advance_on, advanced_at, advanced_by, advances, can_advance, device_step, looked_at, serve, step_at, waits_outside}
+use Rattle.machine.specs.Dropping.{drops_in}
+use Rattle.machine.specs.Effect.{Effect, Replacement, replaced_in}
 use Rattle.machine.specs.Outcome.{Outcome, disk_failed, fine, no_memory}
-use Rattle.machine.specs.Outside.{answer_disk, answer_of, asking_requests, disk_answered, outside_requests, taken_in}
+use Rattle.machine.specs.Outside.{answer_disk, answer_of, disk_answered, outside_requests, taken_in}
 use Rattle.machine.specs.State.{DeviceState, MachineState, base_of}
 use Rattle.machine.specs.Step as steps
 use Rattle.machine.specs.Step.{IsStep, answer, answered_by, disk_of, drop_by, drop_input, drop_of, hand_in, input_of, is_first_ready, put_by, put_in, read_ram, read_register, register_set, set_size, size_by, step_device, write_ram, write_register}
@@ -45,7 +44,7 @@ use Rattle.machine.specs.declared.reply.Refusal.{Refusal}
 use Rattle.machine.specs.declared.reply.Reply.{Reply as Reply_}
 use Rattle.disk_calls.specs.Calls as out_calls
 use Rattle.disk_calls.specs.Calls.{AllCalls, CallsState, IsAt, IsHandedOut, is_out_of, with_out, without, without_at}
-use Rattle.disk_calls.specs.Desk.{AreMet, Desk, Drop, End, Goes, Hand, Lose, Pass, Placed, Ran, Reply, Take, Turn, moved_up, outs_of, reply_to}
+use Rattle.disk_calls.specs.Desk.{Desk, Drop, End, Goes, Hand, Lose, Pass, Placed, Ran, Reply, Take, Turn, moved_up, outs_of, reply_to}
 use Rattle.disk_calls.specs.Handing.{asker, call_at}
 use Rattle.disk_calls.specs.Machines.{Answers, GoesTo, Happening, Happens, Hands, IsDesk, IsNoAnswer, KeepsRequests, MachinesMeetCalls, MakeAll, Makes, asked_of}
 use Rattle.disk_calls.specs.declared.calls.Handed.{Handed}

@@ -1,7 +1,6 @@
 -- The requests of a device of a machine, among those of all; and those of a sound one end within 2^64.
 use Rattle.std.proofs.Common.{◌≡◌, ℕ, zero, suc, ◌∙◌, subst, slice_get, ◌+◌, ◌^◌, ◌<◌, ◌≤◌, List, [], ◌∷◌, length, map, get_or, Bool, true, false, cond, Option, Some, None, refl, sym, ap, arith}
-use Rattle.std.specs.Prelude.{All, IsSomeAnd}
-use Rattle.std.proofs.lemmas.Option.{get_or_from_slice_get, slice_get_within}
+use Rattle.std.specs.Prelude.{IsSomeAnd}
 use Rattle.mmio.specs.State.{Registers, queue_at}
 use Rattle.mmio.specs.Status.{is_running}
 use Rattle.mmio.specs.declared.queue.Queue.{Queue}
@@ -10,7 +9,6 @@ use Rattle.blk.specs.Sound.{AreRequestsOf, IsSoundWork}
 use Rattle.blk.specs.declared.block.Block.{Block}
 use Rattle.blk.specs.declared.request.Kind.{Kind}
 use Rattle.blk.specs.declared.request.Kind.TheVariants.{Refused, In, Out, Flush, GetId, Zero}
-use Rattle.blk.specs.declared.request.Request.{Request}
 use Rattle.blk.specs.declared.request.Verdict.{Verdict}
 use Rattle.blk.specs.declared.shape.Limits.{Limits}
 use Rattle.machine.specs.Outside.{asking_requests, outside_requests}

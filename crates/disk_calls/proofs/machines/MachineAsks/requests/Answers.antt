@@ -1,4 +1,4 @@
-use Rattle.std.proofs.Common.{◌≡◌, ◌∙◌, ℕ, ◌+◌, ◌<◌, length, List, [], Some, slice_get, slice_index_or, sym, subst}
+use Rattle.std.proofs.Common.{◌∙◌, length, List, sym, subst}
 use Rattle.blk.specs.declared.request.Request.{Request}
 use Rattle.machine.proofs.Within.{sound_at}
 use Rattle.machine.specs.Seen.{state_of}
