@@ -133,15 +133,16 @@ impl Block {
         ensures after { HasServed L.may ram.old ram.new log.new }
         ensures decoder { R.decoder ring.new ≡ R.decoder ring.old }
     {
-        if job.k >= self.requests.list.len() {
+        let k = job.k;
+        if k >= self.requests.list.len() {
             return Advanced::Idle;
         }
-        if self.requests.list[job.k].is_open() {
-            give_id(job.base, &self.id, &mut self.requests.list[job.k], ram, log);
+        if self.requests.list[k].is_open() {
+            give_id(job.base, &self.id, &mut self.requests.list[k], ram, log);
             return Advanced::Moved;
         }
-        let completed = complete(job.base, ring, &self.requests.list[job.k], ram, log);
-        self.requests.remove(job.k);
+        let completed = complete(job.base, ring, &self.requests.list[k], ram, log);
+        self.requests.remove(k);
         completed
     }
 }

@@ -11,17 +11,17 @@ use Rattle.disk_calls.specs.Seen.{AnsweringIsATurn, HandingIsATurn, HandingIsNoO
 use Rattle.disk_calls.specs.declared.out.Out.{Out}
 use Rattle.disk_calls.proofs.Numbers.{get_other, get_set, the_same}
 
-outs_pushed : (placed : List Placed) (p : Placed) → outs_of (placed ++ p ∷ []) ≡ outs_of placed ++ p.out ∷ []
+pub outs_pushed : (placed : List Placed) (p : Placed) → outs_of (placed ++ p ∷ []) ≡ outs_of placed ++ p.out ∷ []
 outs_pushed [] p = refl
 outs_pushed (x ∷ placed) p = ap (λ (outs : List Out). x.out ∷ outs) (outs_pushed placed p)
 
-outs_removed : (placed : List Placed) (i : ℕ) → outs_of (remove placed i) ≡ remove (outs_of placed) i
+pub outs_removed : (placed : List Placed) (i : ℕ) → outs_of (remove placed i) ≡ remove (outs_of placed) i
 outs_removed [] zero = refl
 outs_removed [] (suc i) = refl
 outs_removed (x ∷ placed) zero = refl
 outs_removed (x ∷ placed) (suc i) = ap (λ (outs : List Out). x.out ∷ outs) (outs_removed placed i)
 
-placed_at : (placed : List Placed) (i : ℕ) (out : Out) → slice_get (outs_of placed) i ≡ Some out → (p : Placed) × (slice_get placed i ≡ Some p) × (p.out ≡ out)
+pub placed_at : (placed : List Placed) (i : ℕ) (out : Out) → slice_get (outs_of placed) i ≡ Some out → (p : Placed) × (slice_get placed i ≡ Some p) × (p.out ≡ out)
 placed_at [] i out h = cc
 placed_at (x ∷ placed) zero out h = (x, refl, cc)
 placed_at (x ∷ placed) (suc i) out h = placed_at placed i out h

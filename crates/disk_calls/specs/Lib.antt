@@ -3,3 +3,4 @@ pub mod Handing
 pub mod Desk
 pub mod Calls
 pub mod Seen
+pub mod Machines

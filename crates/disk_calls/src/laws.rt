@@ -1,6 +1,7 @@
 //! Laws over the definitions alone. These functions do nothing: their contracts are the laws.
 
 ghost use Rattle.disk_calls.specs.Desk.{CallsAreMet};
+ghost use Rattle.disk_calls.specs.Machines.{MachinesMeetCalls};
 ghost use Rattle.disk_calls.specs.Seen.{AnsweringIsATurn, HandingIsATurn, HandingIsNoOther};
 
 /// No two calls of a device that are out overlap; each is asked by one request; and its answer, whole or in part, meets that one.
@@ -17,4 +18,10 @@ pub fn handing_is_a_turn()
 /// The answer of a call is a turn of its device.
 pub fn answering_is_a_turn()
     ensures { AnsweringIsATurn }
+{}
+
+/// Of a machine to which anything happens, no two calls of a device that are out overlap; each is asked by one request; and its answer meets
+/// that one.
+pub fn machines_meet_calls()
+    ensures { MachinesMeetCalls }
 {}

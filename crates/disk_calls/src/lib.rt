@@ -2,13 +2,14 @@
 //!
 //! A block device whose disk is the host's asks for what its requests need (`blk::DiskCall`). The host is handed one call after another,
 //! does them when it likes, in any order, and answers each by its number. `Calls` knows which are out. It is no part of a machine, and is
-//! not moved. It sees a machine through the trait `Asks`: the outstanding requests of each device, in the order of taking.
+//! not moved. It sees a machine through the trait `Asks`: the outstanding requests of each device, in the order of taking. A `Machine` that is
+//! idle is one.
 //!
 //! Three rules keep a guest's sectors right where a host executes calls while the guest runs:
 //! 1. A call is handed out only where it overlaps none of its device that is out, and nothing that an earlier request has left: else two
 //!    writes of one sector end in either order, and a read gives what was there before a write. `Calls::next` keeps it.
 //! 2. A register write or a reset that would drop a request whose call is out is not made: else its write lands over what the driver
-//!    wrote after the reset. `Calls::is_out_of` is the question; its user keeps the rule.
+//!    wrote after the reset. `Calls::is_out_of` and `Machine::drops_requests` are the questions; its user keeps the rule.
 //! 3. No stop is made while a call is out: else a write of the source lands after one of the target. `Calls::is_any_out` is the question;
 //!    its user keeps the rule.
 //!
@@ -19,7 +20,8 @@
 //! - No two calls of a device that are out overlap, and no two have one number, whatever its user does.
 //! - `Calls::asker` names the request that an answer is for: the first that asks for the same, from the same sector on. Where its user
 //!   keeps rule 2 and answers each call once, each answer meets the request that its call was handed out for (`calls_are_met`, over
-//!   `specs/Desk`). What it does with `Calls` are the turns of that law (`handing_is_a_turn`, `answering_is_a_turn`, over `specs/Seen`).
+//!   `specs/Desk`). What it does with `Calls` are the turns of that law (`handing_is_a_turn`, `answering_is_a_turn`, over `specs/Seen`). So are
+//!   the events of a machine: the law holds of machines, whatever happens to them (`machines_meet_calls`, over `specs/Machines`).
 //! - Room for all calls is taken by `Calls::new`; no other call of this crate takes memory.
 //!
 //! Nothing is trusted here beside the crates below.
@@ -29,11 +31,12 @@ mod calls;
 mod device_calls;
 mod laws;
 mod lookup;
+mod machines;
 mod out;
 
 pub use calls::{Asks, Calls, Handed, Place};
 pub use device_calls::{CALLS_MAX, DeviceCalls, Wanted};
-pub use laws::{answering_is_a_turn, calls_are_met, handing_is_a_turn};
+pub use laws::{answering_is_a_turn, calls_are_met, handing_is_a_turn, machines_meet_calls};
 pub use lookup::asker;
 pub use out::Out;
 

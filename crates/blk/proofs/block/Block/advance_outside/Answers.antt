@@ -12,7 +12,7 @@ pub returns-then-is_open-clause-sound : goal.returns-then-is_open-clause-sound
 returns-then-is_open-clause-sound g c = λ limits sound.
     let items = c.self.inside.0.1.1.1.0.list.items in
     let r = c.index_mut.result.now in
-    let below : c.args.job.k < length items = omega (arith, c.if-job-len.false, c.len.ensures) in
+    let below : c.args.job.k < length items = omega (arith, c.if-k-len.false, c.len.ensures) in
     rw c.give_id.ensures.after.later.bytes (goes_on (length c.args.ram.now.bytes) (g.R.Ring.state c.args.ring.now) limits items c.args.job.k r c.give_id.new.request Moved
     (rw (← c.self.view_is) at sound) below c.index_mut.ensures.value c.give_id.ensures.request (c.give_id.ensures.sound limits))
 
@@ -20,7 +20,7 @@ pub returns-clause-changes : goal.returns-clause-changes
 returns-clause-changes g c =
     let r = c.index-2.result.now in
     let items = c.self.inside.0.1.1.1.0.list.items in
-    let below : c.args.job.k < length items = omega (arith, c.if-job-len.false, c.len.ensures) in
+    let below : c.args.job.k < length items = omega (arith, c.if-k-len.false, c.len.ensures) in
     let at : slice_get items c.args.job.k ≡ Some r = slice_get_read items (length items) c.args.job.k r refl below c.index-2.ensures in
     let same : c.index.result.now ≡ r = c.index.ensures ∙ get_or_from_slice_get items c.args.job.k r c.index.result.now at in
     let found : slice_get c.args.self.now.requests c.args.job.k ≡ Some r = rw (← c.self.view_is) at in

@@ -1,0 +1,18 @@
+use Rattle.std.proofs.Common.{◌∙◌, length, List, sym, subst}
+use Rattle.blk.specs.declared.request.Request.{Request}
+use Rattle.machine.proofs.Within.{sound_at}
+use Rattle.machine.specs.Seen.{state_of}
+use Rattle.disk_calls.specs.Calls.{AreWithin}
+use Rattle.disk_calls.proofs.Within.{asked_at, asking_within, lent}
+use Rattle.disk_calls.proofs.machines.MachineAsks.requests.Goals as goal
+
+pub returns-clause-requests : goal.returns-clause-requests
+returns-clause-requests g c =
+    let there = lent c.args.self.now.devices c.devices.result.now c.args.dev c.index-devices-dev.result c.state.result.now c.devices.ensures c.state.ensures c.requires c.index-devices-dev.is in
+    c.asking_requests.ensures ∙ sym (asked_at (state_of c.args.self.now).devices c.args.dev c.state.result.now there)
+
+pub returns-clause-within : goal.returns-clause-within
+returns-clause-within g c =
+    let there = lent c.args.self.now.devices c.devices.result.now c.args.dev c.index-devices-dev.result c.state.result.now c.devices.ensures c.state.ensures c.requires c.index-devices-dev.is in
+    let sound = sound_at (state_of c.args.self.now) c.args.dev c.state.result.now there c.shapes-sound.ensures.sound in
+    subst (λ (requests : List Request). AreWithin requests) (sym c.asking_requests.ensures) (asking_within (length (state_of c.args.self.now).ram) c.state.result.now sound)
