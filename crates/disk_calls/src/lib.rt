@@ -2,8 +2,8 @@
 //!
 //! A block device whose disk is the host's asks for what its requests need (`blk::DiskCall`). The host is handed one call after another,
 //! does them when it likes, in any order, and answers each by its number. `Calls` knows which are out. It is no part of a machine, and is
-//! not moved. It sees a machine through the trait `Asks`: the outstanding requests of each device, in the order of taking. A `Machine` that is
-//! idle is one.
+//! not moved. It sees a machine through the trait `Asks`: the outstanding requests of each device, in the order of taking. A `Machine` is one,
+//! also while its RAM is lent (`Parked`), and in crate `sender` one that is being sent.
 //!
 //! Three rules keep a guest's sectors right where a host executes calls while the guest runs:
 //! 1. A call is handed out only where it overlaps none of its device that is out, and nothing that an earlier request has left: else two

@@ -1,9 +1,11 @@
 -- Calls of a machine whose RAM is lent.
-use Rattle.std.proofs.Common.{◌≡◌, ℕ, ◌≤◌, Bool, true, false, List, length, map, set, refl, sym, ap, subst, ◌∙◌}
+use Rattle.std.proofs.Common.{◌≡◌, ℕ, ◌*◌, ◌≤◌, Bool, true, false, List, None, length, map, replicate, set, refl, sym, ap, subst, ◌∙◌}
+use Rattle.std.proofs.lemmas.List.{length-replicate}
 use Rattle.std.specs.Prelude.{Result}
 use Rattle.region.specs.declared.region.Region.{Region}
 use Rattle.chains.specs.declared.next.Next.TheVariants.{Empty}
 use Rattle.guestmem.specs.Memory.{Memory}
+use Rattle.guestmem.specs.declared.limits.TheConstants.{PAGES_GREATEST}
 use Rattle.machine.specs.Applied.{FailsOnlyUnsteady, IsApplied, as_given, marks_after}
 use Rattle.machine.specs.Effect.{items_of, no_effect}
 use Rattle.machine.specs.Held.{IsHeld}
@@ -11,6 +13,7 @@ use Rattle.machine.specs.Outcome.{outcome_of}
 use Rattle.machine.specs.Parked.{FailsParkedFlushIf, FlushesParked, IsAppliedParked, IsAppliedQuietly, IsParked, ParkedFlushFails, ParkedIsApplied, ParkedIsFlushed, ParkedSeen, WasHeld, back_with, makes_flush_parked}
 use Rattle.machine.specs.Rings.{AreNewRings, FitAll}
 use Rattle.machine.specs.Seen.{DeviceSeen, Seen, state_of}
+use Rattle.machine.specs.Sound.{IsSoundDevice}
 use Rattle.machine.specs.State.{DeviceState}
 use Rattle.machine.specs.Step.{IsStep, register_value_of}
 use Rattle.machine.specs.StepLaws.{Fits}
@@ -22,8 +25,9 @@ use Rattle.machine.specs.declared.reply.Reply.{Reply}
 use Rattle.machine.specs.declared.reply.Reply.TheVariants.{Refused, Value}
 use Rattle.machine.specs.declared.reply.Refusal.TheVariants.{NoDevice}
 use Rattle.machine.specs.declared.shape.Shape.{Shape}
-use Rattle.machine.proofs.At.{IsAt, applied_quiet, found, held_step, map-set_same, past}
+use Rattle.machine.proofs.At.{IsAt, applied_quiet, found, held_step, map-set_same, own_base, past, seen_base, sound_device}
 use Rattle.machine.proofs.Flushing.{IsCalled, flushes_disk}
+use Rattle.machine.proofs.Parking.{with_zeros}
 use Rattle.machine.proofs.Quiet.{IsQuiet, no_items}
 use Rattle.machine.proofs.Unsynced.{fails, held_tried, same_devices}
 
@@ -99,6 +103,14 @@ pub register_missing : (shapes : List Shape) (versions : List ℕ) (ds : List De
 register_missing shapes versions ds dev offset width was fits h =
     parked_same shapes versions ds (RegRead dev offset width) (Refused NoDevice) tt was
     (λ m held. applied_quiet shapes (record { memory = m; devices = ds }) (record { memory = m; devices = ds }) (RegRead dev offset width) (Refused NoDevice) tt held fits (read_missing m ds dev offset width h) refl refl tt)
+
+-- Its devices are sound, whatever its RAM holds.
+pub parked_sound : (shapes : List Shape) (versions : List ℕ) (ds : List DeviceSeen) (dev len : ℕ) (d : DeviceSeen) → WasHeld shapes (parked_of versions ds) → 1 ≤ length versions → length versions ≤ PAGES_GREATEST → len ≡ 4096 * length versions → IsAt ds dev d
+    → IsSoundDevice d.state.registers.ram_base len d.state
+parked_sound shapes versions ds dev len d was some few is at =
+    let zeros : Memory = record { bytes = replicate (4096 * length versions) 0; versions = versions; place = None } in
+    let sound = sound_device zeros ds dev d at (with_zeros shapes (parked_of versions ds) was some few).sound in
+    own_base len d.state (subst (λ (k : ℕ). IsSoundDevice (seen_base ds) k d.state) (length-replicate (4096 * length versions) 0 ∙ sym is) sound)
 
 -- Rings that keep nothing still do.
 pub rings_new : (old new : List AnyRing) (ds : List DeviceSeen) (n : ℕ) (d : DeviceSeen) → AreNewRings old (length ds) → length new ≡ length old → ((m : Memory) → FitAll old m → FitAll new m) → length (set ds n d) ≡ length ds → AreNewRings new (length (set ds n d))

@@ -43,7 +43,7 @@ pub sound_held : (shapes : List Shape) (m : Seen) → IsHeld shapes m → AreSou
 sound_held shapes m held = (length m.memory.bytes, held.sound.devices)
 
 -- It is held with zeros.
-with_zeros : (shapes : List Shape) (p : ParkedSeen) → WasHeld shapes p → 1 ≤ length p.versions → length p.versions ≤ PAGES_GREATEST
+pub with_zeros : (shapes : List Shape) (p : ParkedSeen) → WasHeld shapes p → 1 ≤ length p.versions → length p.versions ≤ PAGES_GREATEST
     → IsHeld shapes (back_with p (record { bytes = replicate (4096 * length p.versions) 0; versions = p.versions; place = None }))
 with_zeros shapes p held some few =
     let m : Memory = record { bytes = replicate (4096 * length p.versions) 0; versions = p.versions; place = None } in

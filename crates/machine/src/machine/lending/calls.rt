@@ -3,9 +3,10 @@
 //! Each is that call of the machine with whatever its RAM holds meanwhile. So the processors of a guest may write RAM while a call is made,
 //! and it makes no difference which came first.
 
-ghost use Rattle.std.specs.Prelude.{◌≡◌, IfSome, None, map, true};
+ghost use Rattle.std.specs.Prelude.{◌≡◌, IfSome, None, map, slice_get, true};
 ghost use Rattle.guestmem.specs.Memory.{Memory};
 ghost use Rattle.machine.specs.Calls.{CallsDisk};
+ghost use Rattle.machine.specs.Dropping.{drops_in};
 ghost use Rattle.machine.specs.Direct.{accepted_reply, done_reply, value_reply, written_result};
 ghost use Rattle.machine.specs.NextWork.{HaveNoWork, NoneCanWork, can_work_at, has_work_at, next_work, next_work_with_lost};
 ghost use Rattle.machine.specs.Parked.{FailsParkedFlushIf, FlushesParked, IsAppliedParked, back_with, makes_flush_parked, parked_states};
@@ -17,7 +18,7 @@ use crate::reply::Refusal;
 use crate::work::Work;
 use blk::{Disk, DiskFault};
 use console::ConsoleSize;
-use guestmem::recall_bytes;
+use guestmem::{PAGE_SIZE, recall_bytes};
 
 impl<D: Disk> Parked<D> {
     /// The driver reads a register (`Machine::read_register`).
@@ -47,6 +48,19 @@ impl<D: Disk> Parked<D> {
         }
         let device = &mut self.devices[number];
         Ok(device.write_register(dev, &mut self.rings, offset, width, value))
+    }
+
+    /// Whether this register write would drop requests that may have asked something of a disk outside (`Machine::drops_requests`).
+    pub fn drops_requests(&self, dev: u8, offset: u32, width: u8, value: u32) -> bool
+        ensures { result ≡ drops_in (slice_get (parked_states self.now) dev) offset width value }
+    {
+        let number = dev as usize;
+        if number >= self.devices.len() {
+            return false;
+        }
+        let pages = self.ram.pages();
+        let state = self.devices[number].state();
+        state.drops_requests(pages as u64 * PAGE_SIZE as u64, offset, width, value)
     }
 
     /// The host sets the size of a console, in characters (`Machine::resize`).

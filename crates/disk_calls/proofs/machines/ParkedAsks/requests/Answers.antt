@@ -1,0 +1,17 @@
+use Rattle.std.proofs.Common.{◌∙◌, List, sym, subst}
+use Rattle.blk.specs.declared.request.Request.{Request}
+use Rattle.machine.specs.Parked.{parked_states}
+use Rattle.disk_calls.specs.Calls.{AreWithin}
+use Rattle.disk_calls.proofs.Within.{asked_at, lent, parked_within}
+use Rattle.disk_calls.proofs.machines.ParkedAsks.requests.Goals as goal
+
+pub returns-clause-requests : goal.returns-clause-requests
+returns-clause-requests g c =
+    let there = lent c.args.self.now.devices c.devices.result.now c.args.dev c.index-devices-dev.result c.state.result.now c.devices.ensures c.state.ensures c.requires c.index-devices-dev.is in
+    c.asking_requests.ensures ∙ sym (asked_at (parked_states c.args.self.now) c.args.dev c.state.result.now there)
+
+pub returns-clause-within : goal.returns-clause-within
+returns-clause-within g c =
+    let there = lent c.args.self.now.devices c.devices.result.now c.args.dev c.index-devices-dev.result c.state.result.now c.devices.ensures c.state.ensures c.requires c.index-devices-dev.is in
+    let within = parked_within c.args.self.now c.args.dev c.state.result.now there c.recall.ensures.some c.recall.ensures.few c.recall.ensures.sound in
+    subst (λ (requests : List Request). AreWithin requests) (sym c.asking_requests.ensures) within
