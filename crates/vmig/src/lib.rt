@@ -20,7 +20,7 @@
 //! new file holds what was sent of a machine. Over an image each reply is that of a call, from a machine over some sectors on, or, of
 //! `resume`, from the machine that arrived on; which sectors these are is not said. The crate `calls` tests what files hold.
 //!
-//! The definitions are in `specs/`: `Words` the program's words, `Faults` for which refusal each fault is, its status and its
+//! The definitions are in `specs/`: `Allowing` how large its machines may be, `Words` the program's words, `Faults` for which refusal each fault is, its status and its
 //! line, `Playing`, `Resuming`, `Checking` and `Comparing` what `run`, `resume`, `check` and `rehearse` write and what a fault
 //! of theirs says, `Feeding` what is known of a stream whose file is read in pieces, `Output` how much of it was written, and `Run` all of it by the words. `Commands` is for the private parts
 //! of `words` alone.
@@ -29,6 +29,7 @@
 //! command lines; that clap then refuses them only if it is out of memory, and finds the names in them, is proved.
 #![tactic(auto)]
 
+mod allowing;
 mod checking;
 mod comparing;
 mod fault;
@@ -46,9 +47,10 @@ pub use guestmem::{
     is_zero,
 };
 pub use machine::{
-    Board, Bytes, DEVICES_MAX, DeviceState, Disk, DiskFault, Event, FaultDisk, FileDisk, Kind,
-    Limits, Machine, MemDisk, NewError, PageLog, Parked, RamOf, Refusal, Reply, SECTOR_SIZE,
-    SECTORS_MAX, Shape, Stepped, SyncOwed, Turn, TurnEnd, Unmade, Work, is_base,
+    Board, Bytes, DEVICES_MAX, DeviceState, Disk, DiskAnswer, DiskFault, Event, FaultDisk,
+    FileDisk, Kind, Limits, Machine, MemDisk, NewError, OutsideCall, PageLog, Parked, RamOf,
+    Refusal, Reply, SECTOR_SIZE, SECTORS_MAX, Shape, Stepped, SyncOwed, Turn, TurnEnd, Unmade,
+    Work, is_base,
 };
 pub use program::execute;
 pub use receiver::{
