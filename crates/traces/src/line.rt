@@ -155,12 +155,12 @@ fn block(a: &[u8], b: &[u8], c: &[u8]) -> Option<Line>
 fn outside(a: &[u8], b: &[u8], c: &[u8]) -> Option<Line>
     ensures { result ≡ outside_line a.now b.now c.now }
 {
-    let sectors = number64(a)?;
-    let read_only = read_only(b)?;
+    let count = number64(a)?;
+    let is_read_only = read_only(b)?;
     let id = sized_bytes(c)?;
     Some(Line::Device(Shape::Outside {
-        sectors,
-        read_only,
+        sectors: count,
+        read_only: is_read_only,
         id,
     }))
 }

@@ -295,12 +295,11 @@ fn read_resume<'a>(alloc: Global, words: &'a [&'a str]) -> Result<Request<'a>, W
         return Err(WordsError::Usage);
     };
     let image = matches.get_str("disk");
-    let outside = matches.get_flag("outside");
     Ok(Request::Resume {
         stream,
         trace,
         image,
-        outside,
+        outside: matches.get_flag("outside"),
     })
 }
 

@@ -34,5 +34,5 @@ returns-clause-asks c =
       text_is c.get_str.result c.in-Some.stream _ c.in-Some.is (c.get_str.ensures ∙ found (codes "stream") ∙ finds.stream),
       text_is c.get_str-2.result c.in-Some-get_str.trace _ c.in-Some-get_str.is (c.get_str-2.ensures ∙ found (codes "trace") ∙ finds.trace),
       c.get_str-image.ensures ∙ found (codes "disk") ∙ finds.image,
-      flag_is c.get_flag-outside.result (names_outside words) _ (flag ∙ finds.outside) c.get_flag-outside.ensures.value c.get_flag-outside.ensures.other,
+      flag_is c.get_flag.result (names_outside words) _ (flag ∙ finds.outside) c.get_flag.ensures.value c.get_flag.ensures.other,
     )
