@@ -24,6 +24,7 @@ pub struct MachineBuilder {
     base: u64,
     contents: Vec<u8>,
     flags: u32,
+    block: u32,
     parts: Parts,
 }
 
@@ -69,6 +70,12 @@ impl MachineBuilder {
         self
     }
 
+    /// Of disks outside ([`Device::Outside`]): the sectors of the largest block that the caller's storage writes whole, 8 over blocks of 4,096 bytes. No two
+    /// calls that are out share such a block. It is 1 where nothing is said.
+    pub fn block(self, sectors: u32) -> MachineBuilder {
+        MachineBuilder { block: sectors, ..self }
+    }
+
     /// RAM may have up to 4,294,967,295 pages (16 TiB), each disk as many sectors (2 TiB), and a network device frames of 65,535 bytes
     /// ([`Device::LongNetwork`]). Large RAM should be a [`Memory`]: the library fills what it allocates for itself.
     pub fn large(self) -> MachineBuilder {
@@ -84,7 +91,7 @@ impl MachineBuilder {
     /// `BadBase`, `BadImages` (contents and images; not one for each disk, or of other lengths), `NoMemory`.
     pub fn build(mut self) -> Result<Machine, Refused<MachineBuilder>> {
         match self.make() {
-            Ok(held) => Ok(Machine { held, parts: self.parts }),
+            Ok(held) => Ok(Machine::new(held, self.parts)),
             Err(error) => Err(Refused { error, value: self }),
         }
     }
@@ -111,6 +118,7 @@ impl MachineBuilder {
             ram: self.parts.memory.as_mut().map_or(raw::NO_RAM, Memory::slot),
             base: self.base,
             flags: self.flags,
+            block: self.block,
             ..raw::SETUP
         };
         // SAFETY: the slices are valid for the call, and the handle is of no machine. RAM and images are owned by what the machine's owner
