@@ -22,7 +22,7 @@ pub struct MachineBuilder {
     devices: Vec<Device>,
     pages: u32,
     base: u64,
-    contents: Vec<u8>,
+    contents: Box<[u8]>,
     flags: u32,
     block: u32,
     parts: Parts,
@@ -61,7 +61,7 @@ impl MachineBuilder {
     /// The disks' first contents: the sectors of the first block device, then those of the second, and so on. Without contents and images
     /// they are zeros.
     pub fn contents(self, contents: Vec<u8>) -> MachineBuilder {
-        MachineBuilder { contents, ..self }
+        MachineBuilder { contents: contents.into_boxed_slice(), ..self }
     }
 
     /// The disk of the next block device itself, in memory of the caller. There are as many as there are block devices, or none.

@@ -27,7 +27,7 @@ pub enum DiskWork {
 #[derive(Debug)]
 #[must_use = "it has to be answered"]
 pub struct Call {
-    call: raw::Call,
+    asked: raw::Call,
     what: DiskWork,
     machine: u64,
 }
@@ -36,7 +36,7 @@ impl Call {
     /// The number of the device.
     #[must_use]
     pub const fn dev(&self) -> u8 {
-        self.call.dev
+        self.asked.dev
     }
 
     /// What is to be done.
@@ -48,20 +48,20 @@ impl Call {
     /// The first sector, and 0 of a flush.
     #[must_use]
     pub const fn first(&self) -> u64 {
-        self.call.first
+        self.asked.first
     }
 
     /// How many sectors of 512 bytes: none of a flush, and else one at least.
     #[must_use]
     pub const fn count(&self) -> u32 {
-        self.call.count
+        self.asked.count
     }
 
     /// How many bytes of the buffer it reads or writes.
     #[must_use]
     pub const fn len(&self) -> usize {
         match self.what {
-            DiskWork::Read | DiskWork::Write => self.call.count as usize * 512,
+            DiskWork::Read | DiskWork::Write => self.asked.count as usize * 512,
             DiskWork::Clear | DiskWork::Flush => 0,
         }
     }
@@ -75,7 +75,7 @@ impl Call {
     /// Whether a write, or a clearing, has to be durable before it is answered: its driver did not accept FLUSH.
     #[must_use]
     pub const fn is_durable(&self) -> bool {
-        self.call.durable != 0
+        self.asked.durable != 0
     }
 
     /// It will not be answered: its machine is gone, or its guest is to wait for ever.
@@ -91,7 +91,7 @@ impl Call {
             raw::DISK_FLUSH => DiskWork::Flush,
             _ => return Err(Error::NotKnown),
         };
-        Ok(Call { call, what, machine })
+        Ok(Call { asked: call, what, machine })
     }
 }
 
@@ -185,7 +185,7 @@ impl Machine {
 
 /// The call is spent by an answer that is taken.
 fn answered(call: Call, answer: impl FnOnce(u64) -> u32) -> Result<(), Refused<Call>> {
-    match done(answer(call.call.number)) {
+    match done(answer(call.asked.number)) {
         Ok(_) => {
             call.discard();
             Ok(())

@@ -116,9 +116,16 @@ mod tests {
         let long = Device::LongNetwork { mac: [1, 2, 3, 4, 5, 6], longest: 9018 };
         let outside = Device::Outside { sectors: 1 << 54, read_only: true, id: *b"abcdefghijklmnopqrst" };
         assert!(disk.is_disk() && !outside.is_disk());
-        for device in
-            [Device::Network { mac: [1, 2, 3, 4, 5, 6] }, long, disk, Device::disk(9), outside, Device::outside(9), Device::Console, Device::Entropy]
-        {
+        for device in [
+            Device::Network { mac: [1, 2, 3, 4, 5, 6] },
+            long,
+            disk,
+            Device::disk(9),
+            outside,
+            Device::outside(9),
+            Device::Console,
+            Device::Entropy,
+        ] {
             assert_eq!(Device::of(&device.shape()), Some(device));
         }
     }

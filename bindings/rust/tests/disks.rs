@@ -175,7 +175,10 @@ fn a_machine_moves_with_requests_and_without_sectors() {
         let rest = call(&mut moved, &mut buf);
         assert_eq!((rest.first(), rest.count()), (6, 1));
         moved.disk_done(rest, 1, &[2; 512]).unwrap();
-        assert_eq!((work(&mut moved), bytes(&moved, BUFFER + 5 * 512, 1024)), (vec!["Completed(1025)".to_owned()], [[1; 512], [2; 512]].concat()));
+        assert_eq!(
+            (work(&mut moved), bytes(&moved, BUFFER + 5 * 512, 1024)),
+            (vec!["Completed(1025)".to_owned()], [[1; 512], [2; 512]].concat())
+        );
     }
 }
 
