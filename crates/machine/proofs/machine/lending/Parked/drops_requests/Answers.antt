@@ -8,7 +8,7 @@ drops_requests-requires g c =
     let i = c.self.inside in
     let at : IsAt i.devices.items c.args.dev c.index.result.now = record { below = omega arith; is = c.index.ensures } in
     let count = c.pages-pages.ensures.count in
-    rw c.state-state.ensures (parked_sound i.shapes.items i.ram i.devices.items c.args.dev _ c.index.result.now c.self.invariant.0 (rw count at c.pages-pages.ensures.some) (rw count at c.pages-pages.ensures.few) (omega (arith, count)) at)
+    rw c.state-state.ensures (record { sound = parked_sound i.shapes.items i.ram i.devices.items c.args.dev _ c.index.result.now c.self.invariant.0 (rw count at c.pages-pages.ensures.some) (rw count at c.pages-pages.ensures.few) (omega (arith, count)) at })
 
 pub returns : goal.returns
 returns g c =
