@@ -72,7 +72,9 @@
  *       sync_failed            NO_MACHINE  NO_MACHINE        .            .            STOPPED      .
  *     room                     NO_MACHINE  NO_MACHINE        .            .            .            .
  *     step, work, ram_write,
- *       mark, push, lend       NO_MACHINE  NO_MACHINE        .            .            STOPPED      LENT
+ *       mark, push, lend,
+ *       disk_call, disk_done,
+ *       disk_failed            NO_MACHINE  NO_MACHINE        .            .            STOPPED      LENT
  *     ram_read, pull           NO_MACHINE  NO_MACHINE        .            .            .            LENT
  *     lines                    0           0                 .            .            .            .
  *     written                  NO_MACHINE  NO_MACHINE        .            .            .            .
@@ -84,7 +86,8 @@
  *     send_abort               NO_MACHINE  NO_MACHINE        NOT_SENDING  .            .            LENT
  *     send_left, send_take     NO_MACHINE  NO_MACHINE        NOT_SENDING  .            .            as not lent
  *
- *     (1) After VMIG_SEND_FAILED too, where send_begin, send_some, send_round and send_stop are SEND_FAILED.
+ *     (1) After VMIG_SEND_FAILED too, where send_begin, send_some, send_round and send_stop are SEND_FAILED (send_stop CALLS_OUT,
+ *         if any call is out).
  *     (2) A machine that is idle or sending, and whose RAM is out.
  *     (3) Of an arrival that has failed they are STREAM_FAILED.
  *
@@ -132,6 +135,32 @@
  * - A machine that arrived may have a guest that was told of a flush long ago. After vmig_finish call msync for each image, and
  *   fsync for the folder of a file that is new, before the source is told that all is there. Where it fails, also where one between
  *   two rounds failed, the machine does not run here: free it, and the source continues.
+ *
+ * DISKS OUTSIDE: a device of the kind VMIG_BLOCK_OUTSIDE is a block device whose sectors are where you like: in a qcow2 image,
+ * behind a network, encrypted, in a file that your threads read and write. Of it the machine has requests, and no sector. It asks
+ * for what they need, you do it while the guest goes on, and answer, in any order:
+ *
+ *     while (vmig_disk_call(m, &call, slot->bytes, sizeof slot->bytes) == VMIG_CALL) submit(slot, call);      after each turn, as
+ *     ...                                                                                    its steps take requests; until IDLE
+ *     for each call that is over:                                       under the lock of the machine, with RAM that is not lent
+ *         if (failed) status = vmig_disk_failed(m, call.number);
+ *         else status = vmig_disk_done(m, call.number, count, bytes, len);
+ *     do_work(m);                                                                               a turn: it ends what was answered
+ *
+ * - A call is answered, also as failed, once nothing of it can land any more. A time-out is no answer: a write that lands after its
+ *   vmig_disk_failed lies over what the guest wrote since. Storage that hangs is not answered: the guest waits.
+ * - No two calls that are out share a sector of a disk, nor, where setup.block says so, a block of your storage: so calls may be
+ *   done at once, and in any order. Say the largest block that you write whole: 8 over storage of 4,096 bytes, or of clusters or
+ *   encrypted blocks of that size.
+ * - A write, or a clearing, that is `durable` is on storage before it is answered. A flush makes durable the writes and clearings
+ *   of its disk that were answered before vmig_disk_call handed it out, and no others. An fdatasync that failed is for good: from
+ *   then on each flush and each durable call of that disk fails.
+ * - While a call is out nothing is done that would drop its request, or have another host ask for it: vmig_reg_write, vmig_reset
+ *   and vmig_send_stop are VMIG_CALLS_OUT, and nothing changed. Let the lock go, give RAM back, answer what is out, and make the
+ *   call again; a processor of the guest waits in its access meanwhile. All else goes on. What is saved asks anew for what is out;
+ *   what is out of a machine that is freed is yours to end.
+ * - In no stream is a sector of it. To move a guest over storage that both hosts see: pause the guest, answer all that is out,
+ *   vmig_send_stop, close the storage, and only then tell the target, which opens it and then runs the guest.
  *
  * RAM OF YOURS, as under hardware virtualization: the guest runs on memory of yours, and its devices read and write the same bytes:
  * nothing is copied. vmig_lend lends RAM to you, and you run the guest; registers are served while it is lent, and so is what you
@@ -187,14 +216,15 @@
  *
  * WHAT TAKES MEMORY from malloc: vmig_make, for devices, for RAM and disks where they are not yours, for a bit for each sector of
  * an image, and for 8 bytes for each page; vmig_arrive, for lists of the images and shapes, and for 8 bytes for each page of RAM
- * that is yours; both for a log, where VMIG_LOG asks for it; vmig_feed, for the first bytes until the header is whole, fewer than
- * 1,024, for a buffer of 128 KiB, in which the front of a record waits for the rest, and, as soon as the header is whole and within
- * the limits, for what vmig_make takes; vmig_stream_describe, for a list of sixteen shapes, for the time of the call; vmig_save,
- * for the whole stream, for the time of the call; vmig_step and vmig_work, for a chain of more than four descriptors, or a message
- * longer than those before it; vmig_give_back, vmig_mark and vmig_push with a bitmap or with all pages, for 4 bytes for each page
- * that they name, which are kept for the next such call; vmig_send_begin, for two bits for each page and sector; and
- * vmig_send_begin, vmig_send_some, vmig_send_round and vmig_send_stop for what they write, which waits until it is taken: a stop of
- * a machine of which nothing was copied before writes the whole machine. No other call does. */
+ * that is yours; both for 5 KiB, in which calls of disks outside are kept, and for a log, where VMIG_LOG asks for it; vmig_feed,
+ * for the first bytes until the header is whole, fewer than 1,024, for a buffer of 128 KiB, in which the front of a record waits
+ * for the rest, and, as soon as the header is whole and within the limits, for what vmig_make takes; vmig_stream_describe, for a
+ * list of sixteen shapes, for the time of the call; vmig_save, for the whole stream, for the time of the call; vmig_step and
+ * vmig_work, for a chain of more than four descriptors, or a message longer than those before it; vmig_give_back, vmig_mark and
+ * vmig_push with a bitmap or with all pages, for 4 bytes for each page that they name, which are kept for the next such call;
+ * vmig_send_begin, for two bits for each page and sector; and vmig_send_begin, vmig_send_some, vmig_send_round and vmig_send_stop
+ * for what they write, which waits until it is taken: a stop of a machine of which nothing was copied before writes the whole
+ * machine. No other call does. */
 #ifndef VMIG_H
 #define VMIG_H
 
@@ -218,7 +248,7 @@ extern "C" {
 #endif
 
 /* The version of this library. It reads streams of versions 1 to 3. It writes version 3 where a device is for frames of more than
- * 1,514 bytes, and else version 2. */
+ * 1,514 bytes, or has its disk outside, and else version 2. */
 #define VMIG_VERSION "1.0.0"
 #define VMIG_VERSION_MAJOR 1
 #define VMIG_VERSION_MINOR 0
@@ -243,8 +273,8 @@ enum {
     /* Refused: the event, by the numbers of the machine's own replies. */
     VMIG_NO_DEVICE = 1,                 /* there is no device of this number */
     VMIG_OUT_OF_RAM = 2,                /* the access is not all in RAM; of pages: there is no such page */
-    VMIG_TOO_LONG = 3,                  /* an access to RAM of more than 4,096 bytes */
-    VMIG_WRONG_KIND = 4,                /* a device of this kind has no such call, or no disk */
+    VMIG_TOO_LONG = 3,                  /* an access to RAM of more than 4,096 bytes; disk_done: no answer to that call */
+    VMIG_WRONG_KIND = 4,                /* a device of this kind has no such call, or no disk in the machine */
     VMIG_BAD_FRAME = 5,                 /* a frame of fewer than 14 bytes, or of more than the longest of its device */
 
     /* Refused: the call. */
@@ -266,12 +296,14 @@ enum {
     VMIG_BAD_RAM = 26,                  /* not whole pages, none, or more than 16,384 without VMIG_LARGE; not as asked for or lent;
                                          * lend: not VMIG_NO_RAM */
     VMIG_NOT_KNOWN = 27,                /* a struct of another version, a flag, or a word that has to be 0; or no VMIG_LOG */
+    VMIG_NOT_OUT = 28,                  /* no call of a disk outside with this number is out */
+    VMIG_CALLS_OUT = 29,                /* calls of disks outside are out, and have to be answered before */
     VMIG_BAD_BASE = 30,                 /* not a multiple of 4,096, or RAM would reach past the last address */
 
     /* Refused: what arrives. The arrival is over, and the handle waits for vmig_free or vmig_release. */
     VMIG_STREAM_BAD_MAGIC = 33,         /* it does not begin with "VMIG" */
-    VMIG_STREAM_BAD_VERSION = 34,       /* a version after 3; or version 3, to an arrival that names no longest frame, or, at the
-                                         * header's end, of a machine without a device for long ones */
+    VMIG_STREAM_BAD_VERSION = 34,       /* a version after 3; or version 3, to an arrival that allows neither longer frames nor
+                                         * disks outside, or, at the header's end, of a machine without any */
     VMIG_STREAM_BAD_SHAPE = 35,         /* it announces what no machine can be, or, to an arrival without VMIG_LARGE, what none
                                          * without this flag can be */
     VMIG_STREAM_MISMATCH = 36,          /* at the header: not the shapes, images or pages of RAM that the arrival names; or RAM
@@ -291,7 +323,7 @@ enum {
     VMIG_STREAM_TOO_LARGE = 49,         /* at the header, before memory is taken: more than the arrival allows */
 
     /* Done, and this was done. */
-    VMIG_IDLE = 65,                     /* step: nothing to do; next, work: no step has anything to do */
+    VMIG_IDLE = 65,                     /* step: nothing to do; next, work: no step has anything to do; disk_call: there is none */
     VMIG_TAKEN = 66,                    /* a block device took a request */
     VMIG_MOVED = 67,                    /* one unit of a request is done: a sector, a flush or the id */
     VMIG_BAD_SECTOR = 68,               /* the sector is bad: the request will end with an error; sector_read: it has no bytes */
@@ -305,6 +337,7 @@ enum {
     VMIG_WORK = 78,                     /* next: the step that it names has something to do; work: there is more to do */
     VMIG_MORE = 79,                     /* stream_describe: the header is not whole; save: the stream is longer than size */
     VMIG_SYNC = 80,                     /* next, work: the step that it names needs its disk durable before */
+    VMIG_CALL = 81,                     /* disk_call: there is one */
     VMIG_WHOLE = 82                     /* feed: the stream has ended, and is right: call vmig_finish */
 };
 
@@ -316,12 +349,13 @@ static inline const char *vmig_status_name(vmig_status status);
 
 /* ---- structs: each has a size for ever, and words that are 0 until a later version gives them a meaning ---------------------- */
 
-/* Kinds of devices, by the numbers of the standard. */
+/* Kinds of devices, by the numbers of the standard; and a block device whose disk is outside. */
 enum {
     VMIG_NETWORK = 1,
     VMIG_BLOCK = 2,
     VMIG_CONSOLE = 3,
-    VMIG_ENTROPY = 4
+    VMIG_ENTROPY = 4,
+    VMIG_BLOCK_OUTSIDE = 130
 };
 
 /* The most bytes that a step can put into your buffer: a console's message. */
@@ -338,7 +372,8 @@ typedef struct vmig_shape {
     uint8_t kind;
     uint8_t read_only;                  /* of a disk: whether the driver may only read it, 0 or 1 */
     uint8_t mac[6];                     /* of a network device */
-    uint64_t sectors;                   /* of a disk: 1 to 2,097,152 sectors of 512 bytes, to 4,294,967,295 with VMIG_LARGE */
+    uint64_t sectors;                   /* of a disk: 1 to 2,097,152 sectors of 512 bytes, to 4,294,967,295 with VMIG_LARGE; of a
+                                         * disk outside to 2^54, with and without it */
     uint8_t id[20];                     /* of a disk: the id that it returns to a driver */
     uint32_t frame;                     /* of a network device: how many bytes its longest frame has, 1,515 to 65,535 with
                                          * VMIG_LARGE; 0: 1,514, and no MTU is offered */
@@ -403,7 +438,8 @@ typedef struct vmig_setup {
                                          * driver writes into registers and descriptors, and those of vmig_ram_read and
                                          * vmig_ram_write */
     uint32_t flags;                     /* any of VMIG_LARGE and VMIG_LOG, or 0 */
-    uint32_t block;                     /* 0 */
+    uint32_t block;                     /* of disks outside: how many sectors the largest block of your storage has, as 8 for 4,096
+                                         * bytes; 0 is 1 */
     uint64_t reserved[4];               /* 0 */
 } vmig_setup;
 
@@ -426,7 +462,7 @@ typedef struct vmig_arrival {
     uint32_t most_pages;                /* of RAM, 4,096 bytes each, in memory of the library. RAM of yours is its own limit: 0 here
                                          * then, else VMIG_BAD_RAM */
     uint64_t most_sectors;              /* of all disks in memory of the library together. Images are their own limit: beside them
-                                         * this is not looked at */
+                                         * this is not looked at. Disks outside take no memory, and are not counted */
     const vmig_shape *shapes;           /* exactly these devices, else VMIG_STREAM_MISMATCH; or count is 0: any within the limits */
     size_t count;
     vmig_image *images;                 /* the disks, in memory of yours: one for each block device of the stream, in their order,
@@ -441,10 +477,12 @@ typedef struct vmig_arrival {
                                          * the library that would reach past the last address is VMIG_STREAM_MISMATCH */
     uint32_t flags;                     /* any of VMIG_LARGE and VMIG_LOG, or 0 */
     uint32_t frame;                     /* how many bytes the longest frame of each network device may have, 1,515 to 65,535 with
-                                         * VMIG_LARGE, else VMIG_NOT_KNOWN; a longer one is VMIG_STREAM_TOO_LARGE. 0: 1,514, and
-                                         * then version 3 of the stream, in which longer ones come, is VMIG_STREAM_BAD_VERSION */
-    uint64_t most_outside;              /* 0 */
-    uint32_t block, zero;               /* 0 */
+                                         * VMIG_LARGE, else VMIG_NOT_KNOWN; a longer one is VMIG_STREAM_TOO_LARGE. 0: 1,514 */
+    uint64_t most_outside;              /* how many sectors each disk outside may have, and where shapes name a larger one as many
+                                         * as that; more are VMIG_STREAM_TOO_LARGE. 0, and none in shapes: no disk is outside. Where
+                                         * this is so and frame is 0, version 3 of the stream is VMIG_STREAM_BAD_VERSION */
+    uint32_t block;                     /* as of vmig_setup */
+    uint32_t zero;                      /* 0 */
     uint64_t reserved[2];               /* 0 */
 } vmig_arrival;
 
@@ -458,7 +496,7 @@ typedef struct vmig_description {
     uint32_t count;                     /* of devices; likewise */
     uint64_t base;                      /* of RAM; of a stream 0, which does not say it */
     uint32_t flags;                     /* those that it was made, or let arrive, with */
-    uint32_t calls_out;                 /* 0 */
+    uint32_t calls_out;                 /* how many calls of disks outside were handed out and are not answered */
     uint32_t rounds;                    /* sending: the number of the round that is open; arriving: how many have ended */
     uint32_t fault;                     /* failed, send failed: the status that was answered first */
     uint64_t fault_at;                  /* failed: how many bytes of the stream came before the piece that was refused */
@@ -517,7 +555,9 @@ vmig_status vmig_reg_read(const vmig_machine *m, uint8_t dev, uint32_t off, uint
 /* The driver writes a register. The status does not show whether the device takes the value: where there is no register, or one of
  * another width, a write is VMIG_OK and does nothing. *byte becomes the byte that a console gives out where its driver writes its
  * emergency register (VIRTIO 1.2, 5.3.5): print it. Else it becomes VMIG_NO_BYTE. After a write at 0x050 (QueueNotify) the device
- * may have work. NO_DEVICE. */
+ * may have work.
+ * NO_DEVICE, CALLS_OUT (it would drop requests of a disk outside, by 0 at Status, 0x070, or at QueueReady, 0x044, and a call of
+ * this disk is out: answer it, and hand the write in again). */
 vmig_status vmig_reg_write(vmig_machine *m, uint8_t dev, uint32_t off, uint8_t width, uint32_t value, uint32_t *byte)
     VMIG_CHECKED_(1, 6);
 
@@ -548,8 +588,8 @@ vmig_status vmig_resize(vmig_machine *m, uint8_t dev, uint16_t cols, uint16_t ro
 vmig_status vmig_drop(vmig_machine *m, uint8_t dev) VMIG_CHECKED_(1);
 
 /* The guest's reboot: of each device in order, what its driver's reset does (0 into Status, at 0x070), and vmig_drop where it has
- * it. RAM, disks, bad sectors, lost disks and a console's size stay. A machine that is being sent is sent on. Read the lines. No
- * refusal but the table's. */
+ * it. RAM, disks, bad sectors, lost disks and a console's size stay. A machine that is being sent is sent on. Read the lines.
+ * CALLS_OUT (of a disk outside that has requests: answer these, and call again). */
 vmig_status vmig_reset(vmig_machine *m) VMIG_CHECKED_(1);
 
 /* ---- work: steps of the devices, which read and write RAM -------------------------------------------------------------------- */
@@ -607,6 +647,47 @@ vmig_status vmig_work(vmig_machine *m, vmig_turn *turn, uint8_t *buf, size_t siz
  * NO_DEVICE, WRONG_KIND (it has no disk). */
 vmig_status vmig_sync_failed(vmig_machine *m, uint8_t dev) VMIG_CHECKED_(1);
 
+/* ---- disks outside: yours, on request ---------------------------------------------------------------------------------------- */
+
+/* What a call asks for. */
+enum {
+    VMIG_DISK_READ = 1,                 /* to read sectors */
+    VMIG_DISK_WRITE = 2,                /* to write sectors */
+    VMIG_DISK_CLEAR = 3,                /* to fill sectors with zeros */
+    VMIG_DISK_FLUSH = 4                 /* to make durable what was written and cleared */
+};
+
+typedef struct vmig_call {
+    uint64_t number;                    /* names the call until it is answered; no other call of this machine ever has it */
+    uint64_t first;                     /* the first sector; 0 of a flush */
+    uint32_t count;                     /* how many sectors of 512 bytes, none past the disk's last; 0 of a flush */
+    uint8_t dev;                        /* the device */
+    uint8_t what;                       /* one of VMIG_DISK_ */
+    uint8_t durable;                    /* of a write or a clearing 1, if it has to be durable before it is answered, for the driver
+                                         * did not accept the feature FLUSH; else 0 */
+    uint8_t zero;                       /* 0 */
+    uint64_t reserved[2];               /* 0 */
+} vmig_call;
+
+/* Hands out the next call: VMIG_CALL, and *call becomes it; or VMIG_IDLE, where no device waits for one that may be handed out. Of
+ * a write its bytes, 512 * count, go to the front of buf, as they lie in RAM then. A call has at most size / 512 sectors, of each
+ * kind: what is left of its request is asked for by another call. No sector is written or cleared of a disk that its driver may
+ * only read. At most 8 calls of a device are out, and devices take turns. Call it until VMIG_IDLE after each turn, and after each
+ * answer.
+ * TOO_SMALL (size is less than 512). */
+vmig_status vmig_disk_call(vmig_machine *m, vmig_call *call, uint8_t *buf, size_t size) VMIG_CHECKED_(1, 2);
+
+/* `count` sectors of the call with this number were done, from its first one on: one at least, and no more than it has; of a flush
+ * 0. bytes are those that were read, 512 * count; of other calls none. What it lacks is asked for anew, under another number.
+ * VMIG_OK also where nothing waits for it any more, as its device asked for a reset meanwhile. After a refusal the call is still
+ * out.
+ * NOT_OUT, TOO_LONG (another count, or another number of bytes). */
+vmig_status vmig_disk_done(vmig_machine *m, uint64_t number, uint32_t count, const uint8_t *bytes, size_t len) VMIG_CHECKED_(1);
+
+/* The call with this number failed, and nothing of it can land any more: its request will end with an error. VMIG_OK also where
+ * nothing waits for it any more. NOT_OUT. */
+vmig_status vmig_disk_failed(vmig_machine *m, uint64_t number) VMIG_CHECKED_(1);
+
 /* ---- a look from outside ----------------------------------------------------------------------------------------------------- */
 
 /* A sector of the disk of a device, numbered from 0: VMIG_OK, and buf becomes its 512 bytes; or VMIG_BAD_SECTOR: it has none, and
@@ -639,11 +720,11 @@ vmig_status vmig_give_back(vmig_machine *m, vmig_ram *ram, const vmig_pages *wri
  * NOT_KNOWN, TOO_SMALL, OUT_OF_RAM (no such page), NO_MEMORY (a bitmap, or all). */
 vmig_status vmig_mark(vmig_machine *m, const vmig_pages *written) VMIG_CHECKED_(1, 2);
 
-/* Hands out the numbers of the pages that vmig_step, vmig_ram_write and vmig_push wrote, also with the same bytes, and that were
- * not handed out yet: ascending, at most size of them, and it forgets these. *count of them are at the front of pages, and what is
- * after them is as it was; where *count is less than size, they were all. Exactly these: none that vmig_give_back or vmig_mark
- * named, and none that arrived. For a host that translates code, keeps a dirty log of its own, or shows a frame buffer. It takes no
- * memory.
+/* Hands out the numbers of the pages that vmig_step, vmig_ram_write, vmig_push and vmig_disk_done wrote, also with the same bytes,
+ * and that were not handed out yet: ascending, at most size of them, and it forgets these. *count of them are at the front of
+ * pages, and what is after them is as it was; where *count is less than size, they were all. Exactly these: none that
+ * vmig_give_back or vmig_mark named, and none that arrived. For a host that translates code, keeps a dirty log of its own, or shows
+ * a frame buffer. It takes no memory.
  * NOT_KNOWN (it was made, or let arrive, without VMIG_LOG). */
 vmig_status vmig_written(vmig_machine *m, uint32_t *pages, size_t size, size_t *count) VMIG_CHECKED_(1, 4);
 
@@ -675,7 +756,7 @@ vmig_status vmig_send_round(vmig_machine *m) VMIG_CHECKED_(1);
 
 /* Copies all that is due or was written since it was sent, then the devices, and closes the stream. *pages and *sectors become the
  * numbers that it copied. The guest is paused from here on, until vmig_send_abort. Take what waits before it: what was not taken is
- * digested in this call, while the guest stands. SEND_FAILED. */
+ * digested in this call, while the guest stands. CALLS_OUT (of any disk outside: answer them, and ask for no more), SEND_FAILED. */
 vmig_status vmig_send_stop(vmig_machine *m, uint64_t *pages, uint64_t *sectors) VMIG_CHECKED_(1, 2, 3);
 
 /* The machine continues as if it had never been sent; what waits is lost. After a stop that was done: only where nobody runs what
@@ -739,7 +820,8 @@ static inline const char *vmig_status_name(vmig_status status)
     VMIG_NAMED_(VMIG_IN_USE) VMIG_NAMED_(VMIG_NO_MEMORY) VMIG_NAMED_(VMIG_TOO_SMALL) VMIG_NAMED_(VMIG_BAD_SHAPE)
     VMIG_NAMED_(VMIG_BAD_IMAGES) VMIG_NAMED_(VMIG_NOT_SENDING) VMIG_NAMED_(VMIG_SENDING) VMIG_NAMED_(VMIG_SEND_FAILED)
     VMIG_NAMED_(VMIG_STOPPED) VMIG_NAMED_(VMIG_NO_ROUND_LEFT) VMIG_NAMED_(VMIG_LENT) VMIG_NAMED_(VMIG_NOT_LENT)
-    VMIG_NAMED_(VMIG_NOT_YOURS) VMIG_NAMED_(VMIG_BAD_RAM) VMIG_NAMED_(VMIG_NOT_KNOWN) VMIG_NAMED_(VMIG_BAD_BASE)
+    VMIG_NAMED_(VMIG_NOT_YOURS) VMIG_NAMED_(VMIG_BAD_RAM) VMIG_NAMED_(VMIG_NOT_KNOWN) VMIG_NAMED_(VMIG_NOT_OUT)
+    VMIG_NAMED_(VMIG_CALLS_OUT) VMIG_NAMED_(VMIG_BAD_BASE)
     VMIG_NAMED_(VMIG_STREAM_BAD_MAGIC) VMIG_NAMED_(VMIG_STREAM_BAD_VERSION) VMIG_NAMED_(VMIG_STREAM_BAD_SHAPE)
     VMIG_NAMED_(VMIG_STREAM_MISMATCH) VMIG_NAMED_(VMIG_STREAM_BAD_TAG) VMIG_NAMED_(VMIG_STREAM_BAD_PAGE)
     VMIG_NAMED_(VMIG_STREAM_BAD_SECTOR) VMIG_NAMED_(VMIG_STREAM_BAD_ROUND) VMIG_NAMED_(VMIG_STREAM_BAD_DEVICE)
@@ -748,7 +830,8 @@ static inline const char *vmig_status_name(vmig_status status)
     VMIG_NAMED_(VMIG_STREAM_TOO_LARGE) VMIG_NAMED_(VMIG_IDLE) VMIG_NAMED_(VMIG_TAKEN) VMIG_NAMED_(VMIG_MOVED)
     VMIG_NAMED_(VMIG_BAD_SECTOR) VMIG_NAMED_(VMIG_DISK_FAILED) VMIG_NAMED_(VMIG_COMPLETED) VMIG_NAMED_(VMIG_SENT)
     VMIG_NAMED_(VMIG_DROPPED) VMIG_NAMED_(VMIG_NEEDS_RESET) VMIG_NAMED_(VMIG_ROUND_DONE) VMIG_NAMED_(VMIG_ROUND_OPEN)
-    VMIG_NAMED_(VMIG_WORK) VMIG_NAMED_(VMIG_MORE) VMIG_NAMED_(VMIG_SYNC) VMIG_NAMED_(VMIG_WHOLE)
+    VMIG_NAMED_(VMIG_WORK) VMIG_NAMED_(VMIG_MORE) VMIG_NAMED_(VMIG_SYNC) VMIG_NAMED_(VMIG_CALL)
+    VMIG_NAMED_(VMIG_WHOLE)
     default: return "unknown status";
     }
 #undef VMIG_NAMED_

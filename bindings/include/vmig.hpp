@@ -18,7 +18,7 @@ enum class [[nodiscard]] status : std::uint32_t {
     bad_shape = VMIG_BAD_SHAPE, bad_images = VMIG_BAD_IMAGES, not_sending = VMIG_NOT_SENDING, sending = VMIG_SENDING,
     send_failed = VMIG_SEND_FAILED, stopped = VMIG_STOPPED, no_round_left = VMIG_NO_ROUND_LEFT, lent = VMIG_LENT,
     not_lent = VMIG_NOT_LENT, not_yours = VMIG_NOT_YOURS, bad_ram = VMIG_BAD_RAM, not_known = VMIG_NOT_KNOWN,
-    bad_base = VMIG_BAD_BASE, stream_bad_magic = VMIG_STREAM_BAD_MAGIC, stream_bad_version = VMIG_STREAM_BAD_VERSION,
+    not_out = VMIG_NOT_OUT, calls_out = VMIG_CALLS_OUT, bad_base = VMIG_BAD_BASE, stream_bad_magic = VMIG_STREAM_BAD_MAGIC, stream_bad_version = VMIG_STREAM_BAD_VERSION,
     stream_bad_shape = VMIG_STREAM_BAD_SHAPE, stream_mismatch = VMIG_STREAM_MISMATCH,
     stream_bad_tag = VMIG_STREAM_BAD_TAG, stream_bad_page = VMIG_STREAM_BAD_PAGE,
     stream_bad_sector = VMIG_STREAM_BAD_SECTOR, stream_bad_round = VMIG_STREAM_BAD_ROUND,
@@ -29,7 +29,7 @@ enum class [[nodiscard]] status : std::uint32_t {
     taken = VMIG_TAKEN, moved = VMIG_MOVED, bad_sector = VMIG_BAD_SECTOR, disk_failed = VMIG_DISK_FAILED,
     completed = VMIG_COMPLETED, sent = VMIG_SENT, dropped = VMIG_DROPPED, needs_reset = VMIG_NEEDS_RESET,
     round_done = VMIG_ROUND_DONE, round_open = VMIG_ROUND_OPEN, work = VMIG_WORK, more = VMIG_MORE, sync = VMIG_SYNC,
-    whole = VMIG_WHOLE,
+    call = VMIG_CALL, whole = VMIG_WHOLE,
 };
 
 /* The name that a status has in vmig.h. */
@@ -109,6 +109,12 @@ public:
     }
     status work(vmig_turn *turn, std::uint8_t *buf, std::size_t size) { return status{vmig_work(&held, turn, buf, size)}; }
     status sync_failed(std::uint8_t dev) { return status{vmig_sync_failed(&held, dev)}; }
+    status disk_call(vmig_call *call, std::uint8_t *buf, std::size_t size) { return status{vmig_disk_call(&held, call, buf, size)}; }
+    status disk_done(std::uint64_t number, std::uint32_t count, const std::uint8_t *bytes, std::size_t len)
+    {
+        return status{vmig_disk_done(&held, number, count, bytes, len)};
+    }
+    status disk_failed(std::uint64_t number) { return status{vmig_disk_failed(&held, number)}; }
     status sector_read(std::uint8_t dev, std::uint64_t sector, std::uint8_t (&buf)[512]) const
     {
         return status{vmig_sector_read(&held, dev, sector, buf)};

@@ -40,6 +40,7 @@ void list_files(const struct host *h, int files[SOURCES_OF_INPUT])
 
     files[0] = hears ? STDIN_FILENO : -1;
     files[1] = h->frame_length == 0 ? h->wire : -1;
+    files[2] = storage_bell(h);
 }
 
 void look_around(struct host *h)
@@ -48,7 +49,8 @@ void look_around(struct host *h)
     uint64_t before = clock_nanoseconds();
 
     list_files(h, files);
-    struct pollfd sources[] = {{.fd = files[0], .events = POLLIN}, {.fd = files[1], .events = POLLIN}};
+    struct pollfd sources[SOURCES_OF_INPUT];
+    for (int i = 0; i < SOURCES_OF_INPUT; i++) sources[i] = (struct pollfd){.fd = files[i], .events = POLLIN};
     count = poll(sources, SOURCES_OF_INPUT, milliseconds_to_wait(h));
     h->statistics.waited += clock_nanoseconds() - before;
     h->input_waits = count > 0 || operator_words.has_new_size;

@@ -10,6 +10,8 @@
 #include "line.h"
 #include "network.h"
 #include "options.h"
+#include "pool.h"
+#include "storage.h"
 #include "uart.h"
 
 /* The random bytes that wait for the guest. */
@@ -38,12 +40,14 @@ struct move {
 };
 
 struct statistics {
-    uint64_t began, accesses, loans, steps, waited, in_library, entered;
+    uint64_t began, accesses, loans, steps, calls, waited, in_library, entered;
 };
 
 struct host {
     struct options options;
     struct devices devices;
+    struct pool pool;            /* of the disks that are not mapped, if there are any */
+    int has_pool;
     pthread_mutex_t next, library;   /* who calls the library has the second one, and who waits for it the first */
     pthread_cond_t copied;           /* the carrier of a move has something to take, or is to end */
     vmig_machine machine;
@@ -130,8 +134,8 @@ void lend_ram(struct host *h);
 
 /* around.c: looks at the terminal and the wire, and waits for them if the guest waits. */
 void look_around(struct host *h);
-/* The files on which bytes can come that are wanted now, or -1: the terminal, and the wire. */
-enum { SOURCES_OF_INPUT = 2 };
+/* The files on which bytes can come that are wanted now, or -1: the terminal, the wire, and the bell of the disks. */
+enum { SOURCES_OF_INPUT = 3 };
 void list_files(const struct host *h, int files[SOURCES_OF_INPUT]);
 /* Opens the wire of the network device, if there is one. */
 void open_wire(struct host *h);

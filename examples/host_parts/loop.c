@@ -7,6 +7,17 @@
 /* The steps of one turn: a guest can give its devices work without end. */
 enum { STEPS_A_TURN = 1000 };
 
+/* A driver that resets its device waits in its access until what the device asked of its disk is answered. */
+static vmig_status write_register(struct host *h, uint8_t dev, uint32_t off, uint32_t *byte)
+{
+    const struct touched *a = &h->touched;
+    vmig_status status;
+
+    do status = vmig_reg_write(&h->machine, dev, off, a->width, a->value, byte);
+    while (status == VMIG_CALLS_OUT && storage_drain(h));
+    return status;
+}
+
 /* A driver's access to a register of its device, while RAM is lent. A window without a device reads 0. */
 static void access_register(struct host *h)
 {
@@ -17,7 +28,7 @@ static void access_register(struct host *h)
     if (!a->is_write) {
         vmig_status status = vmig_reg_read(&h->machine, dev, off, a->width, &value);
         finish_read(h, status == VMIG_OK ? value : 0);
-    } else if (vmig_reg_write(&h->machine, dev, off, a->width, a->value, &byte) == VMIG_OK) {
+    } else if (write_register(h, dev, off, &byte) == VMIG_OK) {
         printed = (uint8_t)byte;
         if (byte != VMIG_NO_BYTE) hand_on(h, dev, &printed, 1);
         h->steps_wait = 1;
@@ -45,6 +56,7 @@ static int load_again(struct host *h)
 /* The machine and the board are as they were when the guest was switched on, but for RAM and the disks. */
 static void reboot(struct host *h)
 {
+    if (!storage_drain(h)) return;
     must(vmig_reset(&h->machine), "vmig_reset");
     board_reset(h);
     fill_pool(h);
@@ -94,7 +106,7 @@ static int has_work(const struct host *h)
 }
 
 /* The devices do their work, in turn from where they were, with RAM taken back. What is more than a turn has waits for the next one, which
- * begins after the last step, and behind one that was refused memory: so none keeps the others waiting. */
+ * begins after the last step, and behind one that was refused memory: so none keeps the others waiting. Then disks are asked what they want. */
 static void do_work(struct host *h)
 {
     static uint8_t sent[VMIG_SENT_MAX];
@@ -109,6 +121,7 @@ static void do_work(struct host *h)
         if (status == VMIG_SENT) hand_on(h, t->dev, sent, t->len);
         if (status == VMIG_COMPLETED && t->dev == ENTROPY) fill_pool(h);
     } while (status != VMIG_IDLE && status != VMIG_WORK && !vmig_refused(status));
+    storage_ask(h);
     h->statistics.steps += STEPS_A_TURN - t->left;
     h->steps_wait = status != VMIG_IDLE;
     if (status == VMIG_NO_MEMORY) status = vmig_next(&h->machine, &t->dev, &t->pick);
@@ -127,7 +140,7 @@ static void turn(struct host *h)
     if (!is_answered) access_register(h);
     if (h->reboots) reboot(h);
     take_input(h);
-    h->steps_wait = h->steps_wait && has_work(h);
+    h->steps_wait = storage_answer(h) || (h->steps_wait && has_work(h));
     if (h->steps_wait) do_work(h);
     if (move_further(h)) {
         read_lines(h);
@@ -140,6 +153,7 @@ void host_run(struct host *h)
 {
     terminal_take();
     open_wire(h);
+    storage_begin(h);
     enter_library(h);
     fill_pool(h);
     do_work(h);
@@ -151,5 +165,6 @@ void host_run(struct host *h)
     enter_library(h);
     leave_line(h, h->has_ended ? "the guest ended" : "its operator ended the guest");
     leave_library(h);
+    storage_end(h);
     if (operator_words.ends) say("ended by its operator");
 }

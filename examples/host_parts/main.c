@@ -16,7 +16,7 @@ static void begin_guest(struct host *h)
     devices_make(&h->devices, h->memory, h->memory_length, &h->machine);
 }
 
-/* All is given back. The bytes of the disks are in their files. */
+/* All is given back. The bytes of the disks that are mapped are in their files. */
 static void end(struct host *h)
 {
     vmig_image images[DISKS_MAX] = {VMIG_NO_IMAGE};

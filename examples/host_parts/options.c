@@ -21,10 +21,24 @@ static unsigned number_of(const char *option, const char *word, unsigned least, 
     misused(range, option);
 }
 
-static void add_disk(struct options *o, const char *word)
+static void add_disk(struct options *o, const char *option, const char *word)
 {
-    if (o->count_disks == DISKS_MAX) misused("there are more than five", "--disk");
-    o->disks[o->count_disks++] = word;
+    if (o->count_disks == DISKS_MAX) misused("there are more than five disks", option);
+    o->disks[o->count_disks++] = (struct disk_option){word, strcmp(option, "--mapped") == 0};
+}
+
+static int is_to_stop(const char *option, const char *word)
+{
+    if (strcmp(word, "stop") != 0 && strcmp(word, "tell") != 0) misused("it is stop or tell", option);
+    return strcmp(word, "stop") == 0;
+}
+
+/* An option without a word. NULL where it is none of them. */
+static int *flag_of(struct options *o, const char *option)
+{
+    if (strcmp(option, "--stats") == 0) return &o->stats;
+    if (strcmp(option, "--no-reboot") == 0) return &o->no_reboot;
+    return strcmp(option, "--shared") == 0 ? &o->is_shared : NULL;
 }
 
 /* An option that has a word of text. NULL where it is none of them. */
@@ -44,7 +58,8 @@ static void take_word(struct options *o, const char *option, const char *word)
 
     if (text != NULL && *text != NULL) misused("it is given twice", option);
     if (text != NULL) *text = word;
-    else if (strcmp(option, "--disk") == 0) add_disk(o, word);
+    else if (strcmp(option, "--disk") == 0 || strcmp(option, "--mapped") == 0) add_disk(o, option, word);
+    else if (strcmp(option, "--disk-errors") == 0) o->stops_on_error = is_to_stop(option, word);
     else if (strcmp(option, "--mem") == 0) o->mib = number_of(option, word, 1, RAM_MIB_MAX);
     else if (strcmp(option, "--mtu") == 0) o->mtu = number_of(option, word, MTU_MIN, MTU_MAX);
     else if (strcmp(option, "--rounds") == 0) o->rounds = number_of(option, word, 1, 1000000);
@@ -59,6 +74,8 @@ static void compare(const struct options *o)
     if (o->listen != NULL && (o->initrd != NULL || o->append != NULL)) misused("--initrd and --append belong to --kernel", "--listen");
     if (o->net != NULL && strchr(o->net, ',') == NULL) misused("it is OWN,PEER: two sockets", "--net");
     if (o->net == NULL && o->mtu != 0) misused("it belongs to --net", "--mtu");
+    for (unsigned i = 0; i < o->count_disks; i++)
+        if (o->is_shared && o->disks[i].is_mapped) misused("a disk that is mapped moves in the stream, and cannot be shared", "--mapped");
 }
 
 void options_read(struct options *o, int count, char **words)
@@ -69,8 +86,8 @@ void options_read(struct options *o, int count, char **words)
             fputs(HELP, stdout);
             exit(0);
         }
-        if (strcmp(words[i], "--stats") == 0 || strcmp(words[i], "--no-reboot") == 0) {
-            *(words[i][2] == 's' ? &o->stats : &o->no_reboot) = 1;
+        if (flag_of(o, words[i]) != NULL) {
+            *flag_of(o, words[i]) = 1;
             continue;
         }
         if (strncmp(words[i], "--", 2) != 0) misused("this is no option", words[i]);

@@ -7,11 +7,19 @@
 /* A board has a console, an entropy device, and as many disks as windows are left beside them and a network device. */
 enum { DISKS_MAX = WINDOWS - 3 };
 
+/* A disk: its file, and whether it is mapped into the memory of the program. Else the guest's requests are read and written as they come. */
+struct disk_option {
+    const char *name;
+    int is_mapped;
+};
+
 struct options {
     const char *kernel, *initrd, *append, *listen, *connect, *net;
-    const char *disks[DISKS_MAX];
+    struct disk_option disks[DISKS_MAX];
     unsigned count_disks, mib, mtu, rounds, few;  /* mtu: 0 where none is offered */
     int stats, no_reboot;
+    int is_shared;      /* both hosts of a move have the files of the disks that are not mapped */
+    int stops_on_error; /* a read or write that fails stops the guest */
 };
 
 /* What --help prints, which each hypervisor has of its own. */

@@ -1,6 +1,7 @@
 /* A guest is moved away while it runs: rounds between its turns, a pause at the end, and the words by which one of the two runs it.
  * Until GO is sent the guest is kept here, and continues here if the line breaks. From then on it does not run here, unless the
  * operator says so. */
+#include <stdio.h>
 #include <string.h>
 #include "clock.h"
 #include "host.h"
@@ -109,6 +110,7 @@ static void begin_hello(struct host *h)
     static uint8_t bytes[BODY_MAX];
     struct hello hello = {.version = LINE_VERSION, .kind = GUEST_KIND, .mib = h->options.mib, .base = RAM_BASE};
 
+    hello.is_shared = (uint32_t)h->options.is_shared;
     hello_write(bytes, &hello);
     line_begin(&h->move.line, HELLO, bytes, HELLO_LENGTH + facts_write(h, bytes + HELLO_LENGTH));
 }
@@ -133,6 +135,7 @@ static const char *begin_move(struct host *h)
 
     operator_words.moves = 0;
     if (h->options.connect == NULL) return "there is no --connect to move to";
+    if (devices_ask(&h->devices) && !h->options.is_shared) return "a disk of --disk is in no stream: it moves with --shared alone";
     if (!line_connect(&m->line, h->options.connect, &why)) {
         say("move: there is no line to %s", h->options.connect);
         return why;
@@ -259,11 +262,34 @@ static const char *send_rest(struct host *h)
     return l->type == READY ? NULL : what_it_says(l);
 }
 
-/* The same of a guest that was paused. */
+/* The files that both hosts have are closed, so that the target may open them. Returns what is wrong, which the target is told, or NULL. */
+static const char *let_go(struct host *h)
+{
+    const char *why = devices_let_go(&h->devices);
+
+    if (why != NULL) line_send(&h->move.line, ENDED, why, strlen(why));
+    return why;
+}
+
+/* The files are opened again. False where the operator ends the program: as long as another host has them, the guest does not run here. */
+static int take_back(struct host *h)
+{
+    const char *why;
+
+    while ((why = devices_take_over(&h->devices)) != NULL) {
+        say("move: a disk cannot be opened again: %s: SIGUSR2 or Ctrl-A c tries it again; else end this program", why);
+        if (!wait_for_word()) return 0;
+    }
+    return 1;
+}
+
+/* The same of a guest that was paused. What was asked of its disks before is asked for anew. */
 static int continue_here(struct host *h, const char *why)
 {
     start_clock(h);
-    return give_up(h, why);
+    give_up(h, why);
+    storage_ask(h);
+    return 1;
 }
 
 /* The last word was sent, and the target did not answer that the guest runs. Only the operator can know. */
@@ -271,11 +297,21 @@ static int keep(struct host *h)
 {
     say("move: the line broke after the last word was sent: the guest is paused here, and perhaps runs at %s", h->options.connect);
     say("move: if it does not run there, SIGUSR2 or Ctrl-A c continues it here; else end this program");
-    h->move.is_on = wait_for_word();
+    h->move.is_on = wait_for_word() && take_back(h);
     if (!h->move.is_on) return 0;
     open_wire(h);
     announce(h);
     return continue_here(h, "by the word of the operator");
+}
+
+/* The target could not open the disks, and dropped the guest: that word allows it to run here. */
+static int come_back(struct host *h)
+{
+    static char why[REASON_MAX + 40];
+
+    snprintf(why, sizeof why, "%s", line_reason(&h->move.line, "the target refuses: "));
+    h->move.is_on = take_back(h);
+    return h->move.is_on && continue_here(h, why);
 }
 
 /* The guest is paused, and the rest of it is sent. Once all is there it is let go. */
@@ -285,12 +321,16 @@ static int finish_move(struct host *h)
     uint64_t paused = clock_nanoseconds();
     const char *why;
 
+    if (!storage_drain(h)) return 1;
     stop_clock(h);
     end_carrier(h);
     why = send_rest(h);
+    if (why == NULL) why = let_go(h);
     if (why != NULL) return continue_here(h, why);
     line_hurry(l);
-    if (!line_send(l, GO, NULL, 0) || !line_receive(l) || l->type != RUNS) return keep(h);
+    if (!line_send(l, GO, NULL, 0) || !line_receive(l)) return keep(h);
+    if (l->type == REFUSED) return come_back(h);
+    if (l->type != RUNS) return keep(h);
     line_close(l);
     h->move.is_on = 0;
     h->is_gone = 1;

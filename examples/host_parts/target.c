@@ -27,6 +27,7 @@ static const char *check_hello(struct host *h, const struct line *l)
     if (hello.kind != GUEST_KIND) return "it is a hypervisor for another processor";
     if (hello.base != RAM_BASE) return "its RAM begins at another address";
     if (hello.mib != h->options.mib) return "it has another size of RAM than --mem";
+    if (hello.is_shared != (uint32_t)h->options.is_shared) return "one of both hosts has --shared, and the other has not";
     return facts_check(h, l->body + HELLO_LENGTH, l->length - HELLO_LENGTH);
 }
 
@@ -119,6 +120,32 @@ static void keep(void)
     say("move: by the word of the operator the guest runs here");
 }
 
+/* The files that both hosts have are opened, once the source has let go of them. Where they cannot be, the guest is dropped: it runs at the source
+ * again. */
+static void take_over(struct host *h, int is_told)
+{
+    const char *why = devices_take_over(&h->devices);
+
+    if (why == NULL) return;
+    if (is_told) line_refuse(&h->move.line, why);
+    fail("move: a disk cannot be opened: %s: the guest does not run here", why);
+}
+
+/* All is here. The source says that it has let go, or that it has not; or the operator has to say it. */
+static void await_last_word(struct host *h)
+{
+    struct line *l = &h->move.line;
+    int has_word = line_send(l, READY, NULL, 0) && line_receive(l);
+
+    if (has_word && l->type == ENDED) fail("move: %s: no guest is here", line_reason(l, "the source says: "));
+    has_word = has_word && l->type == GO;
+    if (!has_word) keep();
+    take_over(h, has_word);
+    if (!has_word) return;
+    if (line_send(l, RUNS, NULL, 0)) say("move: the guest runs here");
+    else say("move: the guest runs here; the source did not hear so");
+}
+
 void host_receive(struct host *h)
 {
     struct line *l = &h->move.line;
@@ -126,16 +153,15 @@ void host_receive(struct host *h)
     const char *why;
 
     a.length = (uint64_t)h->options.mib * MIB;
-    for (unsigned i = 0; i < h->devices.count_disks; i++) say("%s will be overwritten", h->devices.disks[i].name);
+    for (unsigned i = 0; i < h->devices.count_disks; i++)
+        if (h->devices.disks[i].at != NULL) say("%s will be overwritten", h->devices.disks[i].name);
     line_accept(l, h->options.listen);
     why = line_receive(l) ? check_hello(h, l) : "the line is broken";
     if (why == NULL) why = take_all(h, &a);
     if (why != NULL) refuse(h, why);
     say("move: all is here");
     line_hurry(l);
-    if (!line_send(l, READY, NULL, 0) || !line_receive(l) || l->type != GO) keep();
-    else if (line_send(l, RUNS, NULL, 0)) say("move: the guest runs here");
-    else say("move: the guest runs here; the source did not hear so");
+    await_last_word(h);
     line_close(l);
     start_clock(h);
 }

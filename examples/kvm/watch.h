@@ -5,7 +5,7 @@
 #include <linux/kvm.h>
 #include <pthread.h>
 
-enum { WATCHED = 3 };
+enum { WATCHED = 4 };
 
 struct watch {
     pthread_t thread, guest;    /* the latter is where KVM_RUN is called */

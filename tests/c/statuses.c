@@ -179,13 +179,10 @@ static void asked_for_more(void)
     expect("a later version", vmig_make(&later, &m), VMIG_NOT_KNOWN);
     expect("a later version", vmig_arrive(&later_arrival, &m), VMIG_NOT_KNOWN);
     word_of_setup(&setup.flags, &setup);
-    word_of_setup(&setup.block, &setup);
     for (size_t i = 0; i < 2 * sizeof setup.reserved / sizeof *setup.reserved; i++) word_of_setup(half(setup.reserved, i), &setup);
     word_of_arrival(&arrival.flags, &arrival);
     word_of_arrival(&arrival.frame, &arrival);
-    word_of_arrival(&arrival.block, &arrival);
     word_of_arrival(&arrival.zero, &arrival);
-    for (size_t i = 0; i < 2; i++) word_of_arrival(half(&arrival.most_outside, i), &arrival);
     for (size_t i = 0; i < 2 * sizeof arrival.reserved / sizeof *arrival.reserved; i++)
         word_of_arrival(half(arrival.reserved, i), &arrival);
     expect("contents and images", make_both(&m, sector), VMIG_BAD_IMAGES);

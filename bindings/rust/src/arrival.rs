@@ -54,8 +54,10 @@ pub struct ArrivalBuilder {
     most_pages: u32,
     most_sectors: u64,
     longest_frame: u16,
+    most_outside: u64,
     base: u64,
     flags: u32,
+    block: u32,
     parts: Parts,
 }
 
@@ -75,6 +77,17 @@ impl ArrivalBuilder {
     /// said it is 1,514, and a stream with a [`Device::LongNetwork`] is refused as `StreamBadVersion`.
     pub fn longest_frame(self, longest_frame: u16) -> ArrivalBuilder {
         ArrivalBuilder { longest_frame, ..self }
+    }
+
+    /// The most sectors of each disk that is outside ([`Device::Outside`]), unless devices are named. Where neither is said a stream with one is refused
+    /// as `StreamBadVersion`.
+    pub fn most_outside(self, sectors: u64) -> ArrivalBuilder {
+        ArrivalBuilder { most_outside: sectors, ..self }
+    }
+
+    /// As [`crate::MachineBuilder::block`].
+    pub fn block(self, sectors: u32) -> ArrivalBuilder {
+        ArrivalBuilder { block: sectors, ..self }
     }
 
     /// One more device: the machine of the stream has exactly those that are named. Where none is named it may have any.
@@ -123,7 +136,7 @@ impl ArrivalBuilder {
     /// `BadShape`, `BadBase`, `BadImages` (not those of the devices), `NoMemory`.
     pub fn begin(mut self) -> Result<Arrival, Refused<ArrivalBuilder>> {
         match self.arrive() {
-            Ok(held) => Ok(Arrival { machine: Machine { held, parts: self.parts } }),
+            Ok(held) => Ok(Arrival { machine: Machine::new(held, self.parts) }),
             Err(error) => Err(Refused { error, value: self }),
         }
     }
@@ -150,6 +163,8 @@ impl ArrivalBuilder {
             base: self.base,
             flags: self.flags,
             frame: self.longest_frame.into(),
+            most_outside: self.most_outside,
+            block: self.block,
             ..raw::ARRIVAL
         };
         // SAFETY: the slices are valid for the call, and the handle is of no machine. RAM and images are owned by what the machine's owner

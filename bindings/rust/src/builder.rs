@@ -22,8 +22,9 @@ pub struct MachineBuilder {
     devices: Vec<Device>,
     pages: u32,
     base: u64,
-    contents: Vec<u8>,
+    contents: Box<[u8]>,
     flags: u32,
+    block: u32,
     parts: Parts,
 }
 
@@ -60,13 +61,19 @@ impl MachineBuilder {
     /// The disks' first contents: the sectors of the first block device, then those of the second, and so on. Without contents and images
     /// they are zeros.
     pub fn contents(self, contents: Vec<u8>) -> MachineBuilder {
-        MachineBuilder { contents, ..self }
+        MachineBuilder { contents: contents.into_boxed_slice(), ..self }
     }
 
     /// The disk of the next block device itself, in memory of the caller. There are as many as there are block devices, or none.
     pub fn image(mut self, image: Image) -> MachineBuilder {
         self.parts.images.push(image);
         self
+    }
+
+    /// Of disks outside ([`Device::Outside`]): the sectors of the largest block that the caller's storage writes whole, 8 over blocks of 4,096 bytes. No two
+    /// calls that are out share such a block. It is 1 where nothing is said.
+    pub fn block(self, sectors: u32) -> MachineBuilder {
+        MachineBuilder { block: sectors, ..self }
     }
 
     /// RAM may have up to 4,294,967,295 pages (16 TiB), each disk as many sectors (2 TiB), and a network device frames of 65,535 bytes
@@ -84,7 +91,7 @@ impl MachineBuilder {
     /// `BadBase`, `BadImages` (contents and images; not one for each disk, or of other lengths), `NoMemory`.
     pub fn build(mut self) -> Result<Machine, Refused<MachineBuilder>> {
         match self.make() {
-            Ok(held) => Ok(Machine { held, parts: self.parts }),
+            Ok(held) => Ok(Machine::new(held, self.parts)),
             Err(error) => Err(Refused { error, value: self }),
         }
     }
@@ -111,6 +118,7 @@ impl MachineBuilder {
             ram: self.parts.memory.as_mut().map_or(raw::NO_RAM, Memory::slot),
             base: self.base,
             flags: self.flags,
+            block: self.block,
             ..raw::SETUP
         };
         // SAFETY: the slices are valid for the call, and the handle is of no machine. RAM and images are owned by what the machine's owner

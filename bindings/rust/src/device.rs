@@ -31,6 +31,16 @@ pub enum Device {
         id: [u8; 20],
     },
 
+    /// A block device whose disk is outside, of 1 to 2^54 sectors of 512 bytes: the caller is asked for them ([`crate::Machine::disk_call`]).
+    Outside {
+        /// Its sectors.
+        sectors: u64,
+        /// Whether the driver may only read it.
+        read_only: bool,
+        /// The id that it returns to a driver.
+        id: [u8; 20],
+    },
+
     /// A console.
     Console,
 
@@ -45,7 +55,13 @@ impl Device {
         Device::Block { sectors, read_only: false, id: [0; 20] }
     }
 
-    /// Whether it has a disk.
+    /// A block device whose disk is outside, of this number of sectors, which the driver may write, with an id of zeros.
+    #[must_use]
+    pub const fn outside(sectors: u64) -> Device {
+        Device::Outside { sectors, read_only: false, id: [0; 20] }
+    }
+
+    /// Whether it has a disk of the machine: in memory of the library, or an image. One that is outside is none.
     #[must_use]
     pub const fn is_disk(&self) -> bool {
         matches!(self, Device::Block { .. })
@@ -57,6 +73,9 @@ impl Device {
             Device::Network { mac } => raw::Shape { kind: raw::NETWORK, mac, ..none },
             Device::LongNetwork { mac, longest } => raw::Shape { kind: raw::NETWORK, mac, frame: longest.into(), ..none },
             Device::Block { sectors, read_only, id } => raw::Shape { kind: raw::BLOCK, sectors, read_only: read_only.into(), id, ..none },
+            Device::Outside { sectors, read_only, id } => {
+                raw::Shape { kind: raw::BLOCK_OUTSIDE, sectors, read_only: read_only.into(), id, ..none }
+            }
             Device::Console => raw::Shape { kind: raw::CONSOLE, ..none },
             Device::Entropy => raw::Shape { kind: raw::ENTROPY, ..none },
         }
@@ -68,6 +87,7 @@ impl Device {
             raw::NETWORK if shape.frame == 0 => Some(Device::Network { mac: shape.mac }),
             raw::NETWORK => Some(Device::LongNetwork { mac: shape.mac, longest: u16::try_from(shape.frame).ok()? }),
             raw::BLOCK => Some(Device::Block { sectors: shape.sectors, read_only: shape.read_only != 0, id: shape.id }),
+            raw::BLOCK_OUTSIDE => Some(Device::Outside { sectors: shape.sectors, read_only: shape.read_only != 0, id: shape.id }),
             raw::CONSOLE => Some(Device::Console),
             raw::ENTROPY => Some(Device::Entropy),
             _ => None,
@@ -94,7 +114,18 @@ mod tests {
     fn a_device_is_its_shape() {
         let disk = Device::Block { sectors: 7, read_only: true, id: *b"abcdefghijklmnopqrst" };
         let long = Device::LongNetwork { mac: [1, 2, 3, 4, 5, 6], longest: 9018 };
-        for device in [Device::Network { mac: [1, 2, 3, 4, 5, 6] }, long, disk, Device::disk(9), Device::Console, Device::Entropy] {
+        let outside = Device::Outside { sectors: 1 << 54, read_only: true, id: *b"abcdefghijklmnopqrst" };
+        assert!(disk.is_disk() && !outside.is_disk());
+        for device in [
+            Device::Network { mac: [1, 2, 3, 4, 5, 6] },
+            long,
+            disk,
+            Device::disk(9),
+            outside,
+            Device::outside(9),
+            Device::Console,
+            Device::Entropy,
+        ] {
             assert_eq!(Device::of(&device.shape()), Some(device));
         }
     }

@@ -76,6 +76,12 @@ pub enum Error {
     /// The library does not know what is asked for, or this crate what the library has: they are of different versions.
     NotKnown = raw::NOT_KNOWN,
 
+    /// No such call of a disk is out: it is one of another machine.
+    NotOut = raw::NOT_OUT,
+
+    /// Calls of disks are out, and have to be answered before.
+    CallsOut = raw::CALLS_OUT,
+
     /// The base is not a multiple of 4,096, or RAM would reach past the last address.
     BadBase = raw::BAD_BASE,
 
@@ -157,6 +163,8 @@ const TEXTS: &[(Error, &str)] = &[
     (Error::NotYours, "the RAM is in memory of the library"),
     (Error::BadRam, "invalid RAM size: not whole pages, none or more than the limits, or not that of the RAM that was lent"),
     (Error::NotKnown, "not supported: the library and this crate are of different versions"),
+    (Error::NotOut, "no such call of a disk is out"),
+    (Error::CallsOut, "calls of disks are out: answer them before"),
     (Error::BadBase, "invalid base: not a multiple of 4,096, or RAM would reach past the last address"),
     (Error::StreamBadMagic, "bad magic: not a machine stream"),
     (Error::StreamBadVersion, "unsupported stream version"),

@@ -121,6 +121,12 @@ impl Lent {
         self.machine.state()
     }
 
+    /// As [`Machine::calls_out`].
+    #[must_use]
+    pub fn calls_out(&self) -> u32 {
+        self.machine.calls_out()
+    }
+
     /// As [`Machine::is_logged`].
     #[must_use]
     pub fn is_logged(&self) -> bool {

@@ -8,6 +8,7 @@
 //!   step.
 //! - [`Machine::lend`] gives RAM to a guest that runs on it, [`Lent::give_back`] takes it back for steps; all that needs no byte of RAM is done
 //!   by a [`Lent`]. [`Machine::mark`] names pages that the guest wrote, [`Machine::written`] those that the library did.
+//! - [`Machine::disk_call`] hands out what a [`Device::Outside`] asks of its disk, [`Machine::disk_done`] and [`Machine::disk_failed`] answer it.
 //! - [`Machine::send_begin`] and the calls that begin with `send` move it.
 //! - [`Machine::into_parts`] frees it, and gives back what was the caller's.
 //!
@@ -93,6 +94,20 @@
 //! ram[0] = 1;
 //! # }
 //! ```
+//! A call of a disk is answered once:
+//! ```compile_fail,E0382
+//! # use vmig::{Call, Machine};
+//! # fn program(mut machine: Machine, call: Call) {
+//! machine.disk_failed(call).unwrap();
+//! machine.disk_failed(call).unwrap();
+//! # }
+//! ```
+//! ```compile_fail,E0599
+//! # use vmig::Call;
+//! # fn program(call: Call) {
+//! let again = call.clone();
+//! # }
+//! ```
 //! A message is handed on before the next step, or the rest of the turn, overwrites it:
 //! ```compile_fail,E0499
 //! # use vmig::{Machine, Pick, SENT_MAX, Step};
@@ -145,6 +160,7 @@
 
 mod arrival;
 mod builder;
+mod call;
 mod device;
 mod error;
 mod image;
@@ -159,6 +175,7 @@ mod turn;
 
 pub use arrival::{Announced, Arrival, ArrivalBuilder, announced};
 pub use builder::MachineBuilder;
+pub use call::{Call, DiskWork};
 pub use device::Device;
 pub use error::{Error, Refused, SyncError};
 pub use image::Image;

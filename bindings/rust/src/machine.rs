@@ -7,6 +7,7 @@ use crate::image::Image;
 use crate::memory::Memory;
 use crate::pages::Pages;
 use crate::raw;
+use std::sync::atomic::{AtomicU64, Ordering};
 
 /// A machine, which is freed with its owner.
 ///
@@ -16,6 +17,8 @@ pub struct Machine {
     pub(crate) held: raw::Machine,
     // Where its RAM and its disks lie, if not in memory of the library. They are dropped after the machine was freed.
     pub(crate) parts: Parts,
+    // No other machine of this process has it: a call of a disk is of one machine.
+    pub(crate) number: u64,
 }
 
 // SAFETY: the library keeps nothing of the thread that made a machine, and one call at a time has it.
@@ -143,6 +146,11 @@ impl Drop for Machine {
 
 /// Its life.
 impl Machine {
+    pub(crate) fn new(held: raw::Machine, parts: Parts) -> Machine {
+        static NEXT: AtomicU64 = AtomicU64::new(0);
+        Machine { held, parts, number: NEXT.fetch_add(1, Ordering::Relaxed) }
+    }
+
     /// How a machine is made.
     pub fn builder() -> MachineBuilder {
         MachineBuilder::default()
@@ -230,6 +238,8 @@ impl Machine {
     }
 
     /// The driver writes a register. The result is a byte where a console gives one out: print it.
+    ///
+    /// `CallsOut`, and nothing has changed: it would drop a request whose call is out ([`Machine::disk_call`]). Answer what is out, and write again.
     pub fn write_register(&mut self, dev: u8, offset: u32, width: u8, value: u32) -> Result<Option<u8>, Error> {
         let mut byte = raw::NO_BYTE;
         // SAFETY: see `describe`.
@@ -274,7 +284,7 @@ impl Machine {
         done(unsafe { raw::vmig_drop(&mut self.held, dev) }).map(drop)
     }
 
-    /// The guest's reboot: each device is reset, and what was put in is dropped. RAM and disks stay.
+    /// The guest's reboot: each device is reset, and what was put in is dropped. RAM and disks stay. `CallsOut` as of [`Machine::write_register`].
     pub fn reset(&mut self) -> Result<(), Error> {
         // SAFETY: see `describe`.
         done(unsafe { raw::vmig_reset(&mut self.held) }).map(drop)

@@ -44,7 +44,7 @@ impl Machine {
     }
 
     /// Copies all that is left, and closes the stream: how many pages and sectors it copied. The guest is paused from here on. Take what waits
-    /// before it: what was not taken is digested in this call, while the guest stands.
+    /// before it: what was not taken is digested in this call, while the guest stands. `CallsOut`: a call of a disk is out ([`Machine::disk_call`]).
     pub fn send_stop(&mut self) -> Result<(u64, u64), Error> {
         let (mut pages, mut sectors) = (0, 0);
         // SAFETY: as above.

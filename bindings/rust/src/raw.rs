@@ -43,7 +43,7 @@ pub struct Image {
 }
 
 // The header says the size of this one, of which descriptions have sixteen.
-const _: () = assert!(size_of::<Shape>() == 56 && size_of::<Description>() == 96 + 16 * 56);
+const _: () = assert!(size_of::<Shape>() == 56 && size_of::<Description>() == 96 + 16 * 56 && size_of::<Call>() == 40);
 
 /// No image.
 pub const NO_IMAGE: Image = Image { at: core::ptr::null_mut(), sectors: 0 };
@@ -124,7 +124,7 @@ pub struct Setup {
     pub base: u64,
     /// `LARGE`, `LOG`, both, or 0.
     pub flags: u32,
-    /// 0.
+    /// Of disks outside: sectors of the largest block of the caller's storage; 0 is 1.
     pub block: u32,
     /// 0.
     pub reserved: [u64; 4],
@@ -173,9 +173,9 @@ pub struct Arrival {
     pub flags: u32,
     /// How many bytes the longest frame of a network device may have; 0: 1,514.
     pub frame: u32,
-    /// 0.
+    /// The most sectors of each disk outside; 0: none, unless shapes name them.
     pub most_outside: u64,
-    /// 0.
+    /// Of disks outside: sectors of the largest block of the caller's storage; 0 is 1.
     pub block: u32,
     /// 0.
     pub zero: u32,
@@ -218,7 +218,7 @@ pub struct Description {
     pub base: u64,
     /// `LARGE`, `LOG`, both, or 0.
     pub flags: u32,
-    /// 0.
+    /// Calls of disks outside that were handed out and not answered.
     pub calls_out: u32,
     /// The round that is open, or how many have ended.
     pub rounds: u32,
@@ -260,6 +260,28 @@ pub struct Turn {
     pub reserved: [u64; 2],
 }
 
+/// A call of a disk outside.
+#[repr(C)]
+#[derive(Clone, Copy, Debug, Default)]
+pub struct Call {
+    /// No other call of the machine has it.
+    pub number: u64,
+    /// The first sector.
+    pub first: u64,
+    /// How many sectors; 0 of a flush.
+    pub count: u32,
+    /// The device.
+    pub dev: u8,
+    /// One of those whose names begin with `DISK_`.
+    pub what: u8,
+    /// 1: durable before it is answered.
+    pub durable: u8,
+    /// 0.
+    pub zero: u8,
+    /// 0.
+    pub reserved: [u64; 2],
+}
+
 /// What is left to be sent.
 #[repr(C)]
 #[derive(Clone, Copy, Debug, Default)]
@@ -291,6 +313,17 @@ pub const BLOCK: u8 = 2;
 pub const CONSOLE: u8 = 3;
 /// An entropy device.
 pub const ENTROPY: u8 = 4;
+/// A block device whose disk is outside.
+pub const BLOCK_OUTSIDE: u8 = 130;
+
+/// Sectors are read.
+pub const DISK_READ: u8 = 1;
+/// Sectors are written.
+pub const DISK_WRITE: u8 = 2;
+/// Sectors are cleared.
+pub const DISK_CLEAR: u8 = 3;
+/// What was answered before is made durable.
+pub const DISK_FLUSH: u8 = 4;
 
 /// No machine.
 pub const IS_NONE: u32 = 0;
@@ -362,6 +395,10 @@ pub const NOT_YOURS: u32 = 25;
 pub const BAD_RAM: u32 = 26;
 /// A struct of another version, a flag, or a word that has to be 0.
 pub const NOT_KNOWN: u32 = 27;
+/// No call of this number is out.
+pub const NOT_OUT: u32 = 28;
+/// Calls of disks are out, and have to be answered before.
+pub const CALLS_OUT: u32 = 29;
 /// Not a multiple of 4,096, or RAM would reach past the last address.
 pub const BAD_BASE: u32 = 30;
 /// It does not begin with "VMIG".
@@ -424,6 +461,8 @@ pub const WORK: u32 = 78;
 pub const MORE: u32 = 79;
 /// Next: the step that it names needs its disk durable before.
 pub const SYNC: u32 = 80;
+/// `disk_call`: there is one.
+pub const CALL: u32 = 81;
 /// Feed: the stream has ended, and is right: call `vmig_finish`.
 pub const WHOLE: u32 = 82;
 
@@ -462,6 +501,12 @@ unsafe extern "C" {
     pub fn vmig_work(machine: *mut Machine, turn: *mut Turn, buf: *mut u8, size: usize) -> u32;
     /// The disk of this device could not be brought to its file: it is lost.
     pub fn vmig_sync_failed(machine: *mut Machine, dev: u8) -> u32;
+    /// The next call of a disk outside.
+    pub fn vmig_disk_call(machine: *mut Machine, call: *mut Call, buf: *mut u8, size: usize) -> u32;
+    /// Sectors of it were done.
+    pub fn vmig_disk_done(machine: *mut Machine, number: u64, count: u32, bytes: *const u8, len: usize) -> u32;
+    /// It failed.
+    pub fn vmig_disk_failed(machine: *mut Machine, number: u64) -> u32;
     /// Reads a sector of a disk.
     pub fn vmig_sector_read(machine: *const Machine, dev: u8, sector: u64, buf: *mut [u8; 512]) -> u32;
     /// Reads RAM.

@@ -1,4 +1,5 @@
 pub mod Imaging
+mod LargestDisks
 pub mod MadeOf
 pub mod MappingImages
 pub mod Marking

@@ -1,13 +1,15 @@
 -- What a machine that will arrive asks for by its struct: why that is refused.
-use Rattle.std.specs.Prelude.{◌≡◌, ℕ, ◌==◌, ◌&&◌, ◌||◌, not, nat_lt, if◌then◌else◌, Bool, false, List, length, Option, Some, None}
+use Rattle.std.specs.Prelude.{◌≡◌, ℕ, ◌==◌, ◌&&◌, ◌||◌, not, nat_lt, if◌then◌else◌, Bool, false, List, length, max, Option, Some, None}
 use Rattle.machine.specs.First.{are_same, is_base}
+use Rattle.machine.specs.Limits.{greatest, usual}
 use Rattle.machine.specs.Shapes.{disk_sizes}
 use Rattle.machine.specs.declared.limits.Limits.{Limits}
 use Rattle.machine.specs.declared.machine.TheConstants.{DEVICES_MAX}
-use Rattle.c_machine.specs.Made.{are_known, arrival_limits, has_bytes, is_known_frame, is_ram}
+use Rattle.c_machine.specs.Made.{are_known, arrival_limits, has_bytes, is_known_frame, is_ram, limits_for}
 use Rattle.c_machine.specs.Making.{are_plain, shapes_of}
 use Rattle.c_machine.specs.Mapping.{counts}
 use Rattle.c_machine.specs.Named.{are_zeros}
+use Rattle.c_machine.specs.Outside.{largest_outside}
 use Rattle.c_machine.specs.Status.{bad_base, bad_images, bad_ram, bad_shape, not_known}
 use Rattle.c_machine.specs.declared.device_shape.DeviceShape.{DeviceShape}
 use Rattle.c_machine.specs.declared.setup.Expected.{Expected}
@@ -21,7 +23,17 @@ has_images e = not (length e.images.now == 0)
 
 -- The version is 1, and what no version gives a meaning yet is 0.
 abbrev pub is_known_arrival : Expected → Bool
-is_known_arrival e = e.version == 1 && (are_known e.flags && (is_known_frame e.flags e.frame && (e.most_outside == 0 && (e.block == 0 && (e.zero == 0 && are_zeros e.reserved)))))
+is_known_arrival e = e.version == 1 && (are_known e.flags && (is_known_frame e.flags e.frame && (e.zero == 0 && are_zeros e.reserved)))
+
+-- How many sectors a disk outside may have at most: as many as the arrival allows, or one of the devices has that it names.
+abbrev pub outside_allowed : Expected → ℕ
+outside_allowed e = max e.most_outside (largest_outside (shapes_of e.shapes.now))
+
+-- How large a machine may be whose header is read. What version 3 alone can tell, long frames and disks outside, a header may tell of any size,
+-- where the arrival allows some of it.
+abbrev pub header_limits : ℕ → ℕ → ℕ → Limits
+header_limits flags frame outside =
+    record (limits_for flags) { frame = if frame == 0 && outside == 0 then usual.frame else greatest.frame; outside = if frame == 0 && outside == 0 then usual.outside else greatest.outside }
 
 -- These bytes of the caller, where there are any, are no RAM, or pages are allowed beside them.
 abbrev pub is_unfit_ram : Limits → ℕ → ℕ → Bool

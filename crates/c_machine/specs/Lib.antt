@@ -6,5 +6,6 @@ pub mod Made
 pub mod Making
 pub mod Mapping
 pub mod Named
+pub mod Outside
 pub mod Plain
 pub mod Status

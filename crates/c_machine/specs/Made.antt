@@ -1,5 +1,5 @@
 -- One making: why what a setup asks for is refused, and the machine that it asks for.
-use Rattle.std.specs.Prelude.{◌≡◌, ℕ, ◌*◌, ◌/◌, ◌%◌, ◌==◌, ◌&&◌, ◌||◌, not, nat_lt, if◌then◌else◌, Bool, true, false, List, [], length, map, Option, Some, None}
+use Rattle.std.specs.Prelude.{◌≡◌, ℕ, ◌*◌, ◌/◌, ◌%◌, ◌==◌, ◌&&◌, ◌||◌, not, nat_lt, if◌then◌else◌, Bool, true, false, List, [], length, map, max, Option, Some, None}
 use denote.RawPtr.{Ptr}
 use Rattle.region.specs.Empty.{empty_slot}
 use Rattle.region.specs.Address.{address}
@@ -47,14 +47,14 @@ asks_log flags = flags / 2 % 2 == 1
 abbrev pub are_known : ℕ → Bool
 are_known flags = not (nat_lt 3 flags)
 
--- How large a machine may be that is made, or let arrive, with these flags. None of them asks for a disk outside.
-abbrev pub large : Limits
-large = record greatest { outside = 0 }
+-- How large a machine may be that is made, or let arrive, with these flags. A disk outside is as large as can be: it takes no memory.
+abbrev pub small : Limits
+small = record usual { outside = greatest.outside }
 
 abbrev pub limits_for : ℕ → Limits
-limits_for flags = if asks_large flags then large else usual
+limits_for flags = if asks_large flags then greatest else small
 
--- How large a machine may be whose header is read: where an arrival names a longest frame, a header may tell any.
+-- How large a machine may be that an arrival names: where it names a longest frame, one of its devices may have any.
 abbrev pub arrival_limits : ℕ → ℕ → Limits
 arrival_limits flags frame = record (limits_for flags) { frame = if frame == 0 then usual.frame else greatest.frame }
 
@@ -64,7 +64,11 @@ is_known_frame flags frame = frame == 0 || (asks_large flags && (nat_lt 1514 fra
 
 -- The version is 1, and what no version gives a meaning yet is 0.
 abbrev pub is_known_setup : Setup → Bool
-is_known_setup s = s.version == 1 && (are_known s.flags && (s.block == 0 && are_zeros s.reserved))
+is_known_setup s = s.version == 1 && (are_known s.flags && are_zeros s.reserved)
+
+-- The sectors of a block of the storage of disks outside: 0 is 1.
+abbrev pub block_size : ℕ → ℕ
+block_size block = max block 1
 
 -- The bytes of RAM that are asked for: those of the caller's memory, or those of the pages, where there is none.
 abbrev pub ram_bytes : ℕ → ℕ → ℕ

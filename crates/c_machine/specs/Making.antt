@@ -10,9 +10,9 @@ use Rattle.c_machine.specs.Named.{are_zeros}
 use Rattle.c_machine.specs.declared.device_shape.DeviceShape.{DeviceShape}
 
 -- The kinds are the standard's numbers (VIRTIO 1.2, 5): 1 a network device, 2 a block device, 3 a console, 4 an entropy
--- device.
+-- device; and 130, a block device whose disk is outside.
 abbrev pub is_known : ℕ → Bool
-is_known kind = kind == 1 || kind == 2 || kind == 3 || kind == 4
+is_known kind = kind == 1 || kind == 2 || kind == 3 || kind == 4 || kind == 130
 
 abbrev pub shape_of : DeviceShape → Shape
 shape_of s =
@@ -33,7 +33,7 @@ has_no_disk s = s.read_only == 0 && (s.sectors == 0 && are_zeros s.id)
 
 -- What its kind does not need is 0, and so is what no kind needs yet. Whether a disk is read-only is 1 or 0.
 abbrev pub has_only : DeviceShape → Bool
-has_only s = (s.kind == 1 || are_zeros s.mac) && ((s.kind == 2 || has_no_disk s) && (not (nat_lt 1 s.read_only) && ((s.frame == 0 || (s.kind == 1 && nat_lt s.frame 65536)) && are_zeros s.reserved)))
+has_only s = (s.kind == 1 || are_zeros s.mac) && ((s.kind == 2 || s.kind == 130 || has_no_disk s) && (not (nat_lt 1 s.read_only) && ((s.frame == 0 || (s.kind == 1 && nat_lt s.frame 65536)) && are_zeros s.reserved)))
 
 -- A device of a known kind within these limits, of which nothing else is said.
 abbrev pub is_plain : Limits → DeviceShape → Bool

@@ -9,6 +9,7 @@
 --     23         the RAM of the machine is lent
 --     24 to 26   a call was refused that lends RAM, takes it back, or makes a machine over it
 --     27         a struct of the caller asks for what this library does not know
+--     28 to 29   no call of a disk outside is out under this number; or one is out that has to be answered before
 --     30         RAM may not begin at its base
 --     33 to 48   a stream was refused: 32 plus the number of its fault. No more of it is taken: 48 is returned from then on
 --     49         a stream was refused: its machine is larger than the caller allows. As above, 48 is returned from then on
@@ -17,6 +18,7 @@
 --     78         a step has something to do; where none has, the answer is 65
 --     79         there is more: the header of a stream is not whole, or a stream does not fit
 --     80         a step has something to do, and before it what the guest wrote to the disk has to be durable
+--     81         a call of a disk outside is handed out
 --     82         the stream has ended
 use Rattle.std.specs.Prelude.{ℕ, length}
 use Rattle.machine.specs.Refusal.{code_of}
@@ -82,6 +84,17 @@ bad_ram = 26
 -- A setup or an arrival asks for what this library does not know: its version is another, or a reserved word is not 0.
 abbrev pub not_known : ℕ
 not_known = 27
+
+-- No call of a disk outside with this number is out; or one is out, and has to be answered before.
+abbrev pub not_out : ℕ
+not_out = 28
+
+abbrev pub calls_out : ℕ
+calls_out = 29
+
+-- A call of a disk outside is handed out.
+abbrev pub call : ℕ
+call = 81
 
 -- RAM may not begin at this address.
 abbrev pub bad_base : ℕ

@@ -35,7 +35,7 @@ pub struct Description {
     /// What it was made, or let arrive, with: any of `LARGE` and `LOG`.
     pub flags: u32,
 
-    /// 0, until a later version gives it a meaning.
+    /// How many calls of disks outside were handed out and are not answered.
     pub calls_out: u32,
 
     /// Of a machine that is being sent the round that is open; of one that arrives how many ended.

@@ -5,20 +5,24 @@ ghost use Rattle.c_machine.specs.Description.{described};
 ghost use Rattle.c_machine.specs.Making.{has_no_disk, has_only, is_known, is_plain, no_shape, shape_of};
 ghost use Rattle.c_machine.specs.Named.{are_zeros};
 
+use blk::OUTSIDE_GREATEST;
 use machine::{Limits, Shape};
 
 /// One past the most bytes that a frame can have.
 pub(crate) const FRAME_END: u32 = 65_536;
+
+/// The kind of a block device whose disk is outside: the number that the stream has for its shape.
+const BLOCK_OUTSIDE: u8 = 130;
 
 /// A device that C asks for. What its kind does not need is 0.
 #[derive(Clone, Copy)]
 #[repr(C)]
 pub struct DeviceShape {
     /// The device type of the standard (VIRTIO 1.2, 5): 1 a network device, 2 a block device, 3 a console, 4 an entropy device; or 130, a block
-    /// device whose disk is outside, which a header may tell and no setup asks for.
+    /// device whose disk is outside.
     pub kind: u8,
 
-    /// Of a block device: whether the driver may only read it, 1 or 0.
+    /// Of a block device, of either kind: whether the driver may only read it, 1 or 0.
     pub read_only: u8,
 
     /// Of a network device: its MAC.
@@ -86,7 +90,7 @@ impl DeviceShape {
                 read_only,
                 id,
             } => DeviceShape {
-                kind: 130,
+                kind: BLOCK_OUTSIDE,
                 read_only: read_only as u8,
                 sectors,
                 id,
@@ -123,7 +127,7 @@ impl DeviceShape {
                 id,
             },
             3 => Shape::Console,
-            130 => Shape::Outside {
+            BLOCK_OUTSIDE => Shape::Outside {
                 sectors,
                 read_only,
                 id,
@@ -142,6 +146,11 @@ impl DeviceShape {
         match self.kind {
             1 => self.frame == 0 || self.frame > 1_514 && self.frame <= limits.frame as u32,
             2 => self.sectors != 0 && self.sectors <= limits.sectors as u64,
+            BLOCK_OUTSIDE => {
+                self.sectors != 0
+                    && self.sectors <= OUTSIDE_GREATEST
+                    && self.sectors <= limits.outside
+            }
             kind => is_known(kind),
         }
     }
@@ -151,7 +160,7 @@ impl DeviceShape {
         ensures { result ≡ has_only self.now }
     {
         (self.kind == 1 || are_zero_bytes(&self.mac))
-            && (self.kind == 2 || self.has_no_disk())
+            && (self.kind == 2 || self.kind == BLOCK_OUTSIDE || self.has_no_disk())
             && self.read_only <= 1
             && (self.frame == 0 || self.kind == 1 && self.frame < FRAME_END)
             && are_zeros(&self.reserved)
@@ -168,7 +177,7 @@ impl DeviceShape {
 fn is_known(kind: u8) -> bool
     ensures { result ≡ is_known kind }
 {
-    kind == 1 || kind == 2 || kind == 3 || kind == 4
+    kind == 1 || kind == 2 || kind == 3 || kind == 4 || kind == BLOCK_OUTSIDE
 }
 
 fn are_zero_bytes(bytes: &[u8]) -> bool

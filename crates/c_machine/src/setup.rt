@@ -11,17 +11,19 @@
 //! where the machine has disks. So a host whose list of images is empty by mistake gets disks of zeros. Contents beside images
 //! are refused, and pages beside RAM of the caller unless they are as many: each would say the same thing twice.
 //!
-//! How large a machine may be is asked for by a flag, and no number: a host that names none gets the usual limits, whatever it hands in.
+//! How large a machine may be is asked for by a flag, and no number: a host that names none gets the usual limits, whatever it hands in. A disk
+//! outside takes no memory, so a flag says nothing of it: a setup asks for it by its shape, and an arrival allows it by a number or by its shapes.
 
-ghost use Rattle.std.specs.Prelude.{◌≡◌, ◌==◌, length};
-ghost use Rattle.c_machine.specs.Expected.{are_other_images, are_unfit_shapes, arrival_refusal_of, is_known_arrival, is_unfit_ram};
-ghost use Rattle.c_machine.specs.Made.{are_known, are_other_disks, arrival_limits, asks_large, asks_log, is_bad_ram, is_known_frame, is_known_setup, limits_for, ram_bytes, setup_refusal_of};
+ghost use Rattle.std.specs.Prelude.{◌≡◌, ◌≤◌, ◌==◌, length};
+ghost use Rattle.c_machine.specs.Expected.{are_other_images, are_unfit_shapes, arrival_refusal_of, header_limits, is_known_arrival, is_unfit_ram, outside_allowed};
+ghost use Rattle.c_machine.specs.Made.{are_known, are_other_disks, arrival_limits, asks_large, asks_log, block_size, is_bad_ram, is_known_frame, is_known_setup, limits_for, ram_bytes, setup_refusal_of};
 
 use crate::description::FRAME_MAX;
 use crate::device_shape::{DeviceShape, FRAME_END, are_zeros};
 use crate::images::are_images;
 use crate::making::{are_bad_shapes, are_plain};
 use crate::mapping::are_counted;
+use crate::outside::largest_outside_of;
 use crate::over_ram::is_ram;
 use crate::status::{BAD_BASE, BAD_IMAGES, BAD_RAM, BAD_SHAPE, NOT_KNOWN};
 use guestmem::PAGE_SIZE;
@@ -65,7 +67,7 @@ pub struct Setup<'a, 'i> {
     /// What else is asked for: any of `LARGE` and `LOG`.
     pub flags: u32,
 
-    /// 0, until a later version gives it a meaning.
+    /// How many sectors the largest block has of the storage of its disks outside. 0 is 1.
     pub block: u32,
 
     /// Zeros, until a later version asks for more by them.
@@ -103,10 +105,10 @@ pub struct Expected<'a, 'i> {
     /// The most bytes that a frame of its network devices may have, 1,515 to 65,535, with `LARGE`. 0 are 1,514.
     pub frame: u32,
 
-    /// 0, until a later version gives it a meaning.
+    /// The most sectors that each of its disks outside may have. 0: it may have none but those that `shapes` name.
     pub most_outside: u64,
 
-    /// 0, until a later version gives it a meaning.
+    /// How many sectors the largest block has of the storage of its disks outside. 0 is 1.
     pub block: u32,
 
     /// 0.
@@ -146,10 +148,7 @@ fn is_known_setup(setup: &mut Setup) -> bool
     ensures same { setup.new ≡ setup.old }
     ensures known { result ≡ is_known_setup setup.old }
 {
-    setup.version == KNOWN
-        && are_known(setup.flags)
-        && setup.block == 0
-        && are_zeros(&setup.reserved)
+    setup.version == KNOWN && are_known(setup.flags) && are_zeros(&setup.reserved)
 }
 
 /// Whether the flags ask for what this library knows.
@@ -173,21 +172,21 @@ pub fn asks_log(flags: u32) -> bool
     flags / LOG % 2 == 1
 }
 
-/// The limits of a machine that is made, or let arrive, with these flags. None of them asks for a disk outside.
+/// The limits of a machine that is made, or let arrive, with these flags. A disk outside is as large as can be: it takes no memory.
 pub fn limits_for(flags: u32) -> Limits
     ensures { result ≡ limits_for flags }
 {
+    let greatest = Limits::greatest();
     if asks_large(flags) {
-        return Limits {
-            outside: 0,
-            ..Limits::greatest()
-        };
+        return greatest;
     }
-    Limits::usual()
+    Limits {
+        outside: greatest.outside,
+        ..Limits::usual()
+    }
 }
 
-/// The limits within which the header of a machine is read that arrives: those of its flags, and frames of any length where a longest one
-/// is allowed by name.
+/// The limits of the devices that an arrival names: those of its flags, and frames of any length where it names a longest one.
 pub fn arrival_limits(flags: u32, frame: u32) -> Limits
     ensures { result ≡ arrival_limits flags frame }
 {
@@ -200,6 +199,41 @@ pub fn arrival_limits(flags: u32, frame: u32) -> Limits
         frame: frames.frame,
         ..limits_for(flags)
     }
+}
+
+/// The limits within which the header of a machine is read that arrives: those of its flags. What version 3 alone can tell, long frames and disks
+/// outside, may be of any size, where the arrival allows some of it: that it is more than the arrival allows shows once the header is whole.
+pub fn header_limits(flags: u32, frame: u32, outside: u64) -> Limits
+    ensures { result ≡ header_limits flags frame outside }
+{
+    let late = if frame == 0 && outside == 0 {
+        Limits::usual()
+    } else {
+        Limits::greatest()
+    };
+    Limits {
+        frame: late.frame,
+        outside: late.outside,
+        ..limits_for(flags)
+    }
+}
+
+/// How many sectors a disk outside may have at most that arrives: as many as the arrival allows, or one of the devices has that it names.
+pub fn outside_allowed(expected: &mut Expected) -> u64
+    ensures same { expected.new ≡ expected.old }
+    ensures most { result ≡ outside_allowed expected.old }
+{
+    expected
+        .most_outside
+        .max(largest_outside_of(expected.shapes))
+}
+
+/// The sectors of a block of the storage of disks outside: 0 is 1.
+pub fn block_size(block: u32) -> u32
+    ensures size { result ≡ block_size block }
+    ensures some { 1 ≤ result }
+{
+    block.max(1)
 }
 
 /// Whether `pages` pages, or `bytes` bytes of the caller, where there are any, are no RAM; or both are there and differ.
@@ -266,8 +300,6 @@ fn is_known_arrival(expected: &mut Expected) -> bool
     expected.version == KNOWN
         && are_known(expected.flags)
         && is_known_frame(expected.flags, expected.frame)
-        && expected.most_outside == 0
-        && expected.block == 0
         && expected.zero == 0
         && are_zeros(&expected.reserved)
 }

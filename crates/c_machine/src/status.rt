@@ -19,6 +19,8 @@ pub const NO_DEVICE: u32 = 1;
 
 pub const OUT_OF_RAM: u32 = 2;
 
+pub const TOO_LONG: u32 = 3;
+
 pub const WRONG_KIND: u32 = 4;
 
 pub const NO_SECTOR: u32 = 7;
@@ -52,6 +54,10 @@ pub const NOT_YOURS: u32 = 25;
 pub const BAD_RAM: u32 = 26;
 
 pub const NOT_KNOWN: u32 = 27;
+
+pub const NOT_OUT: u32 = 28;
+
+pub const CALLS_OUT: u32 = 29;
 
 pub const BAD_BASE: u32 = 30;
 
@@ -88,6 +94,8 @@ pub const WORK: u32 = 78;
 pub const MORE: u32 = 79;
 
 pub const SYNC: u32 = 80;
+
+pub const CALL: u32 = 81;
 
 pub const WHOLE: u32 = 82;
 

@@ -15,14 +15,15 @@ use Rattle.vmig_c.specs.Announced.{IsRefusedAt}
 use Rattle.vmig_c.specs.Awaited.{stream_status}
 use Rattle.c_machine.specs.Frames.{has_longer_frames}
 use Rattle.c_machine.specs.Images.{sectors_in}
+use Rattle.c_machine.specs.Outside.{largest_outside}
 use Rattle.c_machine.specs.Status.{stream_mismatch, stream_too_large}
 use Rattle.vmig_c.specs.declared.admission.Allowed.{Allowed}
 
--- A machine of these pages and devices has no more pages than are allowed, no device for longer frames, and no more sectors in all its
--- disks together.
+-- A machine of these pages and devices has no more pages than are allowed, no device for longer frames, no larger disk outside, and no more
+-- sectors in all its other disks together.
 abbrev pub is_within : Allowed → ℕ → List Shape → Bool
 is_within allowed pages shapes =
-    not (nat_lt allowed.pages pages) && (not (has_longer_frames allowed.frame shapes) && not (nat_lt allowed.sectors (sectors_in shapes)))
+    not (nat_lt allowed.pages pages) && (not (has_longer_frames allowed.frame shapes || nat_lt allowed.outside (largest_outside shapes)) && not (nat_lt allowed.sectors (sectors_in shapes)))
 
 -- Both devices are made as the same.
 abbrev pub same_flag : Bool → Bool → Bool

@@ -13,6 +13,7 @@ use Rattle.sender.specs.declared.phase.Phase.TheVariants as phases
 use Rattle.vmig_c.specs.AdmissionSeen.{AdmissionSeen, Granted, Pending, Denied}
 use Rattle.vmig_c.specs.ArrivalSeen.{ArrivalSeen}
 use Rattle.vmig_c.specs.Awaited.{CountsRounds, TellsWhole, awaited_base}
+use Rattle.vmig_c.specs.CallsOut.{count_out}
 use Rattle.vmig_c.specs.Kept.{KeptSeen, LoanSeen, StillLent, MovingLent, State, Still, Moving, Arriving, Lent}
 use Rattle.c_machine.specs.Description.{message_of, nothing_told, with_shapes}
 use Rattle.vmig_c.specs.SendStatus.{mig_status}
@@ -104,7 +105,7 @@ log_flag (Some pages) = LOG
 abbrev pub flags_of : Bool → Option (List Bool) → ℕ
 flags_of large log = if large then LARGE + log_flag log else log_flag log
 
--- By its state, without what each has: its images, which disks were lost, and what was asked for.
+-- By its state, without what each has: its images, which disks were lost, how many calls are out, and what was asked for.
 abbrev pub IsToldState : KeptSeen → State → Description → Type 0
 IsToldState k (Still m) d = d ≡ told_still m
 IsToldState k (Moving l) d = d ≡ sent_as (told_still l.machine) l.phase
@@ -114,7 +115,7 @@ IsToldState k (Lent x) d = d ≡ told_lent x
 pub record IsDescribed (k : KeptSeen) (d : Description) : Type 0 where
   pub told : Description
   pub by_state : IsToldState k k.state told
-  pub is : d ≡ record told { images = min (images_in k) (2 ^ 32 - 1); lost = lost_bits k.lost; flags = flags_of k.large k.written }
+  pub is : d ≡ record told { images = min (images_in k) (2 ^ 32 - 1); lost = lost_bits k.lost; flags = flags_of k.large k.written; calls_out = count_out k.calls }
 
 -- The description of a handle.
 abbrev pub Describes : Option KeptSeen → Description → Type 0

@@ -3,6 +3,7 @@ use Rattle.std.specs.Prelude.{◌≡◌, ℕ, ◌^◌, ◌-◌, if◌then◌else
 use Rattle.guestmem.specs.Memory.{Memory}
 use Rattle.guestmem.specs.declared.limits.TheConstants.{PAGES_GREATEST}
 use Rattle.machine.specs.Limits.{greatest}
+use Rattle.machine.specs.declared.limits.Limits.{Limits}
 use Rattle.receiver.specs.Opened.{terms_at, terms_over, told_by}
 use Rattle.receiver.specs.Receiving.{place_aside}
 use Rattle.receiver.specs.declared.ram_terms.RamTerms.{RamTerms}
@@ -11,18 +12,29 @@ use Rattle.region.specs.declared.slot.Slot.{Slot}
 use Rattle.vmig_c.specs.AdmissionSeen.{Pending}
 use Rattle.vmig_c.specs.Awaited.{nothing_fed}
 use Rattle.vmig_c.specs.Kept.{IsNew, KeptSeen, State, Arriving, places_for}
-use Rattle.c_machine.specs.Expected.{IsUntaken, arrival_refusal_of, has_images, has_ram}
+use Rattle.c_machine.specs.Expected.{IsUntaken, arrival_refusal_of, has_images, has_ram, header_limits, outside_allowed}
 use Rattle.vmig_c.specs.Landing.{IsAwaitedAt}
-use Rattle.c_machine.specs.Made.{arrival_limits, first_place, has_bytes, is_ram, ram_bytes, ram_left}
+use Rattle.c_machine.specs.Made.{first_place, has_bytes, is_ram, ram_bytes, ram_left}
 use Rattle.c_machine.specs.Making.{shapes_of}
 use Rattle.c_machine.specs.Mapping.{AreTaken, contents}
 use Rattle.vmig_c.specs.Filled.{Fills}
 use Rattle.vmig_c.specs.declared.admission.Allowed.{Allowed}
 use Rattle.c_machine.specs.declared.setup.Expected.{Expected}
 
+-- The limits within which the header is read.
+abbrev pub limits_in : Expected → Limits
+limits_in e = header_limits e.flags e.frame (outside_allowed e)
+
 -- The most that may arrive. RAM and images of the caller are their own limit: the machine has to be as they are.
 abbrev pub allowed_of : Expected → Allowed
-allowed_of e = record { limits = arrival_limits e.flags e.frame; pages = if has_ram e then PAGES_GREATEST else e.most_pages; sectors = if has_images e then 2 ^ 64 - 1 else e.most_sectors; frame = e.frame; base = e.base }
+allowed_of e = record {
+  limits = limits_in e;
+  pages = if has_ram e then PAGES_GREATEST else e.most_pages;
+  sectors = if has_images e then 2 ^ 64 - 1 else e.most_sectors;
+  frame = e.frame;
+  outside = outside_allowed e;
+  base = e.base;
+}
 
 -- The slot names no memory, or memory that may be RAM.
 abbrev pub IsNoneOrRam : Slot → Type 0
@@ -30,7 +42,7 @@ IsNoneOrRam ram = has_bytes ram ≡ true → is_ram greatest (length ram.content
 
 -- The address at which RAM will begin, and how large the machine may be.
 abbrev pub terms_in : Expected → Terms
-terms_in e = record { base = e.base; limits = arrival_limits e.flags e.frame }
+terms_in e = record { base = e.base; limits = limits_in e }
 
 -- These, and the length of the caller's memory, if that is to be RAM.
 abbrev pub terms_if : Bool → Terms → List ℕ → RamTerms
@@ -56,7 +68,7 @@ StandsExpected true e (Arriving a) = IsAwaitedAt (terms_of e) (first_place e.ram
 StandsExpected true e _ = ⊥
 
 pub record IsArrivalOf (e : Expected) (k : KeptSeen) : Type 0 where
-  pub new : IsNew (has_images e) e.flags (places_of e) k
+  pub new : IsNew (has_images e) e.flags (places_of e) e.block k
   pub stands : StandsExpected (has_images e) e k.state
   pub asked : k.admission ≡ Pending (allowed_of e) (shapes_of e.shapes.now) []
 

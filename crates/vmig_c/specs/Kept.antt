@@ -1,7 +1,8 @@
 -- The contents of a handle, as contracts see them.
 use Rattle.std.specs.Prelude.{◌≡◌, ◌≤◌, ◌*◌, ◌/◌, ℕ, Bool, true, false, List, [], Option, Some, None, if◌then◌else◌, length, max, min, replicate, slice_index_or}
 use Rattle.guestmem.specs.declared.limits.TheConstants.{PAGE_SIZE, PAGES_MAX}
-use Rattle.c_machine.specs.Made.{asks_large, asks_log, limits_for}
+use Rattle.c_machine.specs.Made.{asks_large, asks_log, block_size, limits_for}
+use Rattle.disk_calls.specs.Calls.{AllCalls}
 use Rattle.machine.specs.Parked.{ParkedSeen}
 use Rattle.machine.specs.Seen.{Seen}
 use Rattle.machine.specs.declared.machine.TheConstants.{DEVICES_MAX}
@@ -37,14 +38,15 @@ pub data State : Type 0 where
   Lent : LoanSeen → State
 
 -- Whether its disks lie in memory of the caller, in which state it is, whether what arrives is let in, how many bytes of it were taken, and
--- for each device whether its disk was lost, whether it may be as large as can be, for how many pages its log, if it has one, has a place,
--- and for each page whether it is to be handed out as written, if the caller asks for these.
+-- for each device whether its disk was lost, which calls of disks outside are out, whether it may be as large as can be, for how many pages its
+-- log, if it has one, has a place, and for each page whether it is to be handed out as written, if the caller asks for these.
 pub record KeptSeen : Type 0 where
   pub is_mapped : Bool
   pub state : State
   pub admission : AdmissionSeen
   pub fed : ℕ
   pub lost : List Bool
+  pub calls : AllCalls
   pub large : Bool
   pub places : ℕ
   pub written : Option (List Bool)
@@ -71,12 +73,17 @@ places_for flags bytes = max (min (bytes / PAGE_SIZE) (limits_for flags).pages) 
 abbrev pub first_log : ℕ → ℕ → Option (List Bool)
 first_log flags places = if asks_log flags then Some (replicate places false) else None
 
--- As it is at first: whose memory its disks lie in, none of them is lost, nothing was fed, and what the flags ask for, with a log of so
--- many places.
-pub record IsNew (mapped : Bool) (flags places : ℕ) (k : KeptSeen) : Type 0 where
+-- At first no call is out, of any device that a machine can have, over storage with such blocks.
+abbrev pub first_calls : ℕ → AllCalls
+first_calls block = record { devices = replicate DEVICES_MAX (record { size = block_size block; outs = [] }); turn = 0; number = 0 }
+
+-- As it is at first: whose memory its disks lie in, none of them is lost, nothing was fed, no call is out, and what the flags ask for, with a
+-- log of so many places.
+pub record IsNew (mapped : Bool) (flags places block : ℕ) (k : KeptSeen) : Type 0 where
   pub is_mapped : k.is_mapped ≡ mapped
   pub none_lost : k.lost ≡ none_lost
   pub none_fed : k.fed ≡ 0
+  pub none_out : k.calls ≡ first_calls block
   pub large : k.large ≡ asks_large flags
   pub places_are : k.places ≡ places
   pub log : k.written ≡ first_log flags places
@@ -114,7 +121,7 @@ are_mapped (held.Mapped c) = true
 are_mapped (held.Arriving a) = is_over a
 
 abbrev pub kept_with : Held → AdmissionSeen → ℕ → List Bool → KeptSeen
-kept_with held admission fed lost = record { is_mapped = are_mapped held; state = held_state held; admission = admission; fed = fed; lost = lost; large = false; places = 0; written = None }
+kept_with held admission fed lost = record { is_mapped = are_mapped held; state = held_state held; admission = admission; fed = fed; lost = lost; calls = first_calls 1; large = false; places = 0; written = None }
 
 -- Where no stream arrives none was asked for.
 abbrev pub unasked : AdmissionSeen

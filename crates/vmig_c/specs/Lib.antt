@@ -5,7 +5,9 @@ pub mod ArrivalSeen
 pub mod ArrivedLogs
 pub mod Arriving
 pub mod Awaited
+pub mod CallsOut
 pub mod Described
+pub mod Dropping
 pub mod Durable
 pub mod Expected
 pub mod Filled
@@ -22,6 +24,7 @@ pub mod Mirror
 pub mod Moving
 pub mod NextWork
 pub mod OnHandle
+pub mod Outside
 pub mod Owned
 pub mod Refused
 pub mod Resetting

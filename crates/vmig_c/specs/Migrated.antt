@@ -1,6 +1,7 @@
 -- The migration of a machine of a handle, call by call.
 use Rattle.std.specs.Prelude.{Bool, true, false, ◌≡◌, ◌==◌, ℕ, zero, suc, List, [], ◌++◌, min, length, replicate, take, drop, Option, Some, None}
 use Rattle.dirtylog.specs.Members.{member_count}
+use Rattle.disk_calls.specs.Calls.{is_any_out}
 use Rattle.machine.specs.Layout.{pages_of}
 use Rattle.machine.specs.Parked.{WhateverRam}
 use Rattle.machine.specs.Seen.{AreHonest, Seen, state_of}
@@ -17,7 +18,7 @@ use Rattle.sender.specs.declared.mig_error.MigError.TheVariants.{AlreadyStopped,
 use Rattle.sender.specs.declared.phase.Phase.{Phase}
 use Rattle.sender.specs.declared.phase.Phase.TheVariants as phases
 use Rattle.wire.specs.Sinks.{Takes, over_writer}
-use Rattle.c_machine.specs.Status.{done, lent, no_machine, no_memory, round_done}
+use Rattle.c_machine.specs.Status.{calls_out, done, lent, no_machine, no_memory, round_done}
 use Rattle.vmig_c.specs.SendStatus.{live_status, mig_status}
 use Rattle.vmig_c.specs.Kept.{KeptSeen, LoanSeen, StillLent, MovingLent, State, Still, Moving, Arriving, Lent}
 use Rattle.vmig_c.specs.OnHandle.{ByState, OfEachState, OfHandle, OnHandle, Refuses, RefusesBoth, Unless}
@@ -127,8 +128,14 @@ pub record HasStopped (l : LiveSeen) (status pages old_pages sectors old_sectors
   pub pages_are : pages ≡ stopped_pages reply old_pages
   pub sectors_are : sectors ≡ stopped_sectors reply old_sectors
 
-abbrev pub StopsKept : State → ℕ → ℕ → ℕ → ℕ → ℕ → State → Type 0
-StopsKept k status pages old_pages sectors old_sectors next = ByMigration (RefusesBoth status pages old_pages sectors old_sectors) (λ l after. HasStopped l status pages old_pages sectors old_sectors after) k next
+-- By whether a call of a disk outside is out: then it is refused, in each phase.
+abbrev pub StopsUnless : Bool → LiveSeen → ℕ → ℕ → ℕ → ℕ → ℕ → LiveSeen → Type 0
+StopsUnless true l status pages old_pages sectors old_sectors next = RefusesBoth status pages old_pages sectors old_sectors calls_out × (next ≡ l)
+StopsUnless false l status pages old_pages sectors old_sectors next = HasStopped l status pages old_pages sectors old_sectors next
+
+abbrev pub StopsKept : Bool → State → ℕ → ℕ → ℕ → ℕ → ℕ → State → Type 0
+StopsKept out k status pages old_pages sectors old_sectors next =
+    ByMigration (RefusesBoth status pages old_pages sectors old_sectors) (λ l after. StopsUnless out l status pages old_pages sectors old_sectors after) k next
 
 -- The machine is no longer being migrated, and is otherwise as it was. What was written and not taken is gone.
 abbrev pub AbortsKept : State → ℕ → State → Type 0
@@ -212,7 +219,7 @@ EndedRound k status after = OnHandle (λ reason. status ≡ reason) (λ old next
 
 -- It is stopped.
 abbrev pub HasBeenStopped : Option KeptSeen → ℕ → ℕ → ℕ → ℕ → ℕ → Option KeptSeen → Type 0
-HasBeenStopped k status pages old_pages sectors old_sectors after = OnHandle (RefusesBoth status pages old_pages sectors old_sectors) (λ old next. StopsKept old.state status pages old_pages sectors old_sectors next) k after
+HasBeenStopped k status pages old_pages sectors old_sectors after = OnHandle (RefusesBoth status pages old_pages sectors old_sectors) (λ old next. StopsKept (is_any_out old.calls) old.state status pages old_pages sectors old_sectors next) k after
 
 -- Its migration is aborted.
 abbrev pub Aborted : Option KeptSeen → ℕ → Option KeptSeen → Type 0

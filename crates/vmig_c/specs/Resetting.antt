@@ -1,5 +1,6 @@
 -- The guest's reboot, as a list of events: 0 is written into the Status of each device in order, and what the host put into it is dropped.
-use Rattle.std.specs.Prelude.{◌≡◌, ℕ, ◌+◌, ◌≤◌, Bool, true, false, List, [], ◌∷◌, ◌++◌, if◌then◌else◌, length, map, Option, Some, None}
+use Prim.Native.Nat.{zero, suc}
+use Rattle.std.specs.Prelude.{◌≡◌, ℕ, ◌+◌, ◌≤◌, ◌||◌, Bool, true, false, List, [], ◌∷◌, ◌++◌, if◌then◌else◌, length, map, Option, Some, None}
 use Rattle.guestmem.specs.declared.limits.TheConstants.{PAGES_GREATEST}
 use Rattle.machine.specs.Parked.{parked_states}
 use Rattle.machine.specs.Seen.{state_of}
@@ -11,10 +12,11 @@ use Rattle.machine.specs.declared.shape.Shape.{Shape}
 use Rattle.machine.specs.declared.shape.Shape.TheVariants.{Net, LongNet, Block, Outside, Console, Entropy}
 use Rattle.sender.specs.declared.mig_error.MigError.TheVariants.{AlreadyStopped}
 use Rattle.sender.specs.declared.phase.Phase.{Phase}
+use Rattle.vmig_c.specs.Dropping.{drops_out}
 use Rattle.vmig_c.specs.Kept.{KeptSeen, LoanSeen, StillLent, MovingLent, State, Still, Moving, Arriving, Lent, parked_in}
 use Rattle.vmig_c.specs.Mirror.{is_closed}
 use Rattle.vmig_c.specs.OnHandle.{OnHandle, Unless}
-use Rattle.c_machine.specs.Status.{done, no_machine}
+use Rattle.c_machine.specs.Status.{calls_out, done, no_machine}
 use Rattle.vmig_c.specs.SendStatus.{mig_status}
 use Rattle.vmig_c.specs.Told.{Tells}
 
@@ -75,9 +77,24 @@ reset_refusal (Moving l) = stop_refusal l.phase
 reset_refusal (Arriving r) = Some no_machine
 reset_refusal (Lent x) = loan_refusal x
 
-abbrev pub ResetsKept : State → ℕ → State → Type 0
-ResetsKept k status next = Unless (reset_refusal k) (λ reason. (status ≡ reason) × (next ≡ k)) ((status ≡ done) × AreDone k (resets_from 0 (shapes_in k)) next)
+-- The reset of one of the devices below this number would drop a request whose call is out.
+abbrev pub drops_below : ℕ → KeptSeen → Bool
+drops_below zero k = false
+drops_below (suc dev) k = drops_below dev k || drops_out k dev 112 4 0
+
+abbrev pub drops_any : KeptSeen → Bool
+drops_any k = drops_below (length (shapes_in k.state)) k
+
+-- What the state says comes first.
+abbrev pub refusal_with : Option ℕ → Bool → Option ℕ
+refusal_with (Some reason) drops = Some reason
+refusal_with None true = Some calls_out
+refusal_with None false = None
+
+abbrev pub ResetsKept : KeptSeen → ℕ → State → Type 0
+ResetsKept k status next =
+    Unless (refusal_with (reset_refusal k.state) (drops_any k)) (λ reason. (status ≡ reason) × (next ≡ k.state)) ((status ≡ done) × AreDone k.state (resets_from 0 (shapes_in k.state)) next)
 
 -- The guest of the machine of a handle reboots, also while its RAM is lent.
 abbrev pub Resets : Option KeptSeen → ℕ → Option KeptSeen → Type 0
-Resets k status after = OnHandle (λ reason. status ≡ reason) (λ old next. ResetsKept old.state status next) k after
+Resets k status after = OnHandle (λ reason. status ≡ reason) (λ old next. ResetsKept old status next) k after

@@ -12,7 +12,7 @@ ghost use Rattle.vmig_c.specs.Kept.{admission_of};
 
 use crate::status::stream_status;
 use c_machine::status::{STREAM_FAILED, STREAM_MISMATCH, STREAM_TOO_LARGE};
-use c_machine::{count_in, has_longer_frames};
+use c_machine::{count_in, has_longer_frames, largest_outside};
 use guestmem::PAGE_SIZE;
 use machine::{Limits, Shape, is_base};
 use receiver::{RecvError, read_heading_within};
@@ -36,6 +36,9 @@ pub struct Allowed {
 
     /// Of bytes of a frame of a network device for long ones; 0 where there may be no such device.
     pub frame: u32,
+
+    /// Of sectors of each disk outside; 0 where there may be none.
+    pub outside: u64,
 
     /// The guest-physical address at which RAM begins.
     pub base: u64,
@@ -155,7 +158,7 @@ fn is_within(allowed: Allowed, pages: u32, shapes: &[Shape]) -> bool
     if pages > allowed.pages {
         return false;
     }
-    if has_longer_frames(allowed.frame, shapes) {
+    if has_longer_frames(allowed.frame, shapes) || largest_outside(shapes) > allowed.outside {
         return false;
     }
     let mut left = allowed.sectors;

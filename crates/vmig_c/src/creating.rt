@@ -5,13 +5,15 @@
 //! taken. Contracts see a `MappedDisk` as its image, with the pointer, so what comes back is known to be what was taken.
 
 ghost use Rattle.std.specs.Prelude.{◌≡◌, IfErr, IfOk, None};
+ghost use Rattle.vmig_c.specs.Kept.{FitsLog, admission_of, first_calls, held_state, kept_with, none_lost, ram_in};
 ghost use Rattle.vmig_c.specs.Made.{IsMachineOf, Makes};
 ghost use Rattle.c_machine.specs.Made.{IsUntaken, has_ram, ram_left, setup_refusal_of};
 ghost use Rattle.c_machine.specs.Mapping.{AreTaken};
 
-use crate::arrival::Arrival;
+use crate::admission::Admission;
+use crate::calls_out::CallsOut;
 use crate::handle::Handle;
-use crate::kept::{Asked, Contents, Held, Kept};
+use crate::kept::{Asked, Contents, Held, Kept, unasked};
 use crate::logging::log_for;
 use c_machine::status::{DONE, IN_USE, NO_MEMORY};
 use c_machine::{
@@ -19,6 +21,7 @@ use c_machine::{
     shapes_of,
 };
 use guestmem::NoMemory;
+use machine::PageLog;
 use std::alloc::Global;
 use std::mem;
 
@@ -54,26 +57,27 @@ fn made(alloc: Global, setup: &mut Setup) -> Result<Box<Kept>, NoMemory>
     ensures slots { setup.new.images.ghost_name ≡ setup.old.images.ghost_name }
 {
     let shapes = shapes_of(alloc, setup.shapes)?;
-    let boxed = stand_in(alloc)?;
+    let boxed = stand_in(alloc, setup.block)?;
+    let admission = unasked(alloc);
     let asked = Asked::by(setup.flags, ram_bytes(setup.pages, setup.ram.len()));
     let log = log_for(alloc, setup.flags, asked.places)?;
     let (base, pages) = (setup.base, setup.pages);
     if is_none(setup.images) {
         let disks = own_disks(alloc, &shapes, setup.contents)?;
         return match machine_on(alloc, base, pages, &mut setup.ram, &shapes, disks) {
-            Ok(machine) => Ok(filled(
-                boxed,
-                Kept::new(alloc, Held::Own(Contents::Still(machine)), log, asked),
-            )),
+            Ok(machine) => {
+                let held = Held::Own(Contents::Still(machine));
+                Ok(filled(boxed, held, admission, log, asked))
+            }
             Err(_disks) => Err(NoMemory),
         };
     }
     let disks = mapped_disks(alloc, setup.images)?;
     match machine_on(alloc, base, pages, &mut setup.ram, &shapes, disks) {
-        Ok(machine) => Ok(filled(
-            boxed,
-            Kept::new(alloc, Held::Mapped(Contents::Still(machine)), log, asked),
-        )),
+        Ok(machine) => {
+            let held = Held::Mapped(Contents::Still(machine));
+            Ok(filled(boxed, held, admission, log, asked))
+        }
         Err(disks) => {
             give_back(disks, setup.images);
             Err(NoMemory)
@@ -81,25 +85,29 @@ fn made(alloc: Global, setup: &mut Setup) -> Result<Box<Kept>, NoMemory>
     }
 }
 
-/// A box in which the contents of a handle will lie.
-pub(crate) fn stand_in(alloc: Global) -> Result<Box<Kept>, NoMemory> {
-    let boxed = Box::new(
-        alloc,
-        Kept::new(
-            alloc,
-            Held::Arriving(Arrival::failed()),
-            None,
-            Asked::nothing(),
-        ),
-    )?;
+/// A box in which the contents of a handle will lie, with room for the calls of disks outside, over storage with such blocks.
+pub(crate) fn stand_in(alloc: Global, block: u32) -> Result<Box<Kept>, NoMemory>
+    ensures calls { IfOk result (λ k. k.value.calls ≡ first_calls block) }
+    ensures fed { IfOk result (λ k. k.value.fed ≡ 0) }
+    ensures lost { IfOk result (λ k. k.value.lost ≡ none_lost) }
+{
+    let calls = CallsOut::new(alloc, block)?;
+    let boxed = Box::new(alloc, Kept::empty(alloc, calls))?;
     Ok(boxed)
 }
 
-/// The box with these contents.
-pub(crate) fn filled(boxed: Box<Kept>, kept: Kept) -> Box<Kept>
-    ensures { result.value ≡ kept }
+/// The box with these contents, and the room for calls that it had.
+pub(crate) fn filled(
+    boxed: Box<Kept>,
+    held: Held,
+    admission: Admission,
+    written: Option<PageLog>,
+    asked: Asked,
+) -> Box<Kept>
+    requires { FitsLog written (ram_in asked.places (held_state held)) }
+    ensures { result.value ≡ record (kept_with held (admission_of admission) boxed.value.fed boxed.value.lost) { calls = boxed.value.calls; written = written; large = asked.large; places = asked.places } }
 {
     let mut boxed = boxed;
-    *boxed = kept;
+    boxed.fill(held, admission, written, asked);
     boxed
 }

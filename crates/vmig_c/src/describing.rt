@@ -38,10 +38,11 @@ pub(crate) fn describe(kept: &Kept) -> Description
     told.images = image_count(&kept.held).min(u32::MAX as usize) as u32;
     told.lost = lost_bits(kept.lost());
     told.flags = flags_of(kept.asked.large, &kept.output.written);
+    told.calls_out = kept.calls.count();
     told
 }
 
-/// As above, but for its images, the disks that were lost, and what was asked for.
+/// As above, but for its images, the disks that were lost, the calls that are out, and what was asked for.
 fn told(kept: &Kept) -> Description
     ensures { IsToldState kept.now kept.now.state result }
 {

@@ -5,7 +5,7 @@
 //! after a refusal. Without images the disks are made in memory of the library, as soon as the header says their sizes.
 
 ghost use Rattle.std.specs.Prelude.{◌≡◌, [], IfErr, IfOk, None};
-ghost use Rattle.vmig_c.specs.Expected.{Expects, IsArrivalOf, IsGiven, IsNoneOrRam, allowed_of, terms_in};
+ghost use Rattle.vmig_c.specs.Expected.{Expects, IsArrivalOf, IsGiven, IsNoneOrRam, allowed_of, limits_in, terms_in};
 ghost use Rattle.c_machine.specs.Expected.{IsUntaken, arrival_refusal_of, has_ram};
 ghost use Rattle.c_machine.specs.Made.{has_bytes, ram_left};
 ghost use Rattle.c_machine.specs.Mapping.{AreTaken};
@@ -18,10 +18,11 @@ use crate::kept::{Asked, Held, Kept};
 use crate::logging::log_for;
 use c_machine::status::{DONE, IN_USE, NO_MEMORY};
 use c_machine::{
-    Expected, arrival_limits, arrival_refusal, give_back, is_none, mapped_disks, put_back,
-    ram_bytes, shapes_of, taken_ram,
+    Expected, arrival_refusal, give_back, header_limits, is_none, mapped_disks, outside_allowed,
+    put_back, ram_bytes, shapes_of, taken_ram,
 };
 use guestmem::{NoMemory, PAGES_GREATEST, Ram};
+use machine::Limits;
 use receiver::Terms;
 use region::Slot;
 use std::alloc::Global;
@@ -60,7 +61,7 @@ pub(crate) fn awaited(alloc: Global, expected: &mut Expected) -> Result<Box<Kept
 {
     let shapes = shapes_of(alloc, expected.shapes)?;
     let admission = Admission::Pending(allowed(expected), shapes, Vec::new(alloc));
-    let boxed = stand_in(alloc)?;
+    let boxed = stand_in(alloc, expected.block)?;
     let bytes = ram_bytes(expected.most_pages, expected.ram.len());
     let asked = Asked::by(expected.flags, bytes);
     let log = log_for(alloc, expected.flags, asked.places)?;
@@ -68,13 +69,13 @@ pub(crate) fn awaited(alloc: Global, expected: &mut Expected) -> Result<Box<Kept
     if is_none(expected.images) {
         let ram = ram_from(alloc, &mut expected.ram)?;
         let arrival = Held::Arriving(Arrival::new(alloc, terms, ram));
-        return Ok(filled(boxed, Kept::within(alloc, arrival, admission, log, asked)));
+        return Ok(filled(boxed, arrival, admission, log, asked));
     }
     let disks = mapped_disks(alloc, expected.images)?;
     match ram_from(alloc, &mut expected.ram) {
         Ok(ram) => {
             let arrival = Held::Arriving(Arrival::over(alloc, terms, disks, ram));
-            Ok(filled(boxed, Kept::within(alloc, arrival, admission, log, asked)))
+            Ok(filled(boxed, arrival, admission, log, asked))
         }
         Err(_) => {
             give_back(disks, expected.images);
@@ -110,7 +111,7 @@ fn terms(expected: &mut Expected) -> Terms
 {
     Terms {
         base: expected.base,
-        limits: arrival_limits(expected.flags, expected.frame),
+        limits: limits_in(expected),
     }
 }
 
@@ -119,7 +120,8 @@ fn allowed(expected: &mut Expected) -> Allowed
     ensures same { expected.new ≡ expected.old }
     ensures allowed { result ≡ allowed_of expected.old }
 {
-    let limits = arrival_limits(expected.flags, expected.frame);
+    let limits = limits_in(expected);
+    let outside = outside_allowed(expected);
     let pages = if expected.ram.is_none() {
         expected.most_pages
     } else {
@@ -135,6 +137,16 @@ fn allowed(expected: &mut Expected) -> Allowed
         pages,
         sectors,
         frame: expected.frame,
+        outside,
         base: expected.base,
     }
+}
+
+/// The limits within which the header is read.
+fn limits_in(expected: &mut Expected) -> Limits
+    ensures same { expected.new ≡ expected.old }
+    ensures limits { result ≡ limits_in expected.old }
+{
+    let outside = outside_allowed(expected);
+    header_limits(expected.flags, expected.frame, outside)
 }

@@ -11,12 +11,13 @@
 //! `by_state` has the states once: a call names two or three answers in place of seven cases. It is a macro, and no function of a generic type
 //! that each call would have beside its own, with a contract that says the same.
 
-ghost use Rattle.vmig_c.specs.Kept.{admission_of, kept_of, places_for};
+ghost use Rattle.vmig_c.specs.Kept.{admission_of, places_for, unasked};
 ghost use Rattle.c_machine.specs.Made.{asks_large};
 ghost use Rattle.std.specs.Prelude.{◌≡◌, false};
 
 use crate::admission::Admission;
 use crate::arrival::Arrival;
+use crate::calls_out::CallsOut;
 use crate::loan::Loan;
 use crate::logging::Output;
 use c_machine::{asks_large, limits_for};
@@ -187,6 +188,13 @@ impl Asked {
     }
 }
 
+/// That of a machine of which no stream arrives.
+pub(crate) fn unasked(alloc: Global) -> Admission
+    ensures { admission_of result ≡ unasked }
+{
+    Admission::Granted(0, Vec::new(alloc))
+}
+
 fn places_for(flags: u32, bytes: u64) -> u32
     ensures { result ≡ places_for flags bytes }
 {
@@ -195,7 +203,11 @@ fn places_for(flags: u32, bytes: u64) -> u32
 }
 
 /// The contents of a handle. Contracts see which state they are in, whether the disks are the caller's memory, whether a stream is let in and
-/// how much of it was taken, which disks were lost, what was asked for, and which pages are to be handed out.
+/// how much of it was taken, which disks were lost, which calls of disks outside are out, what was asked for, and which pages are to be handed
+/// out.
+///
+/// The calls that are out lie beside the machine, so they outlive each change of its state: it may be sent and aborted, and lend its RAM, while a
+/// host's storage is at work.
 ///
 /// A log of pages has a place for each page of the machine (`FitsLog`): no call changes how many pages a machine has.
 #[derive(Drop)]
@@ -211,6 +223,8 @@ pub struct Kept {
     pub(crate) fed: u64,
     // For each device, whether its disk was lost: it could not be brought to its file, and will not be.
     lost: [bool; DEVICES_MAX],
+    // Which calls of disks outside were handed out and are not answered.
+    pub(crate) calls: CallsOut,
     pub(crate) asked: Asked,
 }
 
@@ -219,7 +233,7 @@ impl Model for Kept {
 
     ghost Value = { KeptSeen };
 
-    ghost view = { λ k. record (kept_with k.held (admission_of k.admission) k.fed k.lost) { written = k.output.written; large = k.asked.large; places = k.asked.places } };
+    ghost view = { λ k. record (kept_with k.held (admission_of k.admission) k.fed k.lost) { calls = k.calls; written = k.output.written; large = k.asked.large; places = k.asked.places } };
 
     ghost invariant = { λ k. FitsLog k.output.written (ram_in k.asked.places (held_state k.held)) };
 }
@@ -229,35 +243,39 @@ impl Kept {
     ghost use Rattle.machine.specs.declared.machine.TheConstants.{DEVICES_MAX};
     ghost use Rattle.vmig_c.specs.Kept.{FitsLog, held_state, is_lost, kept_with, none_lost, ram_in};
 
-    /// Wraps a machine.
-    pub(crate) fn new(alloc: Global, held: Held, written: Option<PageLog>, asked: Asked) -> Kept
-        requires { FitsLog written (ram_in asked.places (held_state held)) }
-        ensures { result ≡ record (kept_of held) { written = written; large = asked.large; places = asked.places } }
+    /// Room for a machine, with room for these calls. It takes no memory.
+    pub(crate) fn empty(alloc: Global, calls: CallsOut) -> Kept
+        ensures calls { result.calls ≡ calls }
+        ensures fed { result.fed ≡ 0 }
+        ensures lost { result.lost ≡ none_lost }
     {
-        let unasked = Admission::Granted(0, Vec::new(alloc));
-        Kept::within(alloc, held, unasked, written, asked)
+        Kept {
+            held: Held::Arriving(Arrival::failed()),
+            output: Output::new(alloc, None),
+            named: Vec::new(alloc),
+            admission: unasked(alloc),
+            fed: 0,
+            lost: [false; DEVICES_MAX],
+            calls,
+            asked: Asked::nothing(),
+        }
     }
 
-    /// Wraps a machine that will arrive.
-    pub(crate) fn within(
-        alloc: Global,
+    /// Puts a machine into it, or one that will arrive. It takes no memory.
+    pub(crate) fn fill(
+        &mut self,
         held: Held,
         admission: Admission,
         written: Option<PageLog>,
         asked: Asked,
-    ) -> Kept
+    )
         requires { FitsLog written (ram_in asked.places (held_state held)) }
-        ensures { result ≡ record (kept_with held (admission_of admission) 0 none_lost) { written = written; large = asked.large; places = asked.places } }
+        ensures { self.new ≡ record (kept_with held (admission_of admission) self.old.fed self.old.lost) { calls = self.old.calls; written = written; large = asked.large; places = asked.places } }
     {
-        Kept {
-            held,
-            output: Output::new(alloc, written),
-            named: Vec::new(alloc),
-            admission,
-            fed: 0,
-            lost: [false; DEVICES_MAX],
-            asked,
-        }
+        self.held = held;
+        self.admission = admission;
+        self.output.written = written;
+        self.asked = asked;
     }
 
     /// For each device, whether its disk was lost.

@@ -34,6 +34,10 @@
 //! - `vmig_lend` lends RAM that lies in memory of the caller to it, and `vmig_give_back` takes it back with the pages that were written
 //!   (`specs/Lent`). Meanwhile the handle has all of the machine but its RAM (`loan`): a call that touches no byte of it is done, with the
 //!   clause that it has of any machine, whatever RAM holds meanwhile, and each other call is refused.
+//! - `vmig_disk_call` hands out what a disk outside is to do, the next call of crate `disk_calls` over the machine's requests, and `vmig_disk_done`
+//!   and `vmig_disk_failed` answer one by its number: the machine's event at the request that asked, or nothing where none waits any more
+//!   (`specs/Outside`). What is out lies beside the machine, in each of its states (`calls_out`). A register write and a reset that would drop a
+//!   request whose call is out are refused (`specs/Dropping`), and so is a stop while one is.
 //! - `vmig_mark` names pages later than RAM came back: each is taken for written whole, with the bytes that lie there (`specs/Late`). By which
 //!   pages a machine that is being migrated is behind its history the laws say; a round and a stop want none (`specs/Sent`).
 //! - Where its struct asks for a log, a step, a write of RAM and a push are told to it, each page that they wrote into and no other, and
@@ -45,7 +49,7 @@
 //!
 //! # Why it is so
 //! - Exports call nobody back: they open no file and call no function of C. So disks lie in memory: they are honest and steady
-//!   (`c_machine`, `specs/Plain`).
+//!   (`c_machine`, `specs/Plain`). A disk elsewhere is outside of the machine: what it is to do is asked for, and its answer is an event.
 //! - A pointer whose count is 0 may be null, as C programmers write it. No contract says so, since a proof cannot compare a
 //!   caller's pointer with null. The module that the compiler hands to LLVM has no attribute by which a pointer is known not to
 //!   be null, and no empty slice of a caller is put into an `Option`; `tests/c/nulls.c` makes each such call.
@@ -56,6 +60,7 @@ ghost use Rattle.machine.specs.declared.event.Event.TheVariants as events;
 ghost use Rattle.vmig_c.specs.Announced.{Announces};
 ghost use Rattle.vmig_c.specs.Arriving.{Fed, Finished};
 ghost use Rattle.vmig_c.specs.Described.{Describes};
+ghost use Rattle.vmig_c.specs.Dropping.{WroteReg};
 ghost use Rattle.vmig_c.specs.Durable.{Failed};
 ghost use Rattle.vmig_c.specs.Expected.{Expects};
 ghost use Rattle.vmig_c.specs.Sectors.{SectorRead};
@@ -67,6 +72,7 @@ ghost use Rattle.vmig_c.specs.Migrated.{Aborted, Begun, EndedRound, HasBeenStopp
 ghost use Rattle.vmig_c.specs.Mirror.{Pulled, Pushed};
 ghost use Rattle.vmig_c.specs.Moving.{Saved};
 ghost use Rattle.vmig_c.specs.NextWork.{FoundWork};
+ghost use Rattle.vmig_c.specs.Outside.{Done, FailsCall, HandsCall};
 ghost use Rattle.vmig_c.specs.Resetting.{Resets};
 ghost use Rattle.vmig_c.specs.Rooms.{Rooms};
 ghost use Rattle.vmig_c.specs.Stepped.{Stepped};
@@ -74,15 +80,16 @@ ghost use Rattle.vmig_c.specs.Unmapping.{Releases};
 ghost use Rattle.vmig_c.specs.Turns.{Worked};
 ghost use Rattle.vmig_c.specs.Told.{Read, Told, ToldOr, ToldSo, Written, lines_told};
 ghost use Rattle.vmig_c.specs.Version.{version};
-ghost use Rattle.vmig_c.specs.declared.serving.TheConstants.{NO_BYTE};
 
 mod admission;
 mod announcing;
 mod arrival;
 mod arriving;
+mod calls_out;
 mod creating;
 mod describing;
 mod devices;
+mod dropping;
 mod expecting;
 mod handle;
 mod kept;
@@ -94,6 +101,7 @@ mod logging;
 mod migrating;
 mod mirror;
 mod moving;
+mod outside;
 mod resetting;
 mod rooms;
 mod sectors;
@@ -121,6 +129,8 @@ pub use migrating::SendLeft;
 use migrating::{abort, begin, left as left_of, send_round, send_some, stop, take};
 use mirror::{pull, push};
 use moving::save_kept;
+pub use outside::Call;
+use outside::{answer_done, answer_failed, hand_call};
 use region::Slot;
 use resetting::reset;
 use rooms::room as room_in;
@@ -233,7 +243,8 @@ pub extern "C" fn vmig_reg_read(
     on_kept!(machine; read_register(dev, off, width, value))
 }
 
-/// The driver writes a register. `byte` becomes the byte that comes out by it, or 256.
+/// The driver writes a register. `byte` becomes the byte that comes out by it, or 256. A write that would drop a request whose call is out is not
+/// made.
 #[unsafe(no_mangle)]
 #[tactic(auto, using(crate::proofs::OnHandle::on_none, crate::proofs::OnHandle::on_some))]
 pub extern "C" fn vmig_reg_write(
@@ -244,7 +255,7 @@ pub extern "C" fn vmig_reg_write(
     value: u32,
     byte: &mut u32,
 ) -> u32
-    ensures { ToldOr NO_BYTE machine.old.machine (events.RegWrite dev off width value) result byte.new byte.old machine.new.machine }
+    ensures { WroteReg machine.old.machine dev off width value result byte.new byte.old machine.new.machine }
 {
     on_kept!(machine; write_register(dev, off, width, value, byte))
 }
@@ -299,7 +310,8 @@ pub extern "C" fn vmig_drop(machine: &mut Handle, dev: u8) -> u32
     on_kept!(machine; drop_input(dev))
 }
 
-/// The guest reboots: each device is reset in order, and what was put in is dropped. It takes no memory.
+/// The guest reboots: each device is reset in order, and what was put in is dropped, unless that would drop a request whose call is out. It takes no
+/// memory.
 #[unsafe(no_mangle)]
 #[tactic(auto, using(crate::proofs::OnHandle::on_none, crate::proofs::OnHandle::on_some))]
 pub extern "C" fn vmig_reset(machine: &mut Handle) -> u32
@@ -353,6 +365,33 @@ pub extern "C" fn vmig_sync_failed(machine: &mut Handle, dev: u8) -> u32
     ensures { Failed machine.old.machine dev result machine.new.machine }
 {
     on_kept!(machine; lose_kept(dev))
+}
+
+/// Hands out the next call that a disk outside is to do. Of a write its bytes go to the front of the buffer. It takes no memory.
+#[unsafe(no_mangle)]
+#[tactic(auto, using(crate::proofs::HandedCalls::hands_none, crate::proofs::HandedCalls::hands_some))]
+pub extern "C" fn vmig_disk_call(machine: &mut Handle, call: &mut Call, buf: &mut [u8]) -> u32
+    ensures { HandsCall machine.old.machine result call.new call.old buf.old buf.new machine.new.machine }
+{
+    on_kept!(machine; hand_call(call, buf))
+}
+
+/// A disk outside did this many sectors of a call, from its first one on: of a read with these bytes. It takes no memory.
+#[unsafe(no_mangle)]
+#[tactic(auto, using(crate::proofs::HandedCalls::answers_none, crate::proofs::HandedCalls::answers_some))]
+pub extern "C" fn vmig_disk_done(machine: &mut Handle, number: u64, count: u32, bytes: &[u8]) -> u32
+    ensures { Done machine.old.machine number count bytes.now result machine.new.machine }
+{
+    on_kept!(machine; answer_done(number, count, bytes))
+}
+
+/// A disk outside failed at a call. It takes no memory.
+#[unsafe(no_mangle)]
+#[tactic(auto, using(crate::proofs::HandedCalls::answers_none, crate::proofs::HandedCalls::answers_some))]
+pub extern "C" fn vmig_disk_failed(machine: &mut Handle, number: u64) -> u32
+    ensures { FailsCall machine.old.machine number result machine.new.machine }
+{
+    on_kept!(machine; answer_failed(number))
 }
 
 /// Reads a sector of a disk.
@@ -491,7 +530,7 @@ pub extern "C" fn vmig_send_round(machine: &mut Handle) -> u32
     on_kept!(machine; send_round())
 }
 
-/// Sends what is left, and closes the stream.
+/// Sends what is left, and closes the stream, unless a call of a disk outside is out.
 #[unsafe(no_mangle)]
 #[tactic(auto, using(crate::proofs::OnHandle::on_none, crate::proofs::OnHandle::on_some))]
 pub extern "C" fn vmig_send_stop(machine: &mut Handle, pages: &mut u64, sectors: &mut u64) -> u32

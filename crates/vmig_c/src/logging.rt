@@ -1,14 +1,17 @@
-//! Steps and writes with a log of the pages that they write, where the caller asks for one.
+//! Steps, writes and answers of disks outside with a log of the pages that they write, where the caller asks for one.
 //!
 //! Without one the calls without a log are made, which cost nothing for it.
 
 ghost use Rattle.std.specs.Prelude.{◌≡◌, IfOk, length};
+ghost use Rattle.blk.specs.Outside.{Gave};
 ghost use Rattle.guestmem.specs.Maybe.{after_if, may_if};
 ghost use Rattle.machine.specs.Applied.{IsAppliedLogged, MayItems};
 ghost use Rattle.machine.specs.Direct.{done_reply};
+ghost use Rattle.machine.specs.Outside.{disk_reply};
 ghost use Rattle.machine.specs.PageLog.{may_note, noted};
 ghost use Rattle.machine.specs.Seen.{state_of};
 ghost use Rattle.machine.specs.Stepped.{reply_in};
+ghost use Rattle.machine.specs.declared.event.DiskAnswer.TheVariants as answers;
 ghost use Rattle.machine.specs.declared.event.Event.TheVariants as events;
 ghost use Rattle.sender.specs.Calls.{guest_reply, stepped_result};
 ghost use Rattle.sender.specs.LiveState.{now};
@@ -113,7 +116,45 @@ pub(crate) fn written<D: Disk>(
     machine.write_ram_logged(addr, bytes, log)
 }
 
+/// Bytes of a disk outside, of which the pages that they are written into are told to the log.
+pub(crate) fn gave<D: Disk>(
+    machine: &mut Machine<D>,
+    dev: u8,
+    pick: u8,
+    bytes: &[u8],
+    log: &mut Option<PageLog>,
+) -> Result<bool, Refusal>
+    requires fits { FitsLog log.old (length machine.old.memory.bytes) }
+    requires may { MayItems (may_if may_note) log.old (state_of machine.old) }
+    ensures fits { FitsLog log.new (length machine.new.memory.bytes) }
+    ensures logged { IsAppliedLogged (after_if noted) machine.old log.old (events.Disk dev pick (answers.Gave bytes.now)) (disk_reply (Gave bytes.now) result) machine.new log.new }
+{
+    if let None = log {
+        return machine.disk_gave(dev, pick, bytes);
+    }
+    machine.disk_gave_logged(dev, pick, bytes, log)
+}
+
 /// As above, for a machine that is being migrated.
+pub(crate) fn live_gave<D: Disk>(
+    live: &mut Moving<D>,
+    dev: u8,
+    pick: u8,
+    bytes: &[u8],
+    log: &mut Option<PageLog>,
+) -> Result<Reply, MigError>
+    requires fits { FitsLog log.old (length live.old.machine.memory.bytes) }
+    requires may { MayItems (may_if may_note) log.old (now live.old) }
+    ensures fits { FitsLog log.new (length live.new.machine.memory.bytes) }
+    ensures logged { ServesLogged (after_if noted) live.old log.old (events.Disk dev pick (answers.Gave bytes.now)) (guest_reply result) live.new log.new }
+{
+    if let None = log {
+        return live.disk_gave(dev, pick, bytes);
+    }
+    live.disk_gave_logged(dev, pick, bytes, log)
+}
+
+/// As `written`, for a machine that is being migrated.
 pub(crate) fn live_written<D: Disk>(
     live: &mut Moving<D>,
     addr: u64,

@@ -1,7 +1,8 @@
 //! The calls of a migration, applied to the contents of a handle.
 
 ghost use Rattle.std.specs.Prelude.{◌≡◌, ◌++◌, IfErr, IfOk, drop, length, min, take};
-ghost use Rattle.vmig_c.specs.Migrated.{AbortsKept, AreTold, BeginsKept, EndsKept, HasBegun, HasEnded, HasStopped, HasTaken, IsAnswered, IsLeft, IsLeftLent, LeavesKept, SendsKept, SendsSome, SendsUpTo, StopsKept, TakesKept, send_refusal};
+ghost use Rattle.disk_calls.specs.Calls.{is_any_out};
+ghost use Rattle.vmig_c.specs.Migrated.{AbortsKept, AreTold, BeginsKept, EndsKept, HasBegun, HasEnded, HasStopped, HasTaken, IsAnswered, IsLeft, IsLeftLent, LeavesKept, SendsKept, SendsSome, SendsUpTo, StopsKept, StopsUnless, TakesKept, send_refusal};
 ghost use Rattle.vmig_c.specs.Kept.{are_mapped, held_state, state_in};
 
 use crate::arrival::Arrival;
@@ -9,7 +10,7 @@ use crate::kept::{Contents, Held, Kept, Moving, by_state, turned};
 use crate::loan::MovingLent;
 use crate::status::mig_status;
 use c_machine::status::{
-    DONE, LENT, NO_MEMORY, NOT_SENDING, ROUND_DONE, ROUND_OPEN, SEND_FAILED, STOPPED,
+    CALLS_OUT, DONE, LENT, NO_MEMORY, NOT_SENDING, ROUND_DONE, ROUND_OPEN, SEND_FAILED, STOPPED,
 };
 use machine::{Disk, Machine};
 use sender::{End, Left, LiveWaiting, Phase, Stopped};
@@ -193,16 +194,27 @@ fn round_status<D: Disk>(live: &mut Moving<D>) -> u32
     }
 }
 
-/// Sends what is left, and closes the stream.
+/// Sends what is left, and closes the stream, unless a call of a disk outside is out: a write of this host's storage would come after one of the
+/// target's.
 #[tactic(auto, using(crate::proofs::OnHandle::by_still, crate::proofs::OnHandle::by_moving, crate::proofs::SamePages::stopped))]
 pub(crate) fn stop(kept: &mut Kept, pages: &mut u64, sectors: &mut u64) -> u32
-    ensures stops { StopsKept kept.old.state result pages.new pages.old sectors.new sectors.old kept.new.state }
+    ensures stops { StopsKept (is_any_out kept.old.calls) kept.old.state result pages.new pages.old sectors.new sectors.old kept.new.state }
     ensures kind { kept.new ≡ record kept.old { state = kept.new.state } }
 {
+    let out = kept.calls.is_any_out();
     by_state!(&mut kept.held;
         still(_) => NOT_SENDING,
-        moving(live) => stop_status(live, pages, sectors),
+        moving(live) => stop_unless(out, live, pages, sectors),
     )
+}
+
+fn stop_unless<D: Disk>(out: bool, live: &mut Moving<D>, pages: &mut u64, sectors: &mut u64) -> u32
+    ensures { StopsUnless out live.old result pages.new pages.old sectors.new sectors.old live.new }
+{
+    if out {
+        return CALLS_OUT;
+    }
+    stop_status(live, pages, sectors)
 }
 
 #[tactic(auto, using(crate::proofs::Migration::stopped))]

@@ -6,26 +6,30 @@
 ghost use Rattle.std.specs.Prelude.{◌≡◌, ◌<◌, ◌≤◌, None, Some, length, slice_get};
 ghost use Rattle.machine.specs.declared.machine.TheConstants.{DEVICES_MAX};
 ghost use Rattle.machine.specs.declared.shape.Shape.{Shape};
-ghost use Rattle.vmig_c.specs.Resetting.{AreDone, HasPages, ResetsKept, has_input, reset_of, reset_refusal, shapes_in, stop_refusal};
+ghost use Rattle.vmig_c.specs.Resetting.{AreDone, HasPages, ResetsKept, drops_any, has_input, reset_of, reset_refusal, shapes_in, stop_refusal};
 
+use crate::dropping::drops_out;
 use crate::kept::{Kept, by_state};
 use crate::mirror::has_stopped;
 use crate::serving::{drop_input, written};
-use c_machine::status::{DONE, NO_MACHINE, STOPPED};
+use c_machine::status::{CALLS_OUT, DONE, NO_MACHINE, STOPPED};
 use machine::Shape;
 use sender::Phase;
 
 /// The offset of the register Status (VIRTIO 1.2, 4.2.2).
 const STATUS: u32 = 0x070;
 
-/// Resets each device in order, and drops what was put in.
+/// Resets each device in order, and drops what was put in. None is reset where that would drop a request whose call is out.
 #[tactic(auto, using(crate::proofs::Resets::refused, crate::proofs::Resets::was_reset))]
 pub(crate) fn reset(kept: &mut Kept) -> u32
-    ensures resets { ResetsKept kept.old.state result kept.new.state }
+    ensures resets { ResetsKept kept.old result kept.new.state }
     ensures kind { kept.new ≡ record kept.old { state = kept.new.state } }
 {
     if let Some(status) = reset_refusal(kept) {
         return status;
+    }
+    if drops_any(kept) {
+        return CALLS_OUT;
     }
     for dev in 0..device_count(kept) {
         reset_device(kept, dev as u8);
@@ -33,7 +37,19 @@ pub(crate) fn reset(kept: &mut Kept) -> u32
     DONE
 }
 
-/// Why no device is reset, if none is.
+/// Whether the reset of a device would drop a request whose call is out.
+fn drops_any(kept: &Kept) -> bool
+    ensures { result ≡ drops_any kept.now }
+{
+    for dev in 0..device_count(kept) {
+        if drops_out(kept, dev as u8, STATUS, 4, 0) {
+            return true;
+        }
+    }
+    false
+}
+
+/// Why no device is reset, if none is, by the state.
 fn reset_refusal(kept: &Kept) -> Option<u32>
     ensures { result ≡ reset_refusal kept.now.state }
 {
@@ -46,7 +62,8 @@ fn reset_refusal(kept: &Kept) -> Option<u32>
     )
 }
 
-fn stop_refusal(phase: Phase) -> Option<u32>
+/// That a machine was stopped refuses the call, if it was.
+pub(crate) fn stop_refusal(phase: Phase) -> Option<u32>
     ensures { result ≡ stop_refusal phase }
 {
     if has_stopped(phase) {

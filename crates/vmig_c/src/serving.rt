@@ -4,15 +4,17 @@
 
 ghost use Rattle.std.specs.Prelude.{◌≡◌, length};
 ghost use Rattle.machine.specs.declared.event.Event.TheVariants as events;
+ghost use Rattle.vmig_c.specs.Dropping.{WritesReg};
 ghost use Rattle.vmig_c.specs.Kept.{FitsLog};
 ghost use Rattle.vmig_c.specs.Told.{IsServedWrite, IsWritten, ReadsKept, Tells, TellsOr, TellsSo, WritesKept, lines_in};
 ghost use Rattle.vmig_c.specs.declared.serving.TheConstants.{NO_BYTE};
 
+use crate::dropping::drops_out;
 use crate::kept::{Kept, Moving, by_state};
 use crate::logging;
 use crate::logging::live_written;
 use crate::stepping::reply_status;
-use c_machine::status::{DONE, answer_status, done_status, written_status};
+use c_machine::status::{CALLS_OUT, DONE, answer_status, done_status, written_status};
 use machine::{Disk, Machine, PageLog};
 
 /// The number of no byte.
@@ -38,7 +40,8 @@ pub(crate) fn read_register(kept: &mut Kept, dev: u8, off: u32, width: u8, value
     )
 }
 
-/// The driver writes a register. `byte` becomes the byte that comes out by it, or 256, where none does.
+/// The driver writes a register. `byte` becomes the byte that comes out by it, or 256, where none does. A write that would drop a request whose
+/// call is out is not made.
 pub(crate) fn write_register(
     kept: &mut Kept,
     dev: u8,
@@ -47,9 +50,12 @@ pub(crate) fn write_register(
     value: u32,
     byte: &mut u32,
 ) -> u32
-    ensures told { TellsOr NO_BYTE kept.old.state (events.RegWrite dev off width value) result byte.new byte.old kept.new.state }
+    ensures writes { WritesReg kept.old dev off width value result byte.new byte.old kept.new.state }
     ensures kind { kept.new ≡ record kept.old { state = kept.new.state } }
 {
+    if drops_out(kept, dev, off, width, value) {
+        return CALLS_OUT;
+    }
     let mut number = NO_BYTE;
     let status = written(kept, dev, off, width, value, &mut number);
     if status == DONE {
@@ -58,7 +64,7 @@ pub(crate) fn write_register(
     status
 }
 
-/// As above; `out` becomes the byte, and stays where none comes out.
+/// As above, whatever is out; `out` becomes the byte, and stays where none comes out.
 #[tactic(auto, using(crate::proofs::OnHandle::each_still, crate::proofs::OnHandle::each_moving, crate::proofs::OnHandle::each_still_lent, crate::proofs::OnHandle::each_moving_lent, crate::proofs::ByKept::told, crate::proofs::ByKept::served, crate::proofs::ByKept::few_told, crate::proofs::ByParked::told, crate::proofs::ByParked::served, crate::proofs::ByParked::few_told, crate::proofs::SamePages::applied, crate::proofs::SamePages::served, crate::proofs::SamePages::applied_lent, crate::proofs::SamePages::served_lent))]
 pub(crate) fn written(
     kept: &mut Kept,

@@ -1,39 +1,68 @@
-/* Linked into a program, or loaded before one, it fails one of its calls that bring a file to the storage: the n-th fdatasync or msync,
- * where SYNC_FAILS=n. All others succeed, as they do on Linux after one that failed. At the end it writes how many there were to
- * descriptor 9, where that is open and there were any. */
+/* Linked into a program, or loaded before one, it fails calls of the system. SYNC_FAILS=n: the n-th that brings a file to the storage, by fdatasync or
+ * msync; all others succeed, as they do on Linux after one that failed. SYNC_FAILS_ONCE=FILE: the first one once this file says that all is here.
+ * WRITE_FAILS=n: the n-th pwrite, since nothing is left. At the end it writes how many syncs there were to descriptor 9, where that is open and there
+ * were any. */
 #define _GNU_SOURCE
 #include <errno.h>
+#include <stdatomic.h>
 #include <stdio.h>
 #include <stdlib.h>
+#include <string.h>
 #include <sys/mman.h>
 #include <sys/syscall.h>
 #include <unistd.h>
 
-static unsigned long calls;
+static atomic_ulong syncs, writes, failures;
 
-static int fails(void)
+static int is_number(const char *name, unsigned long number)
 {
-    const char *text = getenv("SYNC_FAILS");
+    const char *text = getenv(name);
 
-    if (++calls != (text ? strtoul(text, NULL, 10) : 0)) return 0;
+    return text != NULL && strtoul(text, NULL, 10) == number;
+}
+
+/* Whether the other end of a move has all. */
+static int is_all_here(void)
+{
+    const char *name = getenv("SYNC_FAILS_ONCE");
+    FILE *file = name == NULL ? NULL : fopen(name, "r");
+    char line[512];
+    int found = 0;
+
+    if (file == NULL) return 0;
+    while (!found && fgets(line, sizeof line, file) != NULL) found = strstr(line, "all is here") != NULL;
+    fclose(file);
+    return found;
+}
+
+static int sync_fails(void)
+{
+    if (!is_number("SYNC_FAILS", ++syncs) && (!is_all_here() || failures++ > 0)) return 0;
     errno = EIO;
     return 1;
 }
 
 int fdatasync(int file)
 {
-    return fails() ? -1 : (int)syscall(SYS_fdatasync, file);
+    return sync_fails() ? -1 : (int)syscall(SYS_fdatasync, file);
 }
 
 int msync(void *at, size_t length, int flags)
 {
-    return fails() ? -1 : (int)syscall(SYS_msync, at, length, flags);
+    return sync_fails() ? -1 : (int)syscall(SYS_msync, at, length, flags);
+}
+
+ssize_t pwrite(int file, const void *bytes, size_t length, off_t at)
+{
+    if (!is_number("WRITE_FAILS", ++writes)) return syscall(SYS_pwrite64, file, bytes, length, at);
+    errno = ENOSPC;
+    return -1;
 }
 
 __attribute__((destructor)) static void tell(void)
 {
     char text[32];
-    int length = snprintf(text, sizeof text, "%lu\n", calls);
+    int length = snprintf(text, sizeof text, "%lu\n", (unsigned long)syncs);
 
-    if (calls == 0 || write(9, text, (size_t)length) < 0) return;
+    if (syncs == 0 || write(9, text, (size_t)length) < 0) return;
 }

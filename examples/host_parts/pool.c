@@ -1,0 +1,153 @@
+#define _DEFAULT_SOURCE
+#include <errno.h>
+#include <stdlib.h>
+#include <sys/eventfd.h>
+#include <time.h>
+#include <unistd.h>
+#include "clock.h"
+#include "pool.h"
+#include "say.h"
+#include "terminal.h"
+
+/* Who waits looks this often whether the operator ends the program. */
+enum { WAIT_MS = 20 };
+
+/* Does what the call asks for. Returns how many sectors were done, or 0 and why in errno; of a flush 1. What has to be durable is so before it counts. */
+static uint32_t do_call(struct slot *s)
+{
+    const vmig_call *c = &s->call;
+    uint32_t done;
+
+    switch (c->what) {
+    case VMIG_DISK_READ: return disk_read(s->disk, c->first, c->count, s->bytes);
+    case VMIG_DISK_WRITE: done = disk_write(s->disk, c->first, c->count, s->bytes); break;
+    case VMIG_DISK_CLEAR: done = disk_clear(s->disk, c->first, c->count); break;
+    default: return disk_bring(s->disk) ? 1 : 0;
+    }
+    return done > 0 && c->durable && !disk_bring(s->disk) ? 0 : done;
+}
+
+/* The slot that came to this state first, so that none waits for ever; or NULL. */
+static struct slot *find(struct pool *p, enum slot_state state)
+{
+    struct slot *found = NULL;
+
+    for (unsigned i = 0; i < SLOTS; i++)
+        if (p->slots[i].state == state && (found == NULL || p->slots[i].turn < found->turn)) found = &p->slots[i];
+    return found;
+}
+
+static void move_to(struct pool *p, struct slot *s, enum slot_state state)
+{
+    s->state = state;
+    s->turn = p->turns++;
+}
+
+static void tell_done(struct pool *p, struct slot *s)
+{
+    uint64_t one = 1;
+
+    move_to(p, s, SLOT_DONE);
+    pthread_cond_signal(&p->has_done);
+    if (write(p->bell, &one, sizeof one) != sizeof one) fail("the pool has no bell");
+}
+
+static void *work(void *of)
+{
+    struct pool *p = of;
+    struct slot *s;
+
+    pthread_mutex_lock(&p->lock);
+    for (;;) {
+        uint64_t began;
+
+        while ((s = find(p, SLOT_WAITS)) == NULL && !p->stops) pthread_cond_wait(&p->has_work, &p->lock);
+        if (s == NULL) break;
+        move_to(p, s, SLOT_WORKS);
+        pthread_mutex_unlock(&p->lock);
+        began = clock_nanoseconds();
+        s->count = do_call(s);
+        s->error = s->count > 0 ? 0 : errno;
+        pthread_mutex_lock(&p->lock);
+        p->nanoseconds += clock_nanoseconds() - began;
+        tell_done(p, s);
+    }
+    pthread_mutex_unlock(&p->lock);
+    return NULL;
+}
+
+void pool_begin(struct pool *p)
+{
+    *p = (struct pool){.lock = PTHREAD_MUTEX_INITIALIZER, .has_work = PTHREAD_COND_INITIALIZER, .has_done = PTHREAD_COND_INITIALIZER};
+    p->bell = eventfd(0, EFD_CLOEXEC | EFD_NONBLOCK);
+    for (unsigned i = 0; i < SLOTS; i++) {
+        p->slots[i].bytes = malloc(SLOT_BYTES);
+        if (p->slots[i].bytes == NULL) fail("there is no memory for the requests of disks");
+    }
+    while (p->count < WORKERS && begin_thread(&p->threads[p->count], work, p)) p->count++;
+    if (p->bell < 0 || p->count == 0) fail("there is no thread for the requests of disks");
+}
+
+void pool_end(struct pool *p)
+{
+    pthread_mutex_lock(&p->lock);
+    p->stops = 1;
+    pthread_cond_broadcast(&p->has_work);
+    pthread_mutex_unlock(&p->lock);
+    for (unsigned i = 0; i < p->count; i++) pthread_join(p->threads[i], NULL);
+    for (unsigned i = 0; i < SLOTS; i++) free(p->slots[i].bytes);
+    close(p->bell);
+}
+
+static struct slot *find_locked(struct pool *p, enum slot_state state)
+{
+    struct slot *found;
+
+    pthread_mutex_lock(&p->lock);
+    found = find(p, state);
+    pthread_mutex_unlock(&p->lock);
+    return found;
+}
+
+struct slot *pool_free(struct pool *p)
+{
+    return find_locked(p, SLOT_FREE);
+}
+
+struct slot *pool_done(struct pool *p)
+{
+    return find_locked(p, SLOT_DONE);
+}
+
+static void set_state(struct pool *p, struct slot *s, enum slot_state state)
+{
+    pthread_mutex_lock(&p->lock);
+    move_to(p, s, state);
+    pthread_cond_signal(&p->has_work);
+    pthread_mutex_unlock(&p->lock);
+}
+
+void pool_submit(struct pool *p, struct slot *s)
+{
+    set_state(p, s, SLOT_WAITS);
+}
+
+void pool_release(struct pool *p, struct slot *s)
+{
+    set_state(p, s, SLOT_FREE);
+}
+
+void pool_wait(struct pool *p)
+{
+    struct timespec until;
+
+    clock_gettime(CLOCK_REALTIME, &until);
+    until.tv_nsec += WAIT_MS * 1000000L;
+    if (until.tv_nsec >= 1000000000L) {
+        until.tv_sec++;
+        until.tv_nsec -= 1000000000L;
+    }
+    pthread_mutex_lock(&p->lock);
+    if (find(p, SLOT_DONE) == NULL) pthread_cond_timedwait(&p->has_done, &p->lock, &until);
+    pthread_mutex_unlock(&p->lock);
+}

@@ -1,0 +1,55 @@
+/* A pool of threads that read, write, clear and sync disks, while the guest runs. It knows no machine. */
+#ifndef POOL_H
+#define POOL_H
+
+#include <pthread.h>
+#include <stdint.h>
+#include "disk.h"
+#include "vmig.h"
+
+/* How many calls are under way at once, and how many bytes one has at most. */
+enum { SLOTS = 16, SLOT_BYTES = 262144, WORKERS = 4 };
+
+/* Where a slot is: it is free, waits for a thread, is with one, or is done. */
+enum slot_state { SLOT_FREE, SLOT_WAITS, SLOT_WORKS, SLOT_DONE };
+
+/* A call of the library, and what came of it. */
+struct slot {
+    vmig_call call;
+    struct disk *disk;
+    uint8_t *bytes;         /* room for SLOT_BYTES: what a write writes, or what a read gave */
+    enum slot_state state;
+    uint64_t turn;          /* which came to this state first */
+    uint32_t count;         /* sectors that were done */
+    int error;              /* why none was; 0 where all that was asked for is done, or a part */
+};
+
+struct pool {
+    pthread_t threads[WORKERS];
+    unsigned count;                     /* of threads */
+    pthread_mutex_t lock;
+    pthread_cond_t has_work, has_done;
+    struct slot slots[SLOTS];
+    uint64_t turns;
+    int bell;                           /* an eventfd: a slot is done */
+    int stops;
+    uint64_t nanoseconds;               /* in calls of the system, of all threads */
+};
+
+/* Begins its threads, or ends the program. */
+void pool_begin(struct pool *p);
+/* What is under way is done, and they end. */
+void pool_end(struct pool *p);
+
+/* A slot that is free, or NULL. Only one thread may ask, and submit. */
+struct slot *pool_free(struct pool *p);
+/* The call of this slot is done by a thread. */
+void pool_submit(struct pool *p, struct slot *s);
+/* A slot that is done, or NULL. It stays so until it is submitted anew, or freed. */
+struct slot *pool_done(struct pool *p);
+void pool_release(struct pool *p, struct slot *s);
+
+/* Waits until a slot is done, for some milliseconds at most. */
+void pool_wait(struct pool *p);
+
+#endif
