@@ -11,6 +11,7 @@ pub trait Guest<D: Disk> {
     ghost use Rattle.blk.specs.declared.disk.DiskFault.{DiskFault};
     ghost use Rattle.machine.specs.Seen.{Seen};
     ghost use Rattle.machine.specs.Unsynced.{FlushesDisk};
+    ghost use Rattle.machine.specs.declared.event.DiskAnswer.TheVariants as answers;
     ghost use Rattle.machine.specs.declared.event.Event.{Event};
     ghost use Rattle.machine.specs.declared.event.Event.TheVariants as events;
     ghost use Rattle.machine.specs.declared.reply.Reply.{Reply};
@@ -64,6 +65,19 @@ pub trait Guest<D: Disk> {
     /// The host sets the size of a console, in characters. As `apply` of that event.
     fn resize(&mut self, dev: u8, cols: u16, rows: u16) -> Result<Reply, MigError>
         ensures { serves self.old (events.Resize dev cols rows) result self.new };
+
+    /// A disk outside gave these bytes, which the request that the pick names awaits (`Machine::disk_gave`). As `apply` of that event, whose bytes
+    /// need not be copied.
+    fn disk_gave(&mut self, dev: u8, pick: u8, bytes: &[u8]) -> Result<Reply, MigError>
+        ensures { serves self.old (events.Disk dev pick (answers.Gave bytes.now)) result self.new };
+
+    /// A disk outside did this many sectors of a write or of a clearing, or a flush, which is one. As `apply` of that event.
+    fn disk_did(&mut self, dev: u8, pick: u8, count: u32) -> Result<Reply, MigError>
+        ensures { serves self.old (events.Disk dev pick (answers.Did count)) result self.new };
+
+    /// A disk outside failed: the request that the pick names ends with an error. As `apply` of that event.
+    fn disk_failed(&mut self, dev: u8, pick: u8) -> Result<Reply, MigError>
+        ensures { serves self.old (events.Disk dev pick answers.Failed) result self.new };
 
     /// A device does one piece of its work, which the pick names. As `apply` of that event; the bytes of a message go into the buffer,
     /// which is cut or grows to them, and where none is sent it may hold anything.
@@ -136,6 +150,20 @@ impl<D: Disk> Guest<D> for Machine<D> {
         Ok(Reply::from_done(Machine::resize(self, dev, cols, rows)))
     }
 
+    fn disk_gave(&mut self, dev: u8, pick: u8, bytes: &[u8]) -> Result<Reply, MigError> {
+        let answer = Machine::disk_gave(self, dev, pick, bytes);
+        Ok(Reply::from_moved(answer))
+    }
+
+    fn disk_did(&mut self, dev: u8, pick: u8, count: u32) -> Result<Reply, MigError> {
+        let answer = Machine::disk_did(self, dev, pick, count);
+        Ok(Reply::from_moved(answer))
+    }
+
+    fn disk_failed(&mut self, dev: u8, pick: u8) -> Result<Reply, MigError> {
+        Ok(Reply::from_failed(Machine::disk_failed(self, dev, pick)))
+    }
+
     fn step_into(&mut self, dev: u8, pick: u8, sent: &mut Vec<u8>) -> Result<Stepped, MigError> {
         Ok(Machine::step_into(self, dev, pick, sent))
     }
@@ -203,6 +231,18 @@ impl<D: Disk, W: Digesting> Guest<D> for LiveOver<D, W> {
 
     fn resize(&mut self, dev: u8, cols: u16, rows: u16) -> Result<Reply, MigError> {
         LiveOver::resize(self, dev, cols, rows)
+    }
+
+    fn disk_gave(&mut self, dev: u8, pick: u8, bytes: &[u8]) -> Result<Reply, MigError> {
+        LiveOver::disk_gave(self, dev, pick, bytes)
+    }
+
+    fn disk_did(&mut self, dev: u8, pick: u8, count: u32) -> Result<Reply, MigError> {
+        LiveOver::disk_did(self, dev, pick, count)
+    }
+
+    fn disk_failed(&mut self, dev: u8, pick: u8) -> Result<Reply, MigError> {
+        LiveOver::disk_failed(self, dev, pick)
     }
 
     fn step_into(&mut self, dev: u8, pick: u8, sent: &mut Vec<u8>) -> Result<Stepped, MigError> {

@@ -13,7 +13,7 @@
 //!   - a refusal by the phase changes nothing: not begun, already begun, already stopped, the round counter exhausted,
 //!     and an earlier failure of the writer;
 //!   - `apply` is the step of the event, and makes dirty exactly what the step writes into, whatever the disks do;
-//!     `write_ram` and `input` do the same for the events with bytes, which they take as slices;
+//!     `write_ram`, `input` and `disk_gave` do the same for the events with bytes, which they take as slices;
 //!   - `begin` writes the header: every item is due, none is dirty;
 //!   - `copy` writes the record of the least due item, a page as it is now and a sector as its disk returns it, and takes
 //!     it out of both sets; `RoundDone` if none is due;
@@ -30,8 +30,12 @@
 //!   and none for a bad one or for a page; a stop one for each good sector of the two sets, in order, and no other: where a disk failed,
 //!   for those up to the sector that is named, and where the writer did, for those up to some item. Where none was made, the machine is
 //!   equal (`laws::uncalled_is_same`).
-//! - `apply_logged`, `step_into_logged` and `write_ram_logged` report to a `PageLog` of the caller's too, where there is one (`specs/Logged`): it
-//!   takes in exactly the pages that become dirty. They take no memory for it.
+//! - `apply_logged`, `step_into_logged`, `write_ram_logged` and `disk_gave_logged` report to a `PageLog` of the caller's too, where there is one
+//!   (`specs/Logged`): it takes in exactly the pages that become dirty. They take no memory for it.
+//! - `disk_gave`, `disk_did` and `disk_failed` hand in the answer of a disk that is outside of the machine, as events of the guest. What is asked of
+//!   such disks is asked of the machine (`Machine::disk_call`, `written_bytes`, `drops_requests`; while its RAM is lent `Parked::drops_requests`), and
+//!   for the calls that are out (crate `disk_calls`) a `LiveOver` and a `LiveParked` ask for what their machine does. No sector of such a disk is
+//!   sent. A request that waits is sent with its device, by the stop, so no stop is made while a call is out.
 //! - `fail_flush` makes a step that flushes a disk as one whose disk failed, and calls no disk (`specs/Unsynced`). The history
 //!   continues with that step, and nothing becomes dirty: the stop sends the devices whole.
 //! - `flush_disk` is one flush of the disk of a device, in each phase: the machine stays equal, and the history as it was
@@ -76,6 +80,7 @@
 //! It uses `machine`, `dirtylog`, and `wire`, which encodes each record.
 #![tactic(auto)]
 
+mod asking;
 mod dirty;
 mod event;
 mod guest;
@@ -87,6 +92,7 @@ mod logged;
 mod measuring;
 mod mig_error;
 mod numbering;
+mod outside;
 mod phase;
 mod played;
 mod playing;

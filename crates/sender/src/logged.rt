@@ -7,6 +7,7 @@ ghost use Rattle.std.specs.Prelude.{◌≡◌};
 ghost use Rattle.guestmem.specs.Maybe.{after_if, may_if};
 ghost use Rattle.machine.specs.Applied.{MayItems};
 ghost use Rattle.machine.specs.PageLog.{may_note, noted};
+ghost use Rattle.machine.specs.declared.event.DiskAnswer.TheVariants as answers;
 ghost use Rattle.machine.specs.declared.event.Event.TheVariants as events;
 ghost use Rattle.sender.specs.Calls.{guest_reply, stepped_result};
 ghost use Rattle.sender.specs.LiveState.{now};
@@ -78,5 +79,27 @@ impl<D: Disk, W: Digesting> LiveOver<D, W> {
         let answer = self.machine.write_ram_logged(addr, bytes, &mut self.logs);
         mem::swap(&mut self.logs.second, log);
         Ok(Reply::from_done(answer))
+    }
+
+    /// Does what `disk_gave` does, and reports to the log each page that is written.
+    #[tactic(auto, using(crate::proofs::Logging::logged_refused))]
+    pub fn disk_gave_logged(
+        &mut self,
+        dev: u8,
+        pick: u8,
+        bytes: &[u8],
+        log: &mut Option<PageLog>,
+    ) -> Result<Reply, MigError>
+        requires may { MayItems (may_if may_note) log.old (now self.old) }
+        ensures served { ServesLogged (after_if noted) self.old log.old (events.Disk dev pick (answers.Gave bytes.now)) (guest_reply result) self.new log.new }
+        ensures calls { HasLiveCalled D.called self.old (LiveEvent.Guest (events.Disk dev pick (answers.Gave bytes.now))) (guest_reply result) self.new }
+    {
+        self.running()?;
+        mem::swap(&mut self.logs.second, log);
+        let answer = self
+            .machine
+            .disk_gave_logged(dev, pick, bytes, &mut self.logs);
+        mem::swap(&mut self.logs.second, log);
+        Ok(Reply::from_moved(answer))
     }
 }
