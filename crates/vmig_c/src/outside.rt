@@ -51,6 +51,7 @@ pub struct Call {
 }
 
 /// Hands out the next call. Of a write its bytes go to the front of the buffer. It takes no memory.
+#[tactic(auto, using(crate::proofs::HandedCalls::hands_still, crate::proofs::HandedCalls::hands_moving))]
 pub(crate) fn hand_call(kept: &mut Kept, call: &mut Call, buf: &mut [u8]) -> u32
     ensures hands { HandsKept kept.old.state kept.old.calls result call.new call.old buf.old buf.new kept.new.calls }
     ensures kind { kept.new ≡ record kept.old { calls = kept.new.calls } }
@@ -184,6 +185,7 @@ pub(crate) enum Given<'a> {
 }
 
 /// The host's disk did this many sectors of a call, and gave these bytes of them. It takes no memory.
+#[tactic(auto, using(crate::proofs::HandedCalls::answered, crate::proofs::HandedCalls::misfit, crate::proofs::HandedCalls::unfound))]
 pub(crate) fn answer_done(kept: &mut Kept, number: u64, count: u32, bytes: &[u8]) -> u32
     ensures answers { AnswersKept kept.old number (fits_done count bytes.now) (done_with count bytes.now) result kept.new.state kept.new.written kept.new.calls }
     ensures kind { kept.new ≡ record kept.old { state = kept.new.state; written = kept.new.written; calls = kept.new.calls } }
@@ -205,6 +207,7 @@ pub(crate) fn answer_done(kept: &mut Kept, number: u64, count: u32, bytes: &[u8]
 }
 
 /// The host's disk failed at a call. It takes no memory.
+#[tactic(auto, using(crate::proofs::HandedCalls::answered, crate::proofs::HandedCalls::unfound))]
 pub(crate) fn answer_failed(kept: &mut Kept, number: u64) -> u32
     ensures answers { AnswersKept kept.old number (λ call. true) (λ call. answers.Failed) result kept.new.state kept.new.written kept.new.calls }
     ensures kind { kept.new ≡ record kept.old { state = kept.new.state; written = kept.new.written; calls = kept.new.calls } }
@@ -218,6 +221,7 @@ pub(crate) fn answer_failed(kept: &mut Kept, number: u64) -> u32
 }
 
 /// Where the call with this number is, or the status that says why it is not answered.
+#[tactic(auto, using(crate::proofs::HandedCalls::refused_by))]
 fn place_of(kept: &Kept, number: u64) -> Result<Place, u32>
     ensures found { IfOk result (λ place. (answer_refusal kept.now.state ≡ None) × IsOut kept.now.calls number place × (place.dev < DEVICES_MAX)) }
     ensures refused { IfErr result (λ status. Unfound (answer_refusal kept.now.state) kept.now.calls number status) }
@@ -272,6 +276,7 @@ fn done_as(what: What, count: u32, bytes: &[u8]) -> Given<'_>
 }
 
 /// Hands the answer of a call to the request that asked for it, if it still waits, and takes the call out.
+#[tactic(auto, using(crate::proofs::HandedCalls::meets_still, crate::proofs::HandedCalls::meets_moving))]
 fn hand_in(kept: &mut Kept, place: Place, given: Given<'_>)
     requires goes { answer_refusal kept.old.state ≡ None }
     requires out { (number : ℕ) × IsOut kept.old.calls number place }
