@@ -1,6 +1,6 @@
 //! Devices as C names them.
 
-ghost use Rattle.std.specs.Prelude.{◌≡◌};
+ghost use Rattle.std.specs.Prelude.{◌≡◌, if◌then◌else◌};
 ghost use Rattle.c_machine.specs.Description.{described};
 ghost use Rattle.c_machine.specs.Making.{has_no_disk, has_only, is_known, is_plain, no_shape, shape_of};
 ghost use Rattle.c_machine.specs.Named.{are_zeros};
@@ -78,26 +78,27 @@ impl DeviceShape {
                 sectors,
                 read_only,
                 id,
-            } => DeviceShape {
-                kind: 2,
-                read_only: read_only as u8,
-                sectors,
-                id,
-                ..none
-            },
+            } => DeviceShape::of_disk(2, sectors, read_only, id),
             Shape::Outside {
                 sectors,
                 read_only,
                 id,
-            } => DeviceShape {
-                kind: BLOCK_OUTSIDE,
-                read_only: read_only as u8,
-                sectors,
-                id,
-                ..none
-            },
+            } => DeviceShape::of_disk(BLOCK_OUTSIDE, sectors, read_only, id),
             Shape::Console => DeviceShape { kind: 3, ..none },
             Shape::Entropy => DeviceShape { kind: 4, ..none },
+        }
+    }
+
+    /// That of a device of this kind, with a disk.
+    fn of_disk(kind: u8, sectors: u64, read_only: bool, id: [u8; 20]) -> DeviceShape
+        ensures { result ≡ record no_shape { kind = kind; read_only = if read_only then 1 else 0; sectors = sectors; id = id } }
+    {
+        DeviceShape {
+            kind,
+            read_only: read_only as u8,
+            sectors,
+            id,
+            ..DeviceShape::none()
         }
     }
 

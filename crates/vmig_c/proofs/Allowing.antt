@@ -8,7 +8,7 @@ use Rattle.machine.specs.Limits.{greatest}
 use Rattle.machine.specs.declared.limits.Limits.{Limits}
 use Rattle.region.specs.declared.slot.Slot.{Slot}
 use Rattle.c_machine.specs.Expected as arrival
-use Rattle.c_machine.specs.Made.{are_other_disks, arrival_limits, asks_large, first_ram, is_bad_ram, is_known_setup, is_ram, large, limits_for, ram_bytes, ram_if, setup_refusal_of}
+use Rattle.c_machine.specs.Made.{are_other_disks, arrival_limits, asks_large, first_ram, is_bad_ram, is_known_setup, is_ram, limits_for, ram_bytes, ram_if, setup_refusal_of, small}
 use Rattle.c_machine.specs.Making.{are_bad_shapes}
 use Rattle.c_machine.specs.declared.setup.Expected.{Expected}
 use Rattle.c_machine.specs.declared.setup.Setup.{Setup}
@@ -58,7 +58,7 @@ pub first_long : (pages : ℕ) (ram : Slot) → length (first_ram pages ram) ≡
 first_long pages ram = long_if (length ram.content == 0) pages ram.content
 
 -- The RAM that is handed in for what arrives: it is one within the greatest limits.
-few_in : (asked : Bool) (pages : ℕ) → pages ≤ (if asked then large else limits_for 0).pages → pages ≤ greatest.pages
+few_in : (asked : Bool) (pages : ℕ) → pages ≤ (if asked then greatest else small).pages → pages ≤ greatest.pages
 few_in true pages few = few
 few_in false pages few = omega (arith, few)
 

@@ -18,7 +18,7 @@ use Rattle.receiver.specs.declared.ram_terms.RamTerms.{RamTerms}
 use Rattle.receiver.specs.declared.recv_error.RecvError.TheVariants.{ShapeMismatch}
 use Rattle.receiver.specs.declared.terms.Terms.{Terms}
 use Rattle.c_machine.proofs.Imaging.{eq_of}
-use Rattle.c_machine.specs.Made.{arrival_limits, limits_for}
+use Rattle.c_machine.specs.Made.{limits_for}
 use Rattle.c_machine.specs.declared.setup.Expected.{Expected}
 use Rattle.vmig_c.proofs.Admissions.{begins_longer}
 use Rattle.vmig_c.specs.Admission.{is_within, stream_refusal}
@@ -26,7 +26,7 @@ use Rattle.vmig_c.specs.ArrivalSeen.{ArrivalSeen}
 use Rattle.vmig_c.specs.ArrivedLogs.{ArrivedHasPlaces}
 use Rattle.vmig_c.specs.Arriving.{has_more}
 use Rattle.vmig_c.specs.Awaited.{GoesOnWith, awaited_ram, awaited_sizes}
-use Rattle.vmig_c.specs.Expected.{allowed_of, places_of, terms_if, terms_in, terms_of}
+use Rattle.vmig_c.specs.Expected.{allowed_of, limits_in, places_of, terms_if, terms_in, terms_of}
 use Rattle.vmig_c.specs.declared.admission.Allowed.{Allowed}
 
 tested_few : (a b : ℕ) → nat_lt a b ≡ false → b ≤ a
@@ -83,11 +83,11 @@ callers_places : (e : Expected) (pages : ℕ) → (length e.ram.content == 0) �
 callers_places e pages some few long = rw some (omega (arith, few, long))
 
 places_by : (none : Bool) (e : Expected) (a : ArrivalSeen) (bytes : List ℕ) (opening : Opening) (rest : List ℕ) → (length e.ram.content == 0) ≡ none → awaited_ram a ≡ terms_of e → GoesOnWith bytes a → Begins bytes opening rest
-    → AreWithin (arrival_limits e.flags e.frame) opening.pages opening.shapes → opening.pages ≤ (allowed_of e).pages → opening.pages ≤ places_of e
+    → AreWithin (limits_in e) opening.pages opening.shapes → opening.pages ≤ (allowed_of e).pages → opening.pages ≤ places_of e
 places_by true e a bytes opening rest so ram goes begins within few = library_places e opening.pages so within.few_pages few
 places_by false e a bytes opening rest so ram goes begins within few =
     let len : (awaited_ram a).len ≡ Some (length e.ram.content) = ap (λ (r : RamTerms). r.len) ram ∙ rw so refl in
-    let limits : (awaited_ram a).limits ≡ arrival_limits e.flags e.frame = ap (λ (r : RamTerms). r.limits) ram ∙ limits_if (not (length e.ram.content == 0)) (terms_in e) e.ram.content in
+    let limits : (awaited_ram a).limits ≡ limits_in e = ap (λ (r : RamTerms). r.limits) ram ∙ limits_if (not (length e.ram.content == 0)) (terms_in e) e.ram.content in
     let here : AreWithin (awaited_ram a).limits opening.pages opening.shapes = subst (λ (l : Limits). AreWithin l opening.pages opening.shapes) (sym limits) within in
     callers_places e opening.pages so within.few_pages (given_by (length e.ram.content == 4096 * opening.pages) (awaited_ram a) (awaited_sizes a) bytes opening rest (length e.ram.content) refl len goes.quiet begins here)
 

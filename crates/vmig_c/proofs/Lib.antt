@@ -5,6 +5,7 @@ mod ArrivalCalls
 mod Arrivals
 mod ArrivedLogs
 mod AsBox
+mod Asked
 mod Awaited
 mod ByHandle
 mod ByKept
@@ -13,6 +14,7 @@ mod CallTurns
 mod Descriptions
 mod Failing
 mod Filling
+mod HandedCalls
 mod Handing
 mod Landings
 mod LatePages
@@ -24,6 +26,7 @@ mod Mirrored
 mod Mirroring
 mod OnHandle
 mod Options
+mod Outs
 mod Owing
 mod PageAddresses
 mod PageLogs

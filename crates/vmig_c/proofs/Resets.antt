@@ -1,6 +1,7 @@
 -- The guest's reboot: each event is done.
-use Rattle.std.proofs.Common.{◌≡◌, ◌≤◌, ◌<◌, ◌+◌, ◌++◌, ℕ, Bool, true, false, List, [], ◌∷◌, refl, sym, ap, ◌∙◌, subst, arith, drop, get_or, length, true≢false}
+use Rattle.std.proofs.Common.{◌≡◌, ◌≤◌, ◌<◌, ◌+◌, ◌++◌, ◌||◌, inl, inr, ℕ, Bool, true, false, List, [], ◌∷◌, refl, sym, ap, ◌∙◌, subst, arith, drop, get_or, length, true≢false}
 use Rattle.std.specs.Prelude.{MatchOption, Option, Some, None, option_map, slice_get, if◌then◌else◌}
+use Rattle.std.proofs.lemmas.Bool.{cases_lt}
 use Rattle.std.proofs.lemmas.List.{drop_all, drop_more}
 use Prim.Native.Nat.{zero, suc}
 use Rattle.std.proofs.lemmas.Option.{slice_get-map}
@@ -26,8 +27,9 @@ use Rattle.sender.specs.declared.event.LiveReply.TheVariants as live
 use Rattle.sender.specs.declared.mig_error.MigError.{MigError}
 use Rattle.sender.specs.declared.phase.Phase.{Phase}
 use Rattle.sender.specs.declared.phase.Phase.TheVariants as phases
-use Rattle.vmig_c.specs.Kept.{LoanSeen, StillLent, MovingLent, State, Still, Moving, Arriving, Lent}
-use Rattle.vmig_c.specs.Resetting.{AreDone, HasPages, IsDone, ResetsKept, has_input, loan_refusal, made_in, reset_of, reset_refusal, resets_from, shapes_in, stop_refusal}
+use Rattle.vmig_c.specs.Dropping.{drops_out}
+use Rattle.vmig_c.specs.Kept.{KeptSeen, LoanSeen, StillLent, MovingLent, State, Still, Moving, Arriving, Lent}
+use Rattle.vmig_c.specs.Resetting.{AreDone, HasPages, IsDone, ResetsKept, drops_any, drops_below, has_input, loan_refusal, made_in, reset_of, reset_refusal, resets_from, shapes_in, stop_refusal}
 use Rattle.c_machine.specs.Status.{status_of}
 use Rattle.vmig_c.specs.SendStatus.{live_status}
 use Rattle.vmig_c.specs.Told.{Tells, TellsSo}
@@ -212,9 +214,43 @@ goes_on k now mid shapes dev d below way one next rest =
 pub all_done : (k now : State) (shapes : List Shape) (dev : ℕ) → length shapes ≤ dev → IsOnWay k shapes now dev → AreDone k (resets_from 0 shapes) now
 all_done k now shapes dev end way = way now (subst (λ (l : List Shape). AreDone now (resets_from dev l) now) (sym (drop_all dev shapes end)) refl)
 
+-- Whether a reset would drop a request whose call is out, one device after another.
+or_true : (a : Bool) → (a || true) ≡ true
+or_true true = refl
+or_true false = refl
+
+drops_more : (k : KeptSeen) (n m : ℕ) → n ≤ m → drops_below n k ≡ true → drops_below m k ≡ true
+drops_more k n zero less is = let none : n ≡ 0 = omega (arith, less) in ap (λ (i : ℕ). drops_below i k) (sym none) ∙ is
+drops_more k n (suc m) less is =
+    elim (cases_lt m n) as (λ _. drops_below (suc m) k ≡ true) [
+      | inl last ↦ let same : n ≡ suc m = omega (arith, less, last) in ap (λ (i : ℕ). drops_below i k) (sym same) ∙ is
+      | inr rest ↦ rw (drops_more k n m rest is) refl
+    ]
+
+not_more : (a b : Bool) → b ≡ false → (a ≡ true → b ≡ true) → a ≡ false
+not_more true b is more = absurd (true≢false (sym (more refl) ∙ is))
+not_more false b is more = refl
+
+one_past : (k : KeptSeen) (dev : ℕ) → drops_below (dev + 1) k ≡ (drops_below dev k || drops_out k dev 112 4 0)
+one_past k dev = let next : dev + 1 ≡ suc dev = omega arith in ap (λ (i : ℕ). drops_below i k) next
+
+pub drops_here : (k : KeptSeen) (dev count : ℕ) (found : Bool) → dev < count → count ≡ length (shapes_in k.state) → found ≡ drops_out k dev 112 4 0 → found ≡ true → true ≡ drops_any k
+drops_here k dev count found below all is so =
+    let here : drops_below (dev + 1) k ≡ true = one_past k dev ∙ ap (λ (b : Bool). drops_below dev k || b) (sym is ∙ so) ∙ or_true (drops_below dev k) in
+    sym (drops_more k (dev + 1) (length (shapes_in k.state)) (omega (arith, below, all)) here)
+
+pub drops_not_yet : (k : KeptSeen) (dev : ℕ) (found : Bool) → found ≡ drops_out k dev 112 4 0 → found ≡ false → drops_below dev k ≡ false → drops_below (dev + 1) k ≡ false
+drops_not_yet k dev found is so before = one_past k dev ∙ rw (before, sym is ∙ so) refl
+
+pub drops_none : (k : KeptSeen) (dev count : ℕ) → count ≤ dev → count ≡ length (shapes_in k.state) → drops_below dev k ≡ false → false ≡ drops_any k
+drops_none k dev count past all before = sym (not_more (drops_any k) (drops_below dev k) before (λ is. drops_more k (length (shapes_in k.state)) dev (omega (arith, past, all)) is))
+
 -- By whether it is refused.
-pub refused : (k : State) (status : ℕ) (answer : Option ℕ) → answer ≡ reset_refusal k → answer ≡ Some status → ResetsKept k status k
+pub refused : (k : KeptSeen) (status : ℕ) (answer : Option ℕ) → answer ≡ reset_refusal k.state → answer ≡ Some status → ResetsKept k status k.state
 refused k status answer is why = rw (sym is ∙ why) (refl, refl)
 
-pub was_reset : (k next : State) (answer : Option ℕ) → answer ≡ reset_refusal k → answer ≡ None → AreDone k (resets_from 0 (shapes_in k)) next → ResetsKept k 0 next
-was_reset k next answer is none done = rw (sym is ∙ none) (refl, done)
+pub kept_out : (k : KeptSeen) (answer : Option ℕ) (drops : Bool) → answer ≡ reset_refusal k.state → answer ≡ None → drops ≡ drops_any k → drops ≡ true → ResetsKept k 29 k.state
+kept_out k answer drops is none asked so = rw (sym is ∙ none, sym asked ∙ so) (refl, refl)
+
+pub was_reset : (k : KeptSeen) (next : State) (answer : Option ℕ) (drops : Bool) → answer ≡ reset_refusal k.state → answer ≡ None → drops ≡ drops_any k → drops ≡ false → AreDone k.state (resets_from 0 (shapes_in k.state)) next → ResetsKept k 0 next
+was_reset k next answer drops is none asked so done = rw (sym is ∙ none, sym asked ∙ so) (refl, done)

@@ -30,7 +30,7 @@ use Rattle.vmig_c.specs.Awaited.{HasArrived, ram_coming}
 use Rattle.vmig_c.specs.Durable.{FailsSync, FailsUnless}
 use Rattle.vmig_c.specs.Kept.{FitsLog, LoanSeen, StillLent, MovingLent, State, Still, Moving, Arriving, Lent, ram_in}
 use Rattle.vmig_c.specs.Lent.{HasComeBack, IsLiveLoan, IsReturnable}
-use Rattle.vmig_c.specs.Migrated.{AbortsKept, BeginsKept, GoesOn, HasEnded, HasStopped, HasTaken, SendsIf, SendsSome, SendsUpTo, TakesLent, is_none_due, send_refusal}
+use Rattle.vmig_c.specs.Migrated.{AbortsKept, BeginsKept, GoesOn, HasEnded, StopsUnless, HasTaken, SendsIf, SendsSome, SendsUpTo, TakesLent, is_none_due, send_refusal}
 use Rattle.vmig_c.specs.Mirror.{is_closed}
 use Rattle.vmig_c.specs.Moving.{Saves, SavesIf}
 use Rattle.vmig_c.specs.OnHandle.{Unless}
@@ -116,8 +116,12 @@ sent log places k l next most status fits s is = fits_at log places k (Moving l)
 pub ended : (log : Option (List Bool)) (places : ℕ) (k : State) (l next : LiveSeen) (status : ℕ) → FitsLog log (ram_in places k) → HasEnded l status next → k ≡ Moving l → FitsLog log (length next.machine.memory.bytes)
 ended log places k l next status fits s is = fits_at log places k (Moving l) (Moving next) fits is (served_size l next _ s.reply s.serves)
 
-pub stopped : (log : Option (List Bool)) (places : ℕ) (k : State) (l next : LiveSeen) (status pages old_pages sectors old_sectors : ℕ) → FitsLog log (ram_in places k) → HasStopped l status pages old_pages sectors old_sectors next → k ≡ Moving l → FitsLog log (length next.machine.memory.bytes)
-stopped log places k l next status pages old_pages sectors old_sectors fits s is = fits_at log places k (Moving l) (Moving next) fits is (served_size l next _ s.reply s.serves)
+stopped_size : (out : Bool) (l next : LiveSeen) (status pages old_pages sectors old_sectors : ℕ) → StopsUnless out l status pages old_pages sectors old_sectors next → length next.machine.memory.bytes ≡ length l.machine.memory.bytes
+stopped_size true l next status pages old_pages sectors old_sectors s = ap (λ (l : LiveSeen). length l.machine.memory.bytes) s.1
+stopped_size false l next status pages old_pages sectors old_sectors s = served_size l next _ s.reply s.serves
+
+pub stopped : (log : Option (List Bool)) (places : ℕ) (k : State) (l next : LiveSeen) (out : Bool) (status pages old_pages sectors old_sectors : ℕ) → FitsLog log (ram_in places k) → StopsUnless out l status pages old_pages sectors old_sectors next → k ≡ Moving l → FitsLog log (length next.machine.memory.bytes)
+stopped log places k l next out status pages old_pages sectors old_sectors fits s is = fits_at log places k (Moving l) (Moving next) fits is (stopped_size out l next status pages old_pages sectors old_sectors s)
 
 pub taken : (log : Option (List Bool)) (places : ℕ) (k : State) (l next : LiveSeen) (status got : ℕ) (buf new_buf : List ℕ) → FitsLog log (ram_in places k) → HasTaken l status got buf new_buf next → k ≡ Moving l → FitsLog log (length next.machine.memory.bytes)
 taken log places k l next status got buf new_buf fits t is = fits_at log places k (Moving l) (Moving next) fits is (ap (λ (l : LiveSeen). length l.machine.memory.bytes) t.rest)

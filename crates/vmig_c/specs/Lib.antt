@@ -7,6 +7,7 @@ pub mod Arriving
 pub mod Awaited
 pub mod CallsOut
 pub mod Described
+pub mod DiskCalls
 pub mod Dropping
 pub mod Durable
 pub mod Expected

@@ -229,11 +229,11 @@ fn is_same_shape(one: Shape, other: Shape) -> bool
                 id,
             },
             Shape::Outside {
-                sectors: count,
+                sectors: its,
                 read_only: only,
                 id: other,
             },
-        ) => sectors == count && read_only == only && id.as_slice() == other.as_slice(),
+        ) => sectors == its && read_only == only && id.as_slice() == other.as_slice(),
         (Shape::Console, Shape::Console) => true,
         (Shape::Entropy, Shape::Entropy) => true,
         _ => false,

@@ -83,6 +83,7 @@ impl CallsOut {
     pub(crate) fn next<T: Asks>(&mut self, machine: &T, most: u32) -> Option<Handed>
         requires { 1 ≤ most }
         ensures some { IfSome result (λ handed. IsHandedOut most self.old (T.asked machine.now) handed self.new) }
+        ensures there { IfSome result (λ handed. handed.dev < DEVICES_MAX) }
         ensures none { result ≡ None → self.new ≡ self.old }
         ensures nothing { result ≡ None → (dev j : ℕ) → self.old.number < 2 ^ 64 - 1 → dev < length self.old.devices → call_of_device most self.old (T.asked machine.now) dev j ≡ None }
     {

@@ -5,14 +5,12 @@
 
 ghost use Rattle.std.specs.Prelude.{◌≡◌, ◌≤◌, ◌<◌, ◌*◌, ◌/◌, ◌^◌, ◌-◌, ℕ, None, IfErr, IfOk, length, min, true};
 ghost use Rattle.disk_calls.specs.Calls.{without};
-ghost use Rattle.disk_calls.specs.declared.calls.Place.{Place};
-ghost use Rattle.machine.specs.Outside.{disk_call_of};
 ghost use Rattle.machine.specs.Seen.{state_of};
 ghost use Rattle.machine.specs.declared.event.DiskAnswer.TheVariants as answers;
 ghost use Rattle.machine.specs.declared.machine.TheConstants.{DEVICES_MAX};
+ghost use Rattle.vmig_c.specs.DiskCalls.{HandsFrom, HandsUnless, IsAllowed, IsAskedFor, IsOut, MeetsStill, answer_in, answers_call, asker_of, counted, done_as, done_with, filled_with, fits_done, is_durable, is_part, told_call, what_of};
 ghost use Rattle.vmig_c.specs.Kept.{FitsLog};
-ghost use Rattle.vmig_c.specs.Outside.{AnswersKept, HandsFrom, HandsKept, HandsUnless, IsAllowed, IsAskedFor, IsOut, Meets, MeetsMoving, MeetsStill, Unfound, answer_in, answer_refusal, answers_call, counted, done_as, done_with, filled_with, fits_done, is_durable, is_part, told_call, what_of};
-ghost use Rattle.vmig_c.specs.Resetting.{stop_refusal};
+ghost use Rattle.vmig_c.specs.Outside.{AnswersKept, HandsKept, Meets, MeetsMoving, Unfound, answer_refusal};
 
 use crate::calls_out::CallsOut;
 use crate::kept::{Kept, Moving, by_state};
@@ -21,7 +19,7 @@ use crate::resetting::stop_refusal;
 use blk::{DiskCall, SECTOR_SIZE, What};
 use c_machine::status::{CALL, DONE, IDLE, LENT, NO_MACHINE, NOT_OUT, TOO_LONG, TOO_SMALL};
 use disk_calls::{Handed, Place};
-use machine::{Disk, Machine, PageLog};
+use machine::{Disk, Machine, OutsideCall, PageLog};
 
 /// A call of a disk outside: what its host is to do. It names no memory.
 #[derive(Clone, Copy)]
@@ -53,6 +51,7 @@ pub struct Call {
 }
 
 /// Hands out the next call. Of a write its bytes go to the front of the buffer. It takes no memory.
+#[tactic(auto, using(crate::proofs::HandedCalls::hands_still, crate::proofs::HandedCalls::hands_moving))]
 pub(crate) fn hand_call(kept: &mut Kept, call: &mut Call, buf: &mut [u8]) -> u32
     ensures hands { HandsKept kept.old.state kept.old.calls result call.new call.old buf.old buf.new kept.new.calls }
     ensures kind { kept.new ≡ record kept.old { calls = kept.new.calls } }
@@ -123,16 +122,18 @@ fn tell_call<D: Disk>(machine: &Machine<D>, handed: Handed, buf: &mut [u8]) -> C
         k,
         call,
     } = handed;
+    let _shapes = machine.shapes();
     let (dev, pick) = (dev as u8, k as u8 + 1);
     let bytes = SECTOR_SIZE * call.count as usize;
     let _written = machine.written_bytes(dev, pick, &mut buf[..bytes]);
+    let asked = machine.disk_call(dev, pick);
     Call {
         number,
         first: call.first,
         count: counted(call),
         dev,
         what: what_of(call.what),
-        durable: is_durable(machine, dev, pick),
+        durable: is_durable(asked),
         zero: 0,
         reserved: [0; 2],
     }
@@ -160,11 +161,11 @@ fn what_of(what: What) -> u8
     }
 }
 
-/// Whether what the request of this pick asks for has to be durable before it is answered.
-fn is_durable<D: Disk>(machine: &Machine<D>, dev: u8, pick: u8) -> u8
-    ensures { result ≡ is_durable (disk_call_of (state_of machine.now) dev pick) }
+/// Whether what a request asks for has to be durable before it is answered.
+fn is_durable(asked: Option<OutsideCall>) -> u8
+    ensures { result ≡ is_durable asked }
 {
-    match machine.disk_call(dev, pick) {
+    match asked {
         Some(asked) => asked.durable as u8,
         None => 0,
     }
@@ -184,6 +185,7 @@ pub(crate) enum Given<'a> {
 }
 
 /// The host's disk did this many sectors of a call, and gave these bytes of them. It takes no memory.
+#[tactic(auto, using(crate::proofs::HandedCalls::answered, crate::proofs::HandedCalls::misfit, crate::proofs::HandedCalls::unfound))]
 pub(crate) fn answer_done(kept: &mut Kept, number: u64, count: u32, bytes: &[u8]) -> u32
     ensures answers { AnswersKept kept.old number (fits_done count bytes.now) (done_with count bytes.now) result kept.new.state kept.new.written kept.new.calls }
     ensures kind { kept.new ≡ record kept.old { state = kept.new.state; written = kept.new.written; calls = kept.new.calls } }
@@ -205,6 +207,7 @@ pub(crate) fn answer_done(kept: &mut Kept, number: u64, count: u32, bytes: &[u8]
 }
 
 /// The host's disk failed at a call. It takes no memory.
+#[tactic(auto, using(crate::proofs::HandedCalls::answered, crate::proofs::HandedCalls::unfound))]
 pub(crate) fn answer_failed(kept: &mut Kept, number: u64) -> u32
     ensures answers { AnswersKept kept.old number (λ call. true) (λ call. answers.Failed) result kept.new.state kept.new.written kept.new.calls }
     ensures kind { kept.new ≡ record kept.old { state = kept.new.state; written = kept.new.written; calls = kept.new.calls } }
@@ -218,6 +221,7 @@ pub(crate) fn answer_failed(kept: &mut Kept, number: u64) -> u32
 }
 
 /// Where the call with this number is, or the status that says why it is not answered.
+#[tactic(auto, using(crate::proofs::HandedCalls::refused_by))]
 fn place_of(kept: &Kept, number: u64) -> Result<Place, u32>
     ensures found { IfOk result (λ place. (answer_refusal kept.now.state ≡ None) × IsOut kept.now.calls number place × (place.dev < DEVICES_MAX)) }
     ensures refused { IfErr result (λ status. Unfound (answer_refusal kept.now.state) kept.now.calls number status) }
@@ -272,11 +276,12 @@ fn done_as(what: What, count: u32, bytes: &[u8]) -> Given<'_>
 }
 
 /// Hands the answer of a call to the request that asked for it, if it still waits, and takes the call out.
+#[tactic(auto, using(crate::proofs::HandedCalls::meets_still, crate::proofs::HandedCalls::meets_moving))]
 fn hand_in(kept: &mut Kept, place: Place, given: Given<'_>)
     requires goes { answer_refusal kept.old.state ≡ None }
     requires out { (number : ℕ) × IsOut kept.old.calls number place }
     requires there { place.dev < DEVICES_MAX }
-    ensures meets { Meets place (answer_in given) kept.old.state kept.old.written kept.new.state kept.new.written }
+    ensures meets { Meets place (answer_in given.entry) kept.old.state kept.old.written kept.new.state kept.new.written }
     ensures calls { kept.new.calls ≡ without kept.old.calls place.dev place.i }
     ensures kind { kept.new ≡ record kept.old { state = kept.new.state; written = kept.new.written; calls = kept.new.calls } }
 {
@@ -289,11 +294,11 @@ fn hand_in(kept: &mut Kept, place: Place, given: Given<'_>)
     by_state!(held;
         still(machine) => {
             let asker = calls.asker(&*machine, place);
-            meet_still(machine, place.dev, asker, given, &mut output.written)
+            meet_still(machine, place, asker, given, &mut output.written)
         },
         moving(live) => {
             let asker = calls.asker(live.machine(), place);
-            meet_moving(live, place.dev, asker, given, &mut output.written)
+            meet_moving(live, place, asker, given, &mut output.written)
         },
         lent(_) => unreachable!(),
         arriving(_) => unreachable!(),
@@ -304,20 +309,22 @@ fn hand_in(kept: &mut Kept, place: Place, given: Given<'_>)
 /// Hands an answer to a request, by its place from 0, if there is one.
 fn meet_still<D: Disk>(
     machine: &mut Machine<D>,
-    dev: usize,
+    place: Place,
     asker: Option<usize>,
     given: Given<'_>,
     log: &mut Option<PageLog>,
 )
-    requires { FitsLog log.old (length machine.old.memory.bytes) }
-    ensures meets { MeetsStill asker (answer_in given) machine.old log.old dev machine.new log.new }
+    requires fits { FitsLog log.old (length machine.old.memory.bytes) }
+    requires there { place.dev < DEVICES_MAX }
+    requires asked { asker ≡ asker_of (state_of machine.old) place }
+    ensures meets { MeetsStill asker (answer_in given.entry) machine.old log.old place.dev machine.new log.new }
     ensures fits { FitsLog log.new (length machine.new.memory.bytes) }
 {
     let Some(k) = asker else {
         return;
     };
     let _shapes = machine.shapes();
-    let (dev, pick) = (dev as u8, k as u8 + 1);
+    let (dev, pick) = (place.dev as u8, k as u8 + 1);
     match given {
         Given::Bytes(bytes) => {
             let _gave = gave(machine, dev, pick, bytes, log);
@@ -334,20 +341,22 @@ fn meet_still<D: Disk>(
 /// As above, for a machine that is being migrated.
 fn meet_moving<D: Disk>(
     live: &mut Moving<D>,
-    dev: usize,
+    place: Place,
     asker: Option<usize>,
     given: Given<'_>,
     log: &mut Option<PageLog>,
 )
-    requires { FitsLog log.old (length live.old.machine.memory.bytes) }
-    ensures meets { MeetsMoving asker (answer_in given) live.old log.old dev live.new log.new }
+    requires fits { FitsLog log.old (length live.old.machine.memory.bytes) }
+    requires there { place.dev < DEVICES_MAX }
+    requires asked { asker ≡ asker_of (state_of live.old.machine) place }
+    ensures meets { MeetsMoving asker (answer_in given.entry) live.old log.old place.dev live.new log.new }
     ensures fits { FitsLog log.new (length live.new.machine.memory.bytes) }
 {
     let Some(k) = asker else {
         return;
     };
     live.recall();
-    let (dev, pick) = (dev as u8, k as u8 + 1);
+    let (dev, pick) = (place.dev as u8, k as u8 + 1);
     match given {
         Given::Bytes(bytes) => {
             let _gave = live_gave(live, dev, pick, bytes, log);

@@ -20,7 +20,7 @@ use sender::Phase;
 const STATUS: u32 = 0x070;
 
 /// Resets each device in order, and drops what was put in. None is reset where that would drop a request whose call is out.
-#[tactic(auto, using(crate::proofs::Resets::refused, crate::proofs::Resets::was_reset))]
+#[tactic(auto, using(crate::proofs::Resets::refused, crate::proofs::Resets::kept_out, crate::proofs::Resets::was_reset))]
 pub(crate) fn reset(kept: &mut Kept) -> u32
     ensures resets { ResetsKept kept.old result kept.new.state }
     ensures kind { kept.new ≡ record kept.old { state = kept.new.state } }
@@ -38,6 +38,7 @@ pub(crate) fn reset(kept: &mut Kept) -> u32
 }
 
 /// Whether the reset of a device would drop a request whose call is out.
+#[tactic(auto, using(crate::proofs::Resets::drops_here, crate::proofs::Resets::drops_not_yet, crate::proofs::Resets::drops_none))]
 fn drops_any(kept: &Kept) -> bool
     ensures { result ≡ drops_any kept.now }
 {

@@ -1,0 +1,75 @@
+-- Calls of disks outside, by cases on the handle and on its state.
+use Rattle.std.proofs.Common.{◌≡◌, ◌+◌, ℕ, Bool, true, false, List, refl, sym, ap, ◌∙◌, subst, inl, inr, true≢false}
+use Rattle.std.specs.Prelude.{Option, Some, None, is_some}
+use Rattle.blk.specs.declared.outside.DiskCall.{DiskCall}
+use Rattle.disk_calls.specs.Calls.{AllCalls, without}
+use Rattle.disk_calls.specs.declared.calls.Place.{Place}
+use Rattle.machine.specs.Seen.{Seen, state_of}
+use Rattle.machine.specs.declared.event.DiskAnswer.{DiskAnswer}
+use Rattle.sender.specs.LiveState.{LiveSeen}
+use Rattle.vmig_c.specs.DiskCalls.{HandsUnless, IsOut, MeetsStill, asker_of}
+use Rattle.vmig_c.specs.Kept.{KeptSeen, State, Still, Moving}
+use Rattle.vmig_c.specs.Outside.{Answers, AnswersIf, AnswersKept, HandsCall, HandsKept, HasNotAnswered, Meets, MeetsMoving, Unfound, answer_refusal}
+use Rattle.vmig_c.specs.OnHandle.{Unless}
+use Rattle.vmig_c.specs.Resetting.{stop_refusal}
+use Rattle.vmig_c.specs.declared.outside.Call.{Call}
+
+pub hands_none : (k after : Option KeptSeen) (call : Call) (buf : List ℕ) → is_some k ≡ false → after ≡ k → HandsCall k 8 call call buf buf after
+hands_none None after call buf is same = (refl, refl, refl, same)
+hands_none (Some m) after call buf is same = absurd (true≢false is)
+
+pub hands_some : (k after : Option KeptSeen) (m next : KeptSeen) (status : ℕ) (call old_call : Call) (buf new_buf : List ℕ) → Some m ≡ k → after ≡ Some next → next ≡ record m { calls = next.calls } → HandsKept m.state m.calls status call old_call buf new_buf next.calls
+    → HandsCall k status call old_call buf new_buf after
+hands_some k after m next status call old_call buf new_buf is becomes kind hands =
+    subst (λ (o : Option KeptSeen). HandsCall o status call old_call buf new_buf after) is (record { calls = next.calls; is_next = becomes ∙ ap Some kind; hands = hands })
+
+pub answers_none : (k after : Option KeptSeen) (number : ℕ) (fits : DiskCall → Bool) (answer : DiskCall → DiskAnswer) → is_some k ≡ false → after ≡ k → Answers k number fits answer 8 after
+answers_none None after number fits answer is same = (refl, same)
+answers_none (Some m) after number fits answer is same = absurd (true≢false is)
+
+pub answers_some : (k after : Option KeptSeen) (m next : KeptSeen) (number : ℕ) (fits : DiskCall → Bool) (answer : DiskCall → DiskAnswer) (status : ℕ) → Some m ≡ k → after ≡ Some next → next ≡ record m { state = next.state; written = next.written; calls = next.calls }
+    → AnswersKept m number fits answer status next.state next.written next.calls → Answers k number fits answer status after
+answers_some k after m next number fits answer status is becomes kind answers =
+    subst (λ (o : Option KeptSeen). Answers o number fits answer status after) is (record { next = next.state; log = next.written; calls = next.calls; is_next = becomes ∙ ap Some kind; answers = answers })
+
+-- By the state.
+pub hands_still : (k : State) (m : Seen) (calls after : AllCalls) (status : ℕ) (call old_call : Call) (buf new_buf : List ℕ) → k ≡ Still m → HandsUnless None (state_of m) calls status call old_call buf new_buf after → HandsKept k calls status call old_call buf new_buf after
+hands_still k m calls after status call old_call buf new_buf is hands = subst (λ (x : State). HandsKept x calls status call old_call buf new_buf after) (sym is) hands
+
+pub hands_moving : (k : State) (l : LiveSeen) (calls after : AllCalls) (stopped : Option ℕ) (status : ℕ) (call old_call : Call) (buf new_buf : List ℕ) → k ≡ Moving l → stopped ≡ stop_refusal l.phase
+    → HandsUnless stopped (state_of l.machine) calls status call old_call buf new_buf after → HandsKept k calls status call old_call buf new_buf after
+hands_moving k l calls after stopped status call old_call buf new_buf is why hands =
+    subst (λ (x : State). HandsKept x calls status call old_call buf new_buf after) (sym is) (subst (λ (o : Option ℕ). HandsUnless o (state_of l.machine) calls status call old_call buf new_buf after) why hands)
+
+pub meets_still : (place : Place) (answer : DiskAnswer) (k : State) (m next : Seen) (log new_log : Option (List Bool)) (found : Option ℕ) → k ≡ Still m → found ≡ asker_of (state_of m) place → MeetsStill found answer m log place.dev next new_log
+    → Meets place answer k log (Still next) new_log
+meets_still place answer k m next log new_log found is asks meets =
+    subst (λ (x : State). Meets place answer x log (Still next) new_log) (sym is) (subst (λ (o : Option ℕ). MeetsStill o answer m log place.dev next new_log) asks meets)
+
+pub meets_moving : (place : Place) (answer : DiskAnswer) (k : State) (l next : LiveSeen) (log new_log : Option (List Bool)) (found : Option ℕ) → k ≡ Moving l → found ≡ asker_of (state_of l.machine) place → MeetsMoving found answer l log place.dev next new_log
+    → Meets place answer k log (Moving next) new_log
+meets_moving place answer k l next log new_log found is asks meets =
+    subst (λ (x : State). Meets place answer x log (Moving next) new_log) (sym is) (subst (λ (o : Option ℕ). MeetsMoving o answer l log place.dev next new_log) asks meets)
+
+-- By whether the call is out, and the answer is one to it.
+pub answered : (k : KeptSeen) (number : ℕ) (fits : DiskCall → Bool) (answer : DiskCall → DiskAnswer) (place : Place) (next : State) (log : Option (List Bool)) (calls : AllCalls) → answer_refusal k.state ≡ None → IsOut k.calls number place → fits place.call ≡ true
+    → Meets place (answer place.call) k.state k.written next log → calls ≡ without k.calls place.dev place.i → AnswersKept k number fits answer 0 next log calls
+answered k number fits answer place next log calls none out fit meets are =
+    rw none (inl (record { place = place; is_out = out; answered = rw fit (record { status_is = refl; meets = meets; calls_are = are }) }))
+
+pub misfit : (k : KeptSeen) (number : ℕ) (fits : DiskCall → Bool) (answer : DiskCall → DiskAnswer) (place : Place) → answer_refusal k.state ≡ None → IsOut k.calls number place → fits place.call ≡ false → AnswersKept k number fits answer 3 k.state k.written k.calls
+misfit k number fits answer place none out fit =
+    rw none (inl (record { place = place; is_out = out; answered = rw fit (record { status_is = refl; state_same = refl; log_same = refl; calls_same = refl }) }))
+
+unfound_by : (refusal : Option ℕ) (k : KeptSeen) (number : ℕ) (fits : DiskCall → Bool) (answer : DiskCall → DiskAnswer) (status : ℕ) → Unfound refusal k.calls number status
+    → Unless refusal (HasNotAnswered k status k.state k.written k.calls) (AnswersIf k number fits answer status k.state k.written k.calls)
+unfound_by (Some reason) k number fits answer status why = record { status_is = why; state_same = refl; log_same = refl; calls_same = refl }
+unfound_by None k number fits answer status why = inr (why.1, record { status_is = why.0; state_same = refl; log_same = refl; calls_same = refl })
+
+pub unfound : (k : KeptSeen) (number : ℕ) (fits : DiskCall → Bool) (answer : DiskCall → DiskAnswer) (status : ℕ) → Unfound (answer_refusal k.state) k.calls number status → AnswersKept k number fits answer status k.state k.written k.calls
+unfound k number fits answer status why = unfound_by (answer_refusal k.state) k number fits answer status why
+
+-- Why it is not found.
+pub refused_by : (refusal found : Option ℕ) (calls : AllCalls) (number status : ℕ) → found ≡ refusal → found ≡ Some status → Unfound refusal calls number status
+refused_by (Some reason) found calls number status is why = cc
+refused_by None found calls number status is why = cc
