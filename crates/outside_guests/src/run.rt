@@ -192,10 +192,11 @@ fn ends(host: &mut Host, dice: &mut Dice) -> Result<()> {
         }
         let has_stepped = step_after(host, Work { dev: 0, pick: 0 })?;
         let has_asked = host.ask(dice)?;
+        let was_out = host.desk.is_any_out();
         for dev in 0..2 {
             host.drain(dev)?;
         }
-        if !has_stepped && !has_asked {
+        if !has_stepped && !has_asked && !was_out {
             return are_done(host);
         }
     }

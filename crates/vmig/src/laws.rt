@@ -1,8 +1,6 @@
 //! The laws of RAM, machines, disks outside, streams and traces: functions that do nothing, whose contracts are the laws.
 
-pub use disk_calls::{
-    answering_is_a_turn, calls_are_met, handing_is_a_turn, machines_meet_calls,
-};
+pub use disk_calls::{answering_is_a_turn, calls_are_met, handing_is_a_turn, machines_meet_calls};
 pub use guestmem::laws::{
     given_back_is_written, later_in_turn, marked_is_written, refusals_at_zero, rises_in_turn,
 };

@@ -42,36 +42,110 @@ mod program;
 mod resuming;
 mod words;
 
-pub use blk::{DiskCall, What};
+pub use blk::DiskCall;
+pub use blk::What;
 pub use dirtylog::BitSet;
-pub use disk_calls::{Asks, CALLS_MAX, Calls, Handed, Place};
-pub use guestmem::{
-    ACCESS_MAX, Both, NoLog, NoMemory, PAGE_SIZE, PAGES_MAX, Ram, RamError, TouchLog, Touched,
-    is_zero,
-};
-pub use machine::{
-    Board, Bytes, DEVICES_MAX, DeviceState, Disk, DiskAnswer, DiskFault, Event, FaultDisk,
-    FileDisk, Kind, Limits, Machine, MemDisk, NewError, OutsideCall, PageLog, Parked, RamOf,
-    Refusal, Reply, SECTOR_SIZE, SECTORS_MAX, Shape, Stepped, SyncOwed, Turn, TurnEnd, Unmade,
-    Work, is_base,
-};
+pub use disk_calls::Asks;
+pub use disk_calls::CALLS_MAX;
+pub use disk_calls::Calls;
+pub use disk_calls::Handed;
+pub use disk_calls::Place;
+pub use guestmem::ACCESS_MAX;
+pub use guestmem::Both;
+pub use guestmem::NoLog;
+pub use guestmem::NoMemory;
+pub use guestmem::PAGE_SIZE;
+pub use guestmem::PAGES_MAX;
+pub use guestmem::Ram;
+pub use guestmem::RamError;
+pub use guestmem::TouchLog;
+pub use guestmem::Touched;
+pub use guestmem::is_zero;
+pub use machine::Board;
+pub use machine::Bytes;
+pub use machine::DEVICES_MAX;
+pub use machine::DeviceState;
+pub use machine::Disk;
+pub use machine::DiskAnswer;
+pub use machine::DiskFault;
+pub use machine::Event;
+pub use machine::FaultDisk;
+pub use machine::FileDisk;
+pub use machine::Kind;
+pub use machine::Limits;
+pub use machine::Machine;
+pub use machine::MemDisk;
+pub use machine::NewError;
+pub use machine::OutsideCall;
+pub use machine::PageLog;
+pub use machine::Parked;
+pub use machine::RamOf;
+pub use machine::Refusal;
+pub use machine::Reply;
+pub use machine::SECTOR_SIZE;
+pub use machine::SECTORS_MAX;
+pub use machine::Shape;
+pub use machine::Stepped;
+pub use machine::SyncOwed;
+pub use machine::Turn;
+pub use machine::TurnEnd;
+pub use machine::Unmade;
+pub use machine::Work;
+pub use machine::is_base;
 pub use program::execute;
-pub use receiver::{
-    Receiver, RecvError, Terms, read_heading, read_heading_within, receive, receive_at,
-    receive_with,
-};
+pub use receiver::Receiver;
+pub use receiver::RecvError;
+pub use receiver::Terms;
+pub use receiver::read_heading;
+pub use receiver::read_heading_within;
+pub use receiver::receive;
+pub use receiver::receive_at;
+pub use receiver::receive_with;
 pub use region::Region;
-pub use rehearsal::{Rehearsal, rehearse};
-pub use sender::{
-    CopyAnswer, End, Guest, Item, Left, Live, LiveEvent, LiveParked, LiveReply, LiveWaiting,
-    MigError, Phase, Remaining, Replay, Stopped, replay, save, saved_len,
-};
-pub use traces::{
-    Trace, TraceError, WriteFault, parse, parse_events, write_checked, write_guest_reply,
-    write_reply,
-};
-pub use wire::{
-    DecodeError, FaultWriter, Header, Record, Sink, SinkFault, Waiting, WriteSink, decode_device,
-    decode_device_at, decode_header, decode_record, encode_commit, encode_device, encode_header,
-    encode_page, encode_round, encode_sector, encode_zero_page,
-};
+pub use rehearsal::Rehearsal;
+pub use rehearsal::rehearse;
+pub use sender::CopyAnswer;
+pub use sender::End;
+pub use sender::Guest;
+pub use sender::Item;
+pub use sender::Left;
+pub use sender::Live;
+pub use sender::LiveEvent;
+pub use sender::LiveParked;
+pub use sender::LiveReply;
+pub use sender::LiveWaiting;
+pub use sender::MigError;
+pub use sender::Phase;
+pub use sender::Remaining;
+pub use sender::Replay;
+pub use sender::Stopped;
+pub use sender::replay;
+pub use sender::save;
+pub use sender::saved_len;
+pub use traces::Trace;
+pub use traces::TraceError;
+pub use traces::WriteFault;
+pub use traces::parse;
+pub use traces::parse_events;
+pub use traces::write_checked;
+pub use traces::write_guest_reply;
+pub use traces::write_reply;
+pub use wire::DecodeError;
+pub use wire::FaultWriter;
+pub use wire::Header;
+pub use wire::Record;
+pub use wire::Sink;
+pub use wire::SinkFault;
+pub use wire::Waiting;
+pub use wire::WriteSink;
+pub use wire::decode_device;
+pub use wire::decode_device_at;
+pub use wire::decode_header;
+pub use wire::decode_record;
+pub use wire::encode_commit;
+pub use wire::encode_device;
+pub use wire::encode_header;
+pub use wire::encode_page;
+pub use wire::encode_round;
+pub use wire::encode_sector;
+pub use wire::encode_zero_page;
