@@ -175,7 +175,8 @@ impl Driver {
         };
         if let Some(data) = data_of(area, asked) {
             table.len = 48;
-            self.ring.put_table(machine, table.addr, &[header, data, status])?;
+            self.ring
+                .put_table(machine, table.addr, &[header, data, status])?;
         } else {
             self.ring.put_table(machine, table.addr, &[header, status])?;
         }
@@ -204,7 +205,11 @@ impl Driver {
         let asked = self.history.at(number)?;
         let mut status = [0];
         read(machine, area.wrapping_add(0x80), &mut status)?;
-        let expected = if asked.is_past() || asked.failed { 1 } else { 0 };
+        let expected = if asked.is_past() || asked.failed {
+            1
+        } else {
+            0
+        };
         ensure!(status == [expected], "status {status:?} of {asked:?}");
         ensure!(len == len_of(&asked), "{len} bytes of {asked:?}");
         self.ends(machine, area, number, &asked)
@@ -244,7 +249,11 @@ impl Driver {
     ) -> Result<()> {
         let mut bytes = [0; SIZE];
         for place in 0..asked.count {
-            read(machine, data.wrapping_add(place.wrapping_mul(SIZE as u64)), &mut bytes)?;
+            read(
+                machine,
+                data.wrapping_add(place.wrapping_mul(SIZE as u64)),
+                &mut bytes,
+            )?;
             let sector = asked.first.saturating_add(place);
             self.history.holds(number, sector, &bytes)?;
         }
@@ -308,12 +317,7 @@ fn put_header(machine: &mut Machine<MemDisk>, area: u64, asked: &Asked) -> Resul
 }
 
 /// Writes the sectors that a request writes.
-fn put_data(
-    machine: &mut Machine<MemDisk>,
-    area: u64,
-    asked: &Asked,
-    number: usize,
-) -> Result<()> {
+fn put_data(machine: &mut Machine<MemDisk>, area: u64, asked: &Asked, number: usize) -> Result<()> {
     if asked.kind != Kind::Write {
         return Ok(());
     }
@@ -321,7 +325,9 @@ fn put_data(
     for place in 0..asked.count {
         let sector = asked.first.saturating_add(place);
         fill(&mut bytes, value_of(asked, number, sector));
-        let at = area.wrapping_add(0x100).wrapping_add(place.wrapping_mul(SIZE as u64));
+        let at = area
+            .wrapping_add(0x100)
+            .wrapping_add(place.wrapping_mul(SIZE as u64));
         write(machine, at, &bytes)?;
     }
     Ok(())

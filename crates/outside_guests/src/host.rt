@@ -108,7 +108,10 @@ impl Host {
     fn is_durable(&self, handed: &Handed) -> Result<()> {
         let pick = ((handed.k % 8) as u8).wrapping_add(1);
         let dev = (handed.dev % 8) as u8;
-        let asked = self.machine.disk_call(dev, pick).context("it asks nothing")?;
+        let asked = self
+            .machine
+            .disk_call(dev, pick)
+            .context("it asks nothing")?;
         let driver = self.drivers.get(handed.dev).context("no driver")?;
         let writes = matches!(handed.call.what, What::Write | What::Clear);
         ensure!(
@@ -122,14 +125,20 @@ impl Host {
     fn is_apart(&self, handed: &Handed) -> Result<()> {
         for work in &self.works {
             if work.dev == handed.dev {
-                ensure!(!self.meet(&work.call, &handed.call), "it meets a call that is out");
+                ensure!(
+                    !self.meet(&work.call, &handed.call),
+                    "it meets a call that is out"
+                );
             }
         }
         let driver = self.drivers.get(handed.dev).context("no driver")?;
         for number in driver.taken.iter().take(handed.k) {
             let earlier = driver.history.at(*number)?;
             if let Some(left) = left_of(&earlier) {
-                ensure!(!self.meet(&left, &handed.call), "it meets an earlier request");
+                ensure!(
+                    !self.meet(&left, &handed.call),
+                    "it meets an earlier request"
+                );
             }
         }
         Ok(())
@@ -141,7 +150,10 @@ impl Host {
             return a.what == b.what;
         }
         let size = self.size.max(1);
-        let last = |call: &DiskCall| call.first.saturating_add(call.count as u64).saturating_sub(1);
+        let last = |call: &DiskCall| call
+            .first
+            .saturating_add(call.count as u64)
+            .saturating_sub(1);
         a.first / size <= last(b) / size && b.first / size <= last(a) / size
     }
 
@@ -183,7 +195,10 @@ impl Host {
         let room = bytes.get_mut(..count.wrapping_mul(SIZE)).context("more")?;
         let dev = (handed.dev % 8) as u8;
         let filled = self.machine.written_bytes(dev, pick, room);
-        ensure!(filled == count.wrapping_mul(SIZE), "{filled} bytes are handed out");
+        ensure!(
+            filled == count.wrapping_mul(SIZE),
+            "{filled} bytes are handed out"
+        );
         let driver = self.drivers.get(handed.dev).context("no driver")?;
         let request = driver.history.at(asked)?;
         let mut expected = [0u8; SIZE];
@@ -232,7 +247,10 @@ impl Host {
             return Ok(());
         }
         let work = self.works.remove(place);
-        let found = self.desk.answered(&self.machine, work.number).context("it is not out")?;
+        let found = self
+            .desk
+            .answered(&self.machine, work.number)
+            .context("it is not out")?;
         ensure!(
             found.place.dev == work.dev && found.place.call == work.call,
             "another call"
@@ -296,7 +314,9 @@ impl Host {
     /// Fails unless each sector of the storage is what it may be.
     pub fn is_stored(&self) -> Result<()> {
         for (driver, store) in self.drivers.iter().zip(self.stores.iter()) {
-            driver.history.holds(driver.history.len(), 0, store.as_slice())?;
+            driver
+                .history
+                .holds(driver.history.len(), 0, store.as_slice())?;
         }
         Ok(())
     }
@@ -307,7 +327,8 @@ impl Work {
     fn reads(&mut self, store: &[u8], size: u64) -> Result<()> {
         let end = self.call.first.saturating_add(self.part);
         if self.call.what == What::Read {
-            self.blocks.extend_from_slice(sectors(store, self.call.first, end)?)?;
+            self.blocks
+                .extend_from_slice(sectors(store, self.call.first, end)?)?;
             return Ok(());
         }
         if self.part == 0 {
@@ -315,7 +336,8 @@ impl Work {
         }
         self.from = self.call.first / size * size;
         let end = (end.saturating_add(size).saturating_sub(1) / size).saturating_mul(size);
-        self.blocks.extend_from_slice(sectors(store, self.from, end.min(SECTORS))?)?;
+        self.blocks
+            .extend_from_slice(sectors(store, self.from, end.min(SECTORS))?)?;
         let at = self.call.first.saturating_sub(self.from);
         for place in 0..self.part {
             let zeros = [0u8; SIZE];
@@ -338,7 +360,11 @@ fn is_asked(asked: Asked, handed: &Handed, most: u32) -> Result<()> {
         count: left.count.min(most),
         ..left
     };
-    ensure!(handed.call == expected, "{:?} and not {expected:?}", handed.call);
+    ensure!(
+        handed.call == expected,
+        "{:?} and not {expected:?}",
+        handed.call
+    );
     Ok(())
 }
 

@@ -138,7 +138,11 @@ impl Ring {
         let at = self.base.wrapping_add((place as u64).wrapping_mul(2));
         write(machine, at.wrapping_add(0x104), &head.to_le_bytes())?;
         self.made = self.made.wrapping_add(1);
-        write(machine, self.base.wrapping_add(0x102), &self.made.to_le_bytes())
+        write(
+            machine,
+            self.base.wrapping_add(0x102),
+            &self.made.to_le_bytes(),
+        )
     }
 
     /// Makes something available that is malformed: a head past the table, or a table of no bytes.
@@ -165,7 +169,10 @@ impl Ring {
             (is_used, at.wrapping_add(12), at.wrapping_add(8))
         } else {
             let index = number16(machine, self.base.wrapping_add(0x202))?;
-            let at = self.base.wrapping_add(place.wrapping_mul(8)).wrapping_add(0x204);
+            let at = self
+                .base
+                .wrapping_add(place.wrapping_mul(8))
+                .wrapping_add(0x204);
             (index != self.seen, at, at.wrapping_add(4))
         };
         if !found.0 {

@@ -7,7 +7,8 @@ use crate::host::Host;
 use anyhow::{Context, Result, bail, ensure};
 use std::alloc::Global;
 use vmig::{
-    Board, Limits, Machine, MemDisk, RamOf, Reply, Shape, Terms, Work, WriteSink, receive_with, save,
+    Board, Limits, Machine, MemDisk, RamOf, Reply, Shape, Terms, Work, WriteSink, receive_with,
+    save,
 };
 
 /// How many things happen in a run, before all that was asked is done.
@@ -93,7 +94,9 @@ fn happens(alloc: Global, host: &mut Host, dice: &mut Dice) -> Result<()> {
 /// A guest asks for something.
 fn asks(host: &mut Host, dice: &mut Dice, dev: usize) -> Result<()> {
     let Host {
-        machine, drivers, ..
+        machine,
+        drivers,
+        ..
     } = host;
     let driver = drivers.get_mut(dev).context("no driver")?;
     let asked = some_request(dice, driver.has_flush);
@@ -102,9 +105,14 @@ fn asks(host: &mut Host, dice: &mut Dice, dev: usize) -> Result<()> {
 
 fn breaks(host: &mut Host, dev: usize) -> Result<()> {
     let Host {
-        machine, drivers, ..
+        machine,
+        drivers,
+        ..
     } = host;
-    drivers.get_mut(dev).context("no driver")?.break_ring(machine)
+    drivers
+        .get_mut(dev)
+        .context("no driver")?
+        .break_ring(machine)
 }
 
 /// A driver resets a device that asks for it.
@@ -136,7 +144,9 @@ fn step_after(host: &mut Host, last: Work) -> Result<bool> {
     );
     let reply = host.machine.step(work.dev, work.pick);
     let Host {
-        machine, drivers, ..
+        machine,
+        drivers,
+        ..
     } = host;
     let driver = drivers.get_mut(work.dev as usize).context("no driver")?;
     match reply {
@@ -218,7 +228,9 @@ fn reads_all(host: &mut Host, dice: &mut Dice) -> Result<()> {
     for dev in 0..2 {
         host.reset(dev)?;
         let Host {
-            machine, drivers, ..
+            machine,
+            drivers,
+            ..
         } = host;
         let driver = drivers.get_mut(dev).context("no driver")?;
         for part in 0..4 {
