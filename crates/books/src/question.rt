@@ -15,6 +15,24 @@ pub enum Question {
         n: u64,
     },
 
+    /// What a request asks of a disk outside.
+    Asked {
+        /// The device.
+        dev: u8,
+
+        /// The pick of the request.
+        pick: u8,
+    },
+
+    /// The bytes that a request writes to a disk outside.
+    Given {
+        /// The device.
+        dev: u8,
+
+        /// The pick of the request.
+        pick: u8,
+    },
+
     /// How many items are still to be sent.
     Remaining,
 

@@ -47,6 +47,12 @@ use std::str::FromStr;
 /// - `SECTOR DEV N BYTES`: the sector holds these bytes now. Reading it for this is a call of the disk as well;
 /// - `BAD DEV N`: the sector is bad now.
 ///
+/// A device `outside` has its disk outside, which answers by events. Two lines are about what it is asked for:
+///
+/// - `ASKS DEV PICK WHAT`: the request that the pick names asks for this now: `read FIRST COUNT`, `write FIRST COUNT` or
+///   `clear FIRST COUNT`, with ` durable` after it where that has to be durable before it is answered, `flush`, or `nothing`;
+/// - `GIVES DEV PICK BYTES`: these are the bytes that it writes now, `-` for none.
+///
 /// A script may stand for RAM that begins at another address than 0 (`new_at`). The addresses in its lines are then those of a RAM
 /// that begins at 0: those of areas, and of buffers and tables in descriptors, are shifted, modulo 2^64. Who plays the events shifts
 /// those of accesses to RAM.
@@ -148,7 +154,9 @@ impl Script {
     fn add_line(&mut self, line: &str) -> io::Result<()> {
         let (first, words) = cut(line);
         match first {
-            "ram" | "net" | "block" | "console" | "entropy" => write_line(&mut self.trace, line),
+            "ram" | "net" | "block" | "outside" | "console" | "entropy" => {
+                write_line(&mut self.trace, line)
+            }
             "EACH" => self.add_turns(words),
             "LINES" => self.add_lines(words),
             "FILL" => self.add_filled(words),
@@ -160,6 +168,8 @@ impl Script {
             "REMAINING" => self.add_remaining(words),
             "SECTOR" => self.add_sector(words),
             "BAD" => self.add_bad(words),
+            "ASKS" => self.add_asked(words),
+            "GIVES" => self.add_given(words),
             "UP" => self.add_start(words),
             "QUEUE" => self.add_queue(words),
             "GO" => self.add_write(words, "0x070", "15"),
@@ -219,6 +229,21 @@ impl Script {
         let (dev, n) = cut(words);
         self.ask_sector(dev, n)?;
         writeln!(self.replies, "bad")
+    }
+
+    fn add_asked(&mut self, words: &str) -> io::Result<()> {
+        let (dev, pick, what) = cut_request(words)?;
+        self.asked
+            .push((self.events, Question::Asked { dev, pick }))?;
+        writeln!(self.replies, "asks {dev} {pick} {what}")
+    }
+
+    fn add_given(&mut self, words: &str) -> io::Result<()> {
+        let (dev, pick, bytes) = cut_request(words)?;
+        self.asked
+            .push((self.events, Question::Given { dev, pick }))?;
+        write!(self.replies, "gives {dev} {pick} ")?;
+        write_line(&mut self.replies, bytes)
     }
 
     /// Asks for the contents of a sector. The rest of the answer's line follows.
@@ -326,6 +351,13 @@ impl Script {
         writeln!(self.trace, "w {device} {register} 4 {value}")?;
         writeln!(self.replies, "done")
     }
+}
+
+/// The device and the pick of a request, and the words after them.
+fn cut_request(words: &str) -> io::Result<(u8, u8, &str)> {
+    let (dev, rest) = cut(words);
+    let (pick, rest) = cut(rest);
+    Ok((number(dev)?, number(pick)?, rest))
 }
 
 /// Adds the calls of a disk, each after the number of its device.

@@ -4,7 +4,7 @@ use crate::serving::{Served, Way, serve, serve_and_abort};
 use anyhow::{Context, Result};
 use books::{Question, Script};
 use machine::Machine;
-use scenarios::{TestDisk, answer_of_machine, disks_alone, disks_of};
+use scenarios::{TestDisk, answer_of_machine, disks_alone, disks_of, made};
 use sender::{LiveEvent, LiveReply, MigError};
 use std::alloc::Global;
 use std::io::Write;
@@ -35,14 +35,14 @@ impl Leg {
     pub fn machine(&self, alloc: Global) -> Result<Machine<TestDisk>> {
         let shapes = self.trace.shapes.as_slice();
         let disks = disks_of(alloc, &self.script, shapes)?;
-        Ok(Machine::new(alloc, self.trace.pages, shapes, disks)?)
+        made(alloc, 0, self.trace.pages, shapes, disks)
     }
 
     /// The same machine, where it is not migrated.
     pub fn machine_alone(&self, alloc: Global) -> Result<Machine<TestDisk>> {
         let shapes = self.trace.shapes.as_slice();
         let disks = disks_alone(alloc, &self.script, shapes)?;
-        Ok(Machine::new(alloc, self.trace.pages, shapes, disks)?)
+        made(alloc, 0, self.trace.pages, shapes, disks)
     }
 
     /// What happens.

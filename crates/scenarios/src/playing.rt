@@ -1,10 +1,11 @@
 //! Scripts, played.
 
 use crate::disks::{TestDisk, disks_of};
+use crate::outside::{made, write_asked, write_given};
 use crate::sectors::write_sector;
 use anyhow::{Result, bail, ensure};
 use books::{Book, Question, Scenario, Script};
-use machine::{Board, Event, Limits, Machine, RamOf};
+use machine::{Event, Machine};
 use sender::LiveEvent;
 use std::alloc::Global;
 use std::io::Write;
@@ -27,17 +28,7 @@ pub fn play(alloc: Global, script: &Script) -> Result<Machine<TestDisk>> {
         begin_line: _,
     } = parse(alloc, script.trace())?;
     let disks = disks_of(alloc, script, shapes.as_slice())?;
-    let board = Board {
-        limits: Limits::usual(),
-        base: script.base(),
-        ram: RamOf::Pages(pages),
-        shapes: shapes.as_slice(),
-        disks,
-    };
-    let mut machine = match Machine::make(alloc, board) {
-        Ok(machine) => machine,
-        Err(unmade) => return Err(unmade.reason().into()),
-    };
+    let mut machine = made(alloc, script.base(), pages, shapes.as_slice(), disks)?;
     let events = guest_events(alloc, events, script.base())?;
     agrees(alloc, &mut machine, script, events.as_slice())?;
     Ok(machine)
@@ -143,6 +134,8 @@ pub fn answer_of_machine(
     match question {
         Question::Lines => writeln!(out, "lines {}", machine.lines())?,
         Question::Sector { dev, n } => write_sector(machine, dev, n, out)?,
+        Question::Asked { dev, pick } => write_asked(machine, dev, pick, out)?,
+        Question::Given { dev, pick } => write_given(machine, dev, pick, out)?,
         _ => bail!("asked of a migration alone"),
     }
     Ok(())

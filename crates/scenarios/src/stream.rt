@@ -1,12 +1,13 @@
 //! Streams of machines: how they are made and received.
 
 use crate::disks::{TestDisk, disks_for};
+use crate::outside::{limits, terms};
 use anyhow::{Context, Result, ensure};
 use machine::{Disk, Machine};
-use receiver::{Receiver, RecvError, receive};
+use receiver::{Receiver, RecvError, Terms, read_heading_within, receive_with};
 use sender::save;
 use std::alloc::Global;
-use wire::{WriteSink, decode_header};
+use wire::WriteSink;
 
 /// The sizes of the pieces in which each stream is fed as well.
 pub const PIECES: [usize; 6] = [1, 2, 3, 511, 4101, 65_536];
@@ -23,9 +24,9 @@ pub fn saved<D: Disk>(alloc: Global, machine: &mut Machine<D>) -> Result<Vec<u8>
 
 /// The machine of a stream in which `rounds` rounds ended.
 pub fn arrived(alloc: Global, stream: &[u8], rounds: u32) -> Result<Machine<TestDisk>> {
-    let header = decode_header(alloc, stream)?.context("no header")?;
+    let header = read_heading_within(alloc, limits(), stream)?.context("no header")?;
     let disks = disks_for(alloc, header.shapes.as_slice())?;
-    let (machine, ended) = receive(alloc, stream, disks)?;
+    let (machine, ended) = receive_with(alloc, stream, disks, terms())?;
     ensure!(ended == rounds, "{ended} rounds ended");
     Ok(machine)
 }
@@ -37,9 +38,9 @@ pub fn arrived_in_pieces(
     rounds: u32,
     size: usize,
 ) -> Result<Machine<TestDisk>> {
-    let header = decode_header(alloc, stream)?.context("no header")?;
+    let header = read_heading_within(alloc, limits(), stream)?.context("no header")?;
     let disks = disks_for(alloc, header.shapes.as_slice())?;
-    let mut receiver = Receiver::new(alloc, disks);
+    let mut receiver = Receiver::with_terms(alloc, disks, None, terms());
     for piece in stream.chunks(size.max(1)) {
         receiver.feed(piece)?;
     }
@@ -47,9 +48,9 @@ pub fn arrived_in_pieces(
     Ok(receiver.finish()?)
 }
 
-/// The number of the refusal of a stream with these disks, or 0 where it is received.
-pub fn refusal_of(alloc: Global, stream: &[u8], disks: Vec<TestDisk>) -> u8 {
-    receive(alloc, stream, disks)
+/// The number of the refusal of a stream with these disks, on these terms, or 0 where it is received.
+pub fn refusal_of(alloc: Global, stream: &[u8], disks: Vec<TestDisk>, terms: Terms) -> u8 {
+    receive_with(alloc, stream, disks, terms)
         .err()
         .map_or(0, RecvError::code)
 }
@@ -60,9 +61,10 @@ pub fn refusal_in_pieces(
     alloc: Global,
     stream: &[u8],
     disks: Vec<TestDisk>,
+    terms: Terms,
     size: usize,
 ) -> Result<(u8, usize)> {
-    let mut receiver = Receiver::new(alloc, disks);
+    let mut receiver = Receiver::with_terms(alloc, disks, None, terms);
     let mut fed = 0usize;
     for piece in stream.chunks(size.max(1)) {
         fed = fed.saturating_add(piece.len());

@@ -3,11 +3,10 @@
 use crate::changes::Streams;
 use anyhow::{Context, Result, ensure};
 use books::{Script, spelled};
-use machine::{FaultDisk, MemDisk};
-use receiver::Receiver;
+use machine::{FaultDisk, Limits, MemDisk};
+use receiver::{Receiver, Terms, read_heading_within};
 use scenarios::{PIECES, TestDisk, disks_of, refusal_in_pieces, refusal_of};
 use std::alloc::Global;
-use wire::decode_header;
 
 /// Receives the stream of a line, which is followed by ` -> ` and the number of its refusal, or 0 where it is received. Fed in
 /// pieces of any size, it gets the same answer. After the number there may be ` AT ` and an offset: that many bytes show the
@@ -16,6 +15,9 @@ use wire::decode_header;
 /// The disks are those of the devices that the header names. The stream may follow `NO DISK, AND`: then there is none;
 /// `A DISK, AND`: then there is one more; or a line of a script about disks, as `PLAN 0 1, AND`: then they are as this line
 /// says.
+///
+/// A line may begin with `WITHIN FRAME OUTSIDE, AND`: then the limits are the usual ones but for these: frames of so many bytes, and
+/// disks outside of so many sectors.
 ///
 /// A line may stand for many streams (`Streams`). Then the numbers are encoded like a stream, and of the offsets `PLACE*COUNT`
 /// stands for COUNT equal ones.
@@ -28,9 +30,11 @@ pub fn tells(alloc: Global, line: &str) -> Result<()> {
         return holds(alloc, stream, told).context(line);
     }
     let (numbers, places) = told.split_once(" AT ").unwrap_or((told, ""));
+    let (limits, streams) = limits_of(streams)?;
     let (disks, streams) = streams.split_once(", AND ").unwrap_or(("", streams));
     let streams = Streams::read(alloc, streams)?;
     let refusals = Refusals {
+        terms: Terms { base: 0, limits },
         disks,
         numbers: spelled(alloc, numbers)?,
         places: counted(alloc, places)?,
@@ -42,6 +46,21 @@ pub fn tells(alloc: Global, line: &str) -> Result<()> {
     Ok(())
 }
 
+/// The limits that a line names, and what follows them.
+fn limits_of(line: &str) -> Result<(Limits, &str)> {
+    let Some(rest) = line.strip_prefix("WITHIN ") else {
+        return Ok((Limits::usual(), line));
+    };
+    let (numbers, rest) = rest.split_once(", AND ").context("no stream")?;
+    let (frame, outside) = numbers.split_once(' ').context("one number")?;
+    let limits = Limits {
+        frame: frame.parse::<u16>()?,
+        outside: outside.parse::<u64>()?,
+        ..Limits::usual()
+    };
+    Ok((limits, rest))
+}
+
 /// Fails if a receiver holds another number of bytes of a stream.
 fn holds(alloc: Global, stream: &str, told: &str) -> Result<()> {
     let streams = Streams::read(alloc, stream)?;
@@ -50,7 +69,7 @@ fn holds(alloc: Global, stream: &str, told: &str) -> Result<()> {
     let places = counted(alloc, places)?;
     ensure!(counts.len() == places.len(), "as many offsets");
     for size in PIECES {
-        let disks = disks_by(alloc, "", streams.whole())?;
+        let disks = disks_by(alloc, Limits::usual(), "", streams.whole())?;
         let mut receiver = Receiver::new(alloc, disks);
         let expected = (places.as_slice(), counts.as_slice());
         holds_at(&mut receiver, streams.whole(), expected, size)?;
@@ -103,6 +122,7 @@ fn counted(alloc: Global, text: &str) -> Result<Vec<usize>> {
 /// What is reported of streams that are received with given disks.
 #[derive(Drop)]
 struct Refusals<'t> {
+    terms: Terms,
     disks: &'t str,
     numbers: Vec<u8>,
     places: Vec<usize>,
@@ -114,10 +134,10 @@ impl<'t> Refusals<'t> {
         let stream = streams.stream(alloc, place)?;
         let number = *self.numbers.get(place).context("no number")?;
         let disks = self.disks_beside(alloc, streams)?;
-        let told = refusal_of(alloc, stream.as_slice(), disks);
+        let told = refusal_of(alloc, stream.as_slice(), disks, self.terms);
         ensure!(told == number, "{told} at {place}");
         let disks = self.disks_beside(alloc, streams)?;
-        let (told, told_at) = refusal_in_pieces(alloc, stream.as_slice(), disks, 1)?;
+        let (told, told_at) = refusal_in_pieces(alloc, stream.as_slice(), disks, self.terms, 1)?;
         ensure!(told == number, "{told} byte by byte at {place}");
         if let Some(expected) = self.places.get(place) {
             ensure!(told_at == *expected, "at byte {told_at} at {place}");
@@ -138,7 +158,7 @@ impl<'t> Refusals<'t> {
         let number = *self.numbers.get(place).context("no number")?;
         for size in PIECES {
             let disks = self.disks_beside(alloc, streams)?;
-            let told = refusal_in_pieces(alloc, stream.as_slice(), disks, size)?;
+            let told = refusal_in_pieces(alloc, stream.as_slice(), disks, self.terms, size)?;
             let end = told_at.div_ceil(size).saturating_mul(size);
             let expected = (number, end.min(stream.len()));
             ensure!(told == expected, "pieces of {size} at {place}");
@@ -150,24 +170,24 @@ impl<'t> Refusals<'t> {
     fn disks_beside(&self, alloc: Global, streams: &Streams) -> Result<Vec<TestDisk>> {
         match self.disks {
             "NO DISK" => Ok(Vec::new(alloc)),
-            "A DISK" => one_disk_more(alloc, streams.whole()),
-            lines => disks_by(alloc, lines, streams.whole()),
+            "A DISK" => one_disk_more(alloc, self.terms.limits, streams.whole()),
+            lines => disks_by(alloc, self.terms.limits, lines, streams.whole()),
         }
     }
 }
 
-/// Disks of the devices that the header of a stream names, as lines of a script say of them.
-fn disks_by(alloc: Global, lines: &str, stream: &[u8]) -> Result<Vec<TestDisk>> {
+/// Disks of the devices that the header of a stream names, if it is within the limits, as lines of a script say of them.
+fn disks_by(alloc: Global, limits: Limits, lines: &str, stream: &[u8]) -> Result<Vec<TestDisk>> {
     let mut script = Script::new(alloc);
     script.add(lines)?;
-    match decode_header(alloc, stream)? {
-        Some(header) => disks_of(alloc, &script, header.shapes.as_slice()),
-        None => Ok(Vec::new(alloc)),
+    match read_heading_within(alloc, limits, stream) {
+        Ok(Some(header)) => disks_of(alloc, &script, header.shapes.as_slice()),
+        _ => Ok(Vec::new(alloc)),
     }
 }
 
-fn one_disk_more(alloc: Global, stream: &[u8]) -> Result<Vec<TestDisk>> {
-    let mut disks = disks_by(alloc, "", stream)?;
+fn one_disk_more(alloc: Global, limits: Limits, stream: &[u8]) -> Result<Vec<TestDisk>> {
+    let mut disks = disks_by(alloc, limits, "", stream)?;
     disks.push(FaultDisk::new(MemDisk::new(alloc, 1)?, Vec::new(alloc)))?;
     Ok(disks)
 }

@@ -2,8 +2,10 @@
 use Rattle.std.specs.Prelude.{ℕ, ◌^◌, Bool, true, false, ◌==◌, if◌then◌else◌, List, [], ◌∷◌, codes, Option, Some, None}
 use Rattle.std.specs.Str.{bytes_eq}
 use Rattle.std.specs.List.{slice_split}
-use Rattle.machine.specs.declared.event.Event.TheVariants.{RegRead, RegWrite, MemRead, MemWrite, Step, Input, Resize, Drop}
-use Rattle.machine.specs.declared.shape.Shape.TheVariants.{Net, Block, Console, Entropy}
+use Rattle.machine.specs.declared.event.DiskAnswer.{DiskAnswer}
+use Rattle.machine.specs.declared.event.DiskAnswer.TheVariants.{Gave, Did, Failed}
+use Rattle.machine.specs.declared.event.Event.TheVariants.{RegRead, RegWrite, MemRead, MemWrite, Step, Input, Resize, Drop, Disk}
+use Rattle.machine.specs.declared.shape.Shape.TheVariants.{Net, Block, Outside, Console, Entropy}
 use Rattle.sender.specs.declared.event.LiveEvent.TheVariants.{Guest, Begin, Copy, EndRound, Stop}
 use Rattle.traces.specs.declared.line.Line.{Line}
 use Rattle.traces.specs.declared.line.Line.TheVariants.{Skip, Ram, Device, Act}
@@ -48,6 +50,14 @@ block_line sectors access id = do
   read_only ← read_only_field access
   id ← sized_bytes_of 20 id
   Some (Device (Block sectors read_only id))
+
+-- outside SECTORS rw ID, outside SECTORS ro ID
+abbrev pub outside_line : List ℕ → List ℕ → List ℕ → Option Line
+outside_line sectors access id = do
+  sectors ← u64_field sectors
+  read_only ← read_only_field access
+  id ← sized_bytes_of 20 id
+  Some (Device (Outside sectors read_only id))
 
 -- r DEV OFF WIDTH
 abbrev pub register_read_line : List ℕ → List ℕ → List ℕ → Option Line
@@ -108,6 +118,37 @@ drop_line dev = do
   dev ← u8_field dev
   Some (Act (Guest (Drop dev)))
 
+-- what a disk outside answered, in one word: `failed`
+abbrev pub short_answer : List ℕ → Option DiskAnswer
+short_answer word = if bytes_eq word (codes "failed") then Some Failed else None
+
+-- gave BYTES
+abbrev pub gave_answer : List ℕ → Option DiskAnswer
+gave_answer bytes = do
+  bytes ← bytes_of bytes
+  Some (Gave bytes)
+
+-- did N
+abbrev pub did_answer : List ℕ → Option DiskAnswer
+did_answer count = do
+  count ← u32_field count
+  Some (Did count)
+
+-- what a disk outside answered, in two words
+abbrev pub long_answer : List ℕ → List ℕ → Option DiskAnswer
+long_answer verb a =
+    if bytes_eq verb (codes "gave") then gave_answer a
+    else if bytes_eq verb (codes "did") then did_answer a
+    else None
+
+-- disk DEV PICK, and what it answered
+abbrev pub disk_line : List ℕ → List ℕ → Option DiskAnswer → Option Line
+disk_line dev pick answer = do
+  dev ← u8_field dev
+  pick ← u8_field pick
+  answer ← answer
+  Some (Act (Guest (Disk dev pick answer)))
+
 -- The number of words and the first word say which kind of line it is.
 abbrev pub one_word : List ℕ → Option Line
 one_word verb =
@@ -137,12 +178,17 @@ three_words verb a b =
 abbrev pub four_words : List ℕ → List ℕ → List ℕ → List ℕ → Option Line
 four_words verb a b c =
     if bytes_eq verb (codes "block") then block_line a b c
+    else if bytes_eq verb (codes "outside") then outside_line a b c
     else if bytes_eq verb (codes "r") then register_read_line a b c
     else if bytes_eq verb (codes "size") then resize_line a b c
+    else if bytes_eq verb (codes "disk") then disk_line a b (short_answer c)
     else None
 
 abbrev pub five_words : List ℕ → List ℕ → List ℕ → List ℕ → List ℕ → Option Line
-five_words verb a b c d = if bytes_eq verb (codes "w") then register_write_line a b c d else None
+five_words verb a b c d =
+    if bytes_eq verb (codes "w") then register_write_line a b c d
+    else if bytes_eq verb (codes "disk") then disk_line a b (long_answer c d)
+    else None
 
 abbrev pub words_say : List (List ℕ) → Option Line
 words_say (verb ∷ []) = one_word verb

@@ -1,14 +1,14 @@
 //! Reads one line of a trace: `one` reads the lines with one word, and so on to `five`.
 
-ghost use Rattle.std.specs.Prelude.{◌≡◌, IfOk};
+ghost use Rattle.std.specs.Prelude.{◌≡◌, IfOk, Some};
 ghost use Rattle.std.specs.List.{slice_split};
 ghost use Rattle.sender.specs.declared.event.LiveEvent.TheVariants.{Guest};
 ghost use Rattle.traces.specs.declared.line.Line.TheVariants.{Act};
-ghost use Rattle.traces.specs.Line.{one_word, two_words, three_words, four_words, five_words, net_line, block_line, register_read_line, memory_read_line, memory_write_line, step_line, input_line, resize_line, drop_line, words_say, line_says, is_space};
+ghost use Rattle.traces.specs.Line.{one_word, two_words, three_words, four_words, five_words, net_line, block_line, outside_line, register_read_line, register_write_line, memory_read_line, memory_write_line, step_line, input_line, resize_line, drop_line, short_answer, did_answer, gave_answer, long_answer, disk_line, words_say, line_says, is_space};
 
 use crate::fields::{bytes, number8, number16, number32, number64, read_only, sized_bytes};
 use crate::words::split_word;
-use machine::{Event, Shape};
+use machine::{DiskAnswer, Event, Shape};
 use sender::LiveEvent;
 use std::alloc::{AllocError, Global};
 
@@ -152,6 +152,19 @@ fn block(a: &[u8], b: &[u8], c: &[u8]) -> Option<Line>
     }))
 }
 
+fn outside(a: &[u8], b: &[u8], c: &[u8]) -> Option<Line>
+    ensures { result ≡ outside_line a.now b.now c.now }
+{
+    let count = number64(a)?;
+    let is_read_only = read_only(b)?;
+    let id = sized_bytes(c)?;
+    Some(Line::Device(Shape::Outside {
+        sectors: count,
+        read_only: is_read_only,
+        id,
+    }))
+}
+
 fn register_read(a: &[u8], b: &[u8], c: &[u8]) -> Option<Line>
     ensures { result ≡ register_read_line a.now b.now c.now }
 {
@@ -170,26 +183,45 @@ fn resize(a: &[u8], b: &[u8], c: &[u8]) -> Option<Line>
     Some(guest(Event::Resize { dev, cols, rows }))
 }
 
+/// What a disk outside answered to the request that a pick names.
+fn disk(a: &[u8], b: &[u8], answer: DiskAnswer) -> Option<Line>
+    ensures { result ≡ disk_line a.now b.now (Some answer) }
+{
+    let dev = number8(a)?;
+    let pick = number8(b)?;
+    Some(guest(Event::Disk { dev, pick, answer }))
+}
+
+fn disk_failed(a: &[u8], b: &[u8], c: &[u8]) -> Option<Line>
+    ensures { result ≡ disk_line a.now b.now (short_answer c.now) }
+{
+    if c != b"failed".as_slice() {
+        return None;
+    }
+    disk(a, b, DiskAnswer::Failed)
+}
+
 fn four(verb: &[u8], a: &[u8], b: &[u8], c: &[u8]) -> Option<Line>
     ensures { result ≡ four_words verb.now a.now b.now c.now }
 {
     if verb == b"block".as_slice() {
         block(a, b, c)
+    } else if verb == b"outside".as_slice() {
+        outside(a, b, c)
     } else if verb == b"r".as_slice() {
         register_read(a, b, c)
     } else if verb == b"size".as_slice() {
         resize(a, b, c)
+    } else if verb == b"disk".as_slice() {
+        disk_failed(a, b, c)
     } else {
         None
     }
 }
 
-fn five(verb: &[u8], a: &[u8], b: &[u8], c: &[u8], d: &[u8]) -> Option<Line>
-    ensures { result ≡ five_words verb.now a.now b.now c.now d.now }
+fn register_write(a: &[u8], b: &[u8], c: &[u8], d: &[u8]) -> Option<Line>
+    ensures { result ≡ register_write_line a.now b.now c.now d.now }
 {
-    if verb != b"w".as_slice() {
-        return None;
-    }
     let dev = number8(a)?;
     let off = number32(b)?;
     let width = number8(c)?;
@@ -200,6 +232,69 @@ fn five(verb: &[u8], a: &[u8], b: &[u8], c: &[u8], d: &[u8]) -> Option<Line>
         width,
         value,
     }))
+}
+
+fn did(a: &[u8]) -> Option<DiskAnswer>
+    ensures { result ≡ did_answer a.now }
+{
+    let count = number32(a)?;
+    Some(DiskAnswer::Did(count))
+}
+
+fn gave(alloc: Global, a: &[u8]) -> Result<Option<DiskAnswer>, AllocError>
+    ensures { IfOk result (λ answer. answer ≡ gave_answer a.now) }
+{
+    match bytes(alloc, a)? {
+        Some(bytes) => Ok(Some(DiskAnswer::Gave(bytes))),
+        None => Ok(None),
+    }
+}
+
+/// What a disk outside answered, where that is two words.
+fn long_answer(alloc: Global, verb: &[u8], a: &[u8]) -> Result<Option<DiskAnswer>, AllocError>
+    ensures { IfOk result (λ answer. answer ≡ long_answer verb.now a.now) }
+{
+    if verb == b"gave".as_slice() {
+        gave(alloc, a)
+    } else if verb == b"did".as_slice() {
+        Ok(did(a))
+    } else {
+        Ok(None)
+    }
+}
+
+fn disk_answered(
+    alloc: Global,
+    a: &[u8],
+    b: &[u8],
+    c: &[u8],
+    d: &[u8],
+) -> Result<Option<Line>, AllocError>
+    ensures { IfOk result (λ line. line ≡ disk_line a.now b.now (long_answer c.now d.now)) }
+{
+    match long_answer(alloc, c, d)? {
+        Some(answer) => Ok(disk(a, b, answer)),
+        None => Ok(None),
+    }
+}
+
+fn five(
+    alloc: Global,
+    verb: &[u8],
+    a: &[u8],
+    b: &[u8],
+    c: &[u8],
+    d: &[u8],
+) -> Result<Option<Line>, AllocError>
+    ensures { IfOk result (λ line. line ≡ five_words verb.now a.now b.now c.now d.now) }
+{
+    if verb == b"w".as_slice() {
+        Ok(register_write(a, b, c, d))
+    } else if verb == b"disk".as_slice() {
+        disk_answered(alloc, a, b, c, d)
+    } else {
+        Ok(None)
+    }
 }
 
 /// What a line that is not skipped says. A line has at most five words.
@@ -221,7 +316,7 @@ fn of_words(alloc: Global, line: &[u8]) -> Result<Option<Line>, AllocError>
     };
     match split_word(rest) {
         Some(_) => Ok(None),
-        None => Ok(five(verb, a, b, c, rest)),
+        None => five(alloc, verb, a, b, c, rest),
     }
 }
 

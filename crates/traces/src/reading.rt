@@ -22,10 +22,10 @@ fn first_begin(so_far: u64, number: u64, line: &[u8]) -> u64
 /// Reads a trace.
 ///
 /// Lines end with LF, which the last may lack. Empty lines and lines that begin with `#` are skipped. The others are
-/// one `ram PAGES`, then 1 to 16 of `net MAC`, `block SECTORS rw ID`, `block SECTORS ro ID`, `console` and `entropy`,
-/// and then events: `r DEV OFF WIDTH`, `w DEV OFF WIDTH VALUE`, `mr ADDR LEN`, `mw ADDR BYTES`, `s DEV PICK`,
-/// `in DEV BYTES`, `drop DEV` and `size DEV COLS ROWS` of the guest, and `begin`, `copy`, `round` and `stop` of migration. One
-/// space separates two words.
+/// one `ram PAGES`, then 1 to 16 of `net MAC`, `block SECTORS rw ID`, `outside SECTORS rw ID` (both also with `ro`), `console` and
+/// `entropy`, and then events: `r DEV OFF WIDTH`, `w DEV OFF WIDTH VALUE`, `mr ADDR LEN`, `mw ADDR BYTES`, `s DEV PICK`,
+/// `in DEV BYTES`, `drop DEV`, `size DEV COLS ROWS`, `disk DEV PICK gave BYTES`, `disk DEV PICK did N` and `disk DEV PICK failed` of
+/// the guest and its host, and `begin`, `copy`, `round` and `stop` of migration. One space separates two words.
 ///
 /// `Line` has the number of the first line that is not allowed where it is, or of the one that is missing after the
 /// last; skipped lines count. `NoMemory` is returned only if memory was refused.

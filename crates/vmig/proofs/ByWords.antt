@@ -1,11 +1,12 @@
 -- What a run of the program does, by its words.
 use Rattle.std.proofs.Common.{◌≡◌, inl, ℕ, Bool, true, false, ◌||◌, ◌&&◌, List, [], ◌∷◌, codes, bytes_eq, Option, MatchBool, Result, Ok, Err, OnOk, IfErr, refl, sym, subst, ap, ◌∙◌}
+use Rattle.vmig.specs.Checking.{IsStreamLine, TellsOfStream}
 use Rattle.vmig.specs.Faults.{TellsOfFile, words_fault}
 use Rattle.vmig.specs.Output.{FailsOnFile, HasDoneFile, Silently}
 use Rattle.vmig.specs.Playing.{AreLinesOver, TellsOfText}
 use Rattle.vmig.specs.Resuming.{AreResumedOver, TellsOfResuming}
 use Rattle.vmig.specs.Run.{HasDone, HasFailed}
-use Rattle.vmig.specs.Words.{is_check_line, is_name, is_option, is_program_line, is_rehearse_line, is_resume_line, is_run_line, named_file, named_image, named_stream, second_file}
+use Rattle.vmig.specs.Words.{are_resume_options, is_check_line, is_name, is_outside_option, is_program_line, is_rehearse_line, is_resume_line, is_run_line, named_file, named_image, named_stream, names_outside, second_file}
 use Rattle.vmig.specs.declared.fault.Fault.{Fault}
 use Rattle.vmig.specs.declared.fault.Fault.TheVariants as faults
 use Rattle.vmig.specs.declared.words.WordsError.{WordsError}
@@ -27,7 +28,7 @@ no_run [] h = cc
 no_run (verb ∷ []) h = cc
 no_run (verb ∷ stream ∷ []) h = cc
 no_run (verb ∷ stream ∷ trace ∷ words) h =
-    let names = both (bytes_eq verb (codes "resume") && is_name stream && is_name trace) (is_option (codes "--disk") words) h in
+    let names = both (bytes_eq verb (codes "resume") && is_name stream && is_name trace) (are_resume_options words) h in
     let front = both (bytes_eq verb (codes "resume") && is_name stream) (is_name trace) names.0 in
     let first = both (bytes_eq verb (codes "resume")) (is_name stream) front.0 in
     subst (λ (v : List ℕ). is_run_line (v ∷ stream ∷ trace ∷ words) ≡ false) (sym (bytes_same verb (codes "resume") first.0)) refl
@@ -49,21 +50,56 @@ run_failed (Err fault) words name image stream old new is file one two h =
     let Q : Option (List ℕ) → Type 0 = λ s. FailsOnFile (named_file words) (TellsOfText (named_image words) s) (AreLinesOver (named_image words) s) old new fault in
     when_true (is_run_line words) _ _ is (subst Q two (subst P one (subst N file h)))
 
-pub resume_done : (r : Result (Unit {0}) Fault) (words : List (List ℕ)) (image : Option (List ℕ)) (old new : Option (List ℕ)) → is_resume_line words ≡ true → image ≡ named_image words
-    → OnOk r (HasDoneFile (λ text. Silently (AreResumedOver image text)) old new) → OnOk r (HasDone words old new)
-resume_done (Err fault) words image old new is one h = tt
-resume_done (Ok done) words image old new is one h =
-    let P : Option (List ℕ) → Type 0 = λ i. HasDoneFile (λ text. Silently (AreResumedOver i text)) old new in
-    when_false (is_run_line words) _ _ (no_run words is) (when_true (is_resume_line words) _ _ is (subst P one h))
+pub resume_done : (r : Result (Unit {0}) Fault) (words : List (List ℕ)) (outside : Bool) (image : Option (List ℕ)) (old new : Option (List ℕ)) → is_resume_line words ≡ true → image ≡ named_image words → outside ≡ names_outside words
+    → OnOk r (HasDoneFile (λ text. Silently (AreResumedOver outside image text)) old new) → OnOk r (HasDone words old new)
+resume_done (Err fault) words outside image old new is one two h = tt
+resume_done (Ok done) words outside image old new is one two h =
+    let P : Option (List ℕ) → Type 0 = λ i. HasDoneFile (λ text. Silently (AreResumedOver outside i text)) old new in
+    let Q : Bool → Type 0 = λ o. HasDoneFile (λ text. Silently (AreResumedOver o (named_image words) text)) old new in
+    when_false (is_run_line words) _ _ (no_run words is) (when_true (is_resume_line words) _ _ is (subst Q two (subst P one h)))
 
-pub resume_failed : (r : Result (Unit {0}) Fault) (words : List (List ℕ)) (stream name : List ℕ) (image : Option (List ℕ)) (old new : Option (List ℕ)) → is_resume_line words ≡ true → stream ≡ named_file words → name ≡ second_file words → image ≡ named_image words
-    → IfErr r (FailsOnFile name (TellsOfResuming image stream) (λ text. Silently (AreResumedOver image text)) old new) → IfErr r (HasFailed words old new)
-resume_failed (Ok done) words stream name image old new is first second one h = tt
-resume_failed (Err fault) words stream name image old new is first second one h =
-    let S : List ℕ → Type 0 = λ s. FailsOnFile name (TellsOfResuming image s) (λ text. Silently (AreResumedOver image text)) old new fault in
-    let N : List ℕ → Type 0 = λ n. FailsOnFile n (TellsOfResuming image (named_file words)) (λ text. Silently (AreResumedOver image text)) old new fault in
-    let P : Option (List ℕ) → Type 0 = λ i. FailsOnFile (second_file words) (TellsOfResuming i (named_file words)) (λ text. Silently (AreResumedOver i text)) old new fault in
-    when_false (is_run_line words) _ _ (no_run words is) (when_true (is_resume_line words) _ _ is (subst P one (subst N second (subst S first h))))
+pub resume_failed : (r : Result (Unit {0}) Fault) (words : List (List ℕ)) (stream name : List ℕ) (outside : Bool) (image : Option (List ℕ)) (old new : Option (List ℕ)) → is_resume_line words ≡ true → stream ≡ named_file words → name ≡ second_file words → image ≡ named_image words
+    → outside ≡ names_outside words → IfErr r (FailsOnFile name (TellsOfResuming outside image stream) (λ text. Silently (AreResumedOver outside image text)) old new) → IfErr r (HasFailed words old new)
+resume_failed (Ok done) words stream name outside image old new is first second one two h = tt
+resume_failed (Err fault) words stream name outside image old new is first second one two h =
+    let S : List ℕ → Type 0 = λ s. FailsOnFile name (TellsOfResuming outside image s) (λ text. Silently (AreResumedOver outside image text)) old new fault in
+    let N : List ℕ → Type 0 = λ n. FailsOnFile n (TellsOfResuming outside image (named_file words)) (λ text. Silently (AreResumedOver outside image text)) old new fault in
+    let P : Option (List ℕ) → Type 0 = λ i. FailsOnFile (second_file words) (TellsOfResuming outside i (named_file words)) (λ text. Silently (AreResumedOver outside i text)) old new fault in
+    let Q : Bool → Type 0 = λ o. FailsOnFile (second_file words) (TellsOfResuming o (named_image words) (named_file words)) (λ text. Silently (AreResumedOver o (named_image words) text)) old new fault in
+    when_false (is_run_line words) _ _ (no_run words is) (when_true (is_resume_line words) _ _ is (subst Q two (subst P one (subst N second (subst S first h)))))
+
+-- A line of `check` is none of `run` or `resume`.
+no_run_checked : (words : List (List ℕ)) → is_check_line words ≡ true → is_run_line words ≡ false
+no_run_checked [] h = cc
+no_run_checked (verb ∷ []) h = cc
+no_run_checked (verb ∷ stream ∷ words) h =
+    let names = both (bytes_eq verb (codes "check") && is_name stream) (is_outside_option words) h in
+    let first = both (bytes_eq verb (codes "check")) (is_name stream) names.0 in
+    subst (λ (v : List ℕ). is_run_line (v ∷ stream ∷ words) ≡ false) (sym (bytes_same verb (codes "check") first.0)) refl
+
+no_resume : (words : List (List ℕ)) → is_check_line words ≡ true → is_resume_line words ≡ false
+no_resume [] h = cc
+no_resume (verb ∷ []) h = cc
+no_resume (verb ∷ stream ∷ []) h = refl
+no_resume (verb ∷ stream ∷ trace ∷ words) h =
+    let names = both (bytes_eq verb (codes "check") && is_name stream) (is_outside_option (trace ∷ words)) h in
+    let first = both (bytes_eq verb (codes "check")) (is_name stream) names.0 in
+    subst (λ (v : List ℕ). is_resume_line (v ∷ stream ∷ trace ∷ words) ≡ false) (sym (bytes_same verb (codes "check") first.0)) refl
+
+pub check_done : (r : Result (Unit {0}) Fault) (words : List (List ℕ)) (outside : Bool) (old new : Option (List ℕ)) → is_check_line words ≡ true → outside ≡ names_outside words
+    → OnOk r (HasDoneFile (λ bytes. Silently (IsStreamLine outside bytes)) old new) → OnOk r (HasDone words old new)
+check_done (Err fault) words outside old new is one h = tt
+check_done (Ok done) words outside old new is one h =
+    let P : Bool → Type 0 = λ o. HasDoneFile (λ bytes. Silently (IsStreamLine o bytes)) old new in
+    when_false (is_run_line words) _ _ (no_run_checked words is) (when_false (is_resume_line words) _ _ (no_resume words is) (when_true (is_check_line words) _ _ is (subst P one h)))
+
+pub check_failed : (r : Result (Unit {0}) Fault) (words : List (List ℕ)) (name : List ℕ) (outside : Bool) (old new : Option (List ℕ)) → is_check_line words ≡ true → name ≡ named_file words → outside ≡ names_outside words
+    → IfErr r (FailsOnFile name (TellsOfStream outside) (λ bytes. Silently (IsStreamLine outside bytes)) old new) → IfErr r (HasFailed words old new)
+check_failed (Ok done) words name outside old new is file one h = tt
+check_failed (Err fault) words name outside old new is file one h =
+    let N : List ℕ → Type 0 = λ n. FailsOnFile n (TellsOfStream outside) (λ bytes. Silently (IsStreamLine outside bytes)) old new fault in
+    let P : Bool → Type 0 = λ o. FailsOnFile (named_file words) (TellsOfStream o) (λ bytes. Silently (IsStreamLine o bytes)) old new fault in
+    when_false (is_run_line words) _ _ (no_run_checked words is) (when_false (is_resume_line words) _ _ (no_resume words is) (when_true (is_check_line words) _ _ is (subst P one (subst N file h))))
 
 -- The first line of four that the words are, or none.
 one_of_four : (a b c d : Bool) (A B C D U : Type 0) → (a || b || c || d ≡ true → A × B × C × D) → (a || b || c || d ≡ false → U) → MatchBool a A (MatchBool b B (MatchBool c C (MatchBool d D U)))

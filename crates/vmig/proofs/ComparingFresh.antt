@@ -6,8 +6,7 @@ use Rattle.std.proofs.lemmas.List.Elements.{All-from_recursion}
 use Rattle.guestmem.specs.declared.limits.TheConstants.{PAGE_SIZE}
 use Rattle.machine.proofs.Fresh.{all_long}
 use Rattle.machine.proofs.MadeAs.{IsLong}
-use Rattle.machine.specs.Limits.{usual}
-use Rattle.machine.specs.First.{are_beyond, are_same, dealt_marks, first_machine, is_base, is_beyond_limits, is_ram_size, marks_in, new_refusal}
+use Rattle.machine.specs.First.{are_beyond, are_same, dealt_marks, first_machine, is_base, is_beyond_limits, is_ram_size, marks_in}
 use Rattle.machine.specs.declared.machine.TheConstants.{DEVICES_MAX}
 use Rattle.machine.specs.Seen.{Marks, Seen, all_marks, state_of}
 use Rattle.machine.specs.Shapes.{disk_sizes}
@@ -23,6 +22,7 @@ use Rattle.traces.specs.Trace.{Contents}
 use Rattle.vmig.proofs.ComparingSteady.{IsSteady, dealt_steady, memory_steady}
 use Rattle.rehearsal.specs.InMemory.{memory_state}
 use Rattle.vmig.proofs.MemoryDisks.{sizes_are, zeros_sized}
+use Rattle.vmig.specs.Allowing.{program_limits, trace_refusal}
 use Rattle.vmig.specs.Checking.{zero_disks}
 use Rattle.vmig.specs.Comparing.{AreSteady, IsFreshMachine, IsRehearsed, TellsOfRehearsed}
 use Rattle.vmig.specs.Faults.{shape_fault}
@@ -50,11 +50,11 @@ still_none : (beyond same : Bool) → beyond ≡ false → same ≡ true → ref
 still_none beyond same within fits = rw (within, fits) refl
 
 -- A machine that is made without disks wants none.
-pub without_disks : (pages : ℕ) (shapes : List Shape) → new_refusal pages shapes [] ≡ None → disk_sizes shapes ≡ []
-without_disks pages shapes none = none_same (disk_sizes shapes) (not_refused (is_beyond_limits usual 0 (PAGE_SIZE * pages) shapes) (are_same (disk_sizes shapes) []) none).fits
+pub without_disks : (pages : ℕ) (shapes : List Shape) → trace_refusal pages shapes [] ≡ None → disk_sizes shapes ≡ []
+without_disks pages shapes none = none_same (disk_sizes shapes) (not_refused (is_beyond_limits (program_limits true) 0 (PAGE_SIZE * pages) shapes) (are_same (disk_sizes shapes) []) none).fits
 
-pub none_with_disks : (pages : ℕ) (shapes : List Shape) → new_refusal pages shapes [] ≡ None → new_refusal pages shapes (disk_sizes shapes) ≡ None
-none_with_disks pages shapes none = still_none (is_beyond_limits usual 0 (PAGE_SIZE * pages) shapes) (are_same (disk_sizes shapes) (disk_sizes shapes)) (not_refused (is_beyond_limits usual 0 (PAGE_SIZE * pages) shapes) (are_same (disk_sizes shapes) []) none).within (same_self (disk_sizes shapes))
+pub none_with_disks : (pages : ℕ) (shapes : List Shape) → trace_refusal pages shapes [] ≡ None → trace_refusal pages shapes (disk_sizes shapes) ≡ None
+none_with_disks pages shapes none = still_none (is_beyond_limits (program_limits true) 0 (PAGE_SIZE * pages) shapes) (are_same (disk_sizes shapes) (disk_sizes shapes)) (not_refused (is_beyond_limits (program_limits true) 0 (PAGE_SIZE * pages) shapes) (are_same (disk_sizes shapes) []) none).within (same_self (disk_sizes shapes))
 
 -- What a refusal without disks tells, but for their want.
 other_by : (beyond same again : Bool) (e : NewError) (fault : Fault) → again ≡ true → ¬ (e ≡ DiskMismatch) → fault ≡ shape_fault e → MatchOption (refusal_by beyond same) (e ≡ NoMemory) (λ x. e ≡ x)
@@ -74,25 +74,25 @@ pub made_none : {M : Type 0} (o : Option NewError) (r : Result M NewError) (m : 
 made_none None r m is refused = refl
 made_none (Some x) r m is refused = let wrong : Ok m ≡ Err x = sym is ∙ refused in cc
 
-pub told_first : {M : Type 0} (pages : ℕ) (shapes : List Shape) (sizes : List ℕ) (r : Result M NewError) (e : NewError) (fault : Fault) → sizes ≡ [] → r ≡ Err e → IfSome (new_refusal pages shapes sizes) (λ x. r ≡ Err x)
-    → (new_refusal pages shapes sizes ≡ None → IfErr r (λ x. x ≡ NoMemory)) → ¬ (e ≡ DiskMismatch) → fault ≡ shape_fault e
-    → MatchOption (new_refusal pages shapes (disk_sizes shapes)) (fault ≡ faults.NoMemory) (λ refusal. fault ≡ shape_fault refusal)
+pub told_first : {M : Type 0} (pages : ℕ) (shapes : List Shape) (sizes : List ℕ) (r : Result M NewError) (e : NewError) (fault : Fault) → sizes ≡ [] → r ≡ Err e → IfSome (trace_refusal pages shapes sizes) (λ x. r ≡ Err x)
+    → (trace_refusal pages shapes sizes ≡ None → IfErr r (λ x. x ≡ NoMemory)) → ¬ (e ≡ DiskMismatch) → fault ≡ shape_fault e
+    → MatchOption (trace_refusal pages shapes (disk_sizes shapes)) (fault ≡ faults.NoMemory) (λ refusal. fault ≡ shape_fault refusal)
 told_first pages shapes sizes r e fault none is refused memory other told =
-    let P : List ℕ → Type 0 = λ xs. MatchOption (new_refusal pages shapes xs) (e ≡ NoMemory) (λ x. e ≡ x) in
-    other_by (is_beyond_limits usual 0 (PAGE_SIZE * pages) shapes) (are_same (disk_sizes shapes) []) (are_same (disk_sizes shapes) (disk_sizes shapes)) e fault (same_self (disk_sizes shapes)) other told
-    (subst P none (why_not (new_refusal pages shapes sizes) r e is refused memory))
+    let P : List ℕ → Type 0 = λ xs. MatchOption (trace_refusal pages shapes xs) (e ≡ NoMemory) (λ x. e ≡ x) in
+    other_by (is_beyond_limits (program_limits true) 0 (PAGE_SIZE * pages) shapes) (are_same (disk_sizes shapes) []) (are_same (disk_sizes shapes) (disk_sizes shapes)) e fault (same_self (disk_sizes shapes)) other told
+    (subst P none (why_not (trace_refusal pages shapes sizes) r e is refused memory))
 
 -- What one with disks tells.
 told_by : (o : Option NewError) (e : NewError) (fault : Fault) → MatchOption o (e ≡ NoMemory) (λ x. e ≡ x) → fault ≡ shape_fault e → MatchOption o (fault ≡ faults.NoMemory) (λ refusal. fault ≡ shape_fault refusal)
 told_by None e fault why told = told ∙ ap shape_fault why
 told_by (Some x) e fault why told = told ∙ ap shape_fault why
 
-pub told_then : {M : Type 0} (pages : ℕ) (shapes : List Shape) (sizes : List ℕ) (r : Result M NewError) (e : NewError) (fault : Fault) → sizes ≡ disk_sizes shapes → r ≡ Err e → IfSome (new_refusal pages shapes sizes) (λ x. r ≡ Err x)
-    → (new_refusal pages shapes sizes ≡ None → IfErr r (λ x. x ≡ NoMemory)) → fault ≡ shape_fault e
-    → MatchOption (new_refusal pages shapes (disk_sizes shapes)) (fault ≡ faults.NoMemory) (λ refusal. fault ≡ shape_fault refusal)
+pub told_then : {M : Type 0} (pages : ℕ) (shapes : List Shape) (sizes : List ℕ) (r : Result M NewError) (e : NewError) (fault : Fault) → sizes ≡ disk_sizes shapes → r ≡ Err e → IfSome (trace_refusal pages shapes sizes) (λ x. r ≡ Err x)
+    → (trace_refusal pages shapes sizes ≡ None → IfErr r (λ x. x ≡ NoMemory)) → fault ≡ shape_fault e
+    → MatchOption (trace_refusal pages shapes (disk_sizes shapes)) (fault ≡ faults.NoMemory) (λ refusal. fault ≡ shape_fault refusal)
 told_then pages shapes sizes r e fault same is refused memory told =
-    let P : List ℕ → Type 0 = λ xs. MatchOption (new_refusal pages shapes xs) (fault ≡ faults.NoMemory) (λ refusal. fault ≡ shape_fault refusal) in
-    subst P same (told_by (new_refusal pages shapes sizes) e fault (why_not (new_refusal pages shapes sizes) r e is refused memory) told)
+    let P : List ℕ → Type 0 = λ xs. MatchOption (trace_refusal pages shapes xs) (fault ≡ faults.NoMemory) (λ refusal. fault ≡ shape_fault refusal) in
+    subst P same (told_by (trace_refusal pages shapes sizes) e fault (why_not (trace_refusal pages shapes sizes) r e is refused memory) told)
 
 mismatch_by : (beyond same again : Bool) → again ≡ true → refusal_by beyond same ≡ Some DiskMismatch → refusal_by beyond again ≡ None
 mismatch_by true same again is why = let wrong : ◌≡◌ {A = Option NewError} (Some BadShape) (Some DiskMismatch) = why in cc
@@ -104,22 +104,22 @@ mismatch_is None why = cc
 mismatch_is (Some x) why = ap Some (sym why)
 
 -- A machine that wants disks is one that there is.
-pub wants_disks : {M : Type 0} (pages : ℕ) (shapes : List Shape) (sizes : List ℕ) (r : Result M NewError) → sizes ≡ [] → r ≡ Err DiskMismatch → IfSome (new_refusal pages shapes sizes) (λ x. r ≡ Err x)
-    → (new_refusal pages shapes sizes ≡ None → IfErr r (λ x. x ≡ NoMemory)) → new_refusal pages shapes (disk_sizes shapes) ≡ None
+pub wants_disks : {M : Type 0} (pages : ℕ) (shapes : List Shape) (sizes : List ℕ) (r : Result M NewError) → sizes ≡ [] → r ≡ Err DiskMismatch → IfSome (trace_refusal pages shapes sizes) (λ x. r ≡ Err x)
+    → (trace_refusal pages shapes sizes ≡ None → IfErr r (λ x. x ≡ NoMemory)) → trace_refusal pages shapes (disk_sizes shapes) ≡ None
 wants_disks pages shapes sizes r none is refused memory =
-    let P : List ℕ → Type 0 = λ xs. new_refusal pages shapes xs ≡ Some DiskMismatch in
-    mismatch_by (is_beyond_limits usual 0 (PAGE_SIZE * pages) shapes) (are_same (disk_sizes shapes) []) (are_same (disk_sizes shapes) (disk_sizes shapes)) (same_self (disk_sizes shapes))
-    (subst P none (mismatch_is (new_refusal pages shapes sizes) (why_not (new_refusal pages shapes sizes) r DiskMismatch is refused memory)))
+    let P : List ℕ → Type 0 = λ xs. trace_refusal pages shapes xs ≡ Some DiskMismatch in
+    mismatch_by (is_beyond_limits (program_limits true) 0 (PAGE_SIZE * pages) shapes) (are_same (disk_sizes shapes) []) (are_same (disk_sizes shapes) (disk_sizes shapes)) (same_self (disk_sizes shapes))
+    (subst P none (mismatch_is (trace_refusal pages shapes sizes) (why_not (trace_refusal pages shapes sizes) r DiskMismatch is refused memory)))
 
 -- A machine over disks of zeros is fresh.
 each_steady : (disks : List (List (List ℕ))) → AllByRecursion IsSteady (map (λ d. marks_in (memory_state d)) disks)
 each_steady [] = tt
 each_steady (d ∷ ds) = ((refl, refl), each_steady ds)
 
-pub is_fresh : (c : Contents) (machine : Seen) (shapes : List Shape) (disks : List (List (List ℕ))) → shapes ≡ c.shapes → disks ≡ zero_disks shapes → new_refusal c.pages shapes (disk_sizes shapes) ≡ None
+pub is_fresh : (c : Contents) (machine : Seen) (shapes : List Shape) (disks : List (List (List ℕ))) → shapes ≡ c.shapes → disks ≡ zero_disks shapes → trace_refusal c.pages shapes (disk_sizes shapes) ≡ None
     → state_of machine ≡ first_machine c.pages shapes (map (λ d. map Some d) disks) → all_marks machine ≡ dealt_marks shapes (map (λ d. marks_in (memory_state d)) disks) → IsFreshMachine c machine
 is_fresh c machine shapes disks of are exists state marks = record {
-  exists = (let P : List Shape → Type 0 = λ xs. new_refusal c.pages xs (disk_sizes xs) ≡ None in subst P of exists);
+  exists = (let P : List Shape → Type 0 = λ xs. trace_refusal c.pages xs (disk_sizes xs) ≡ None in subst P of exists);
   state = state ∙ rw are (ap (λ (xs : List Shape). first_machine c.pages xs (map (λ d. map Some d) (zero_disks xs))) of);
   steady = (let P : List Marks → Type 0 = λ ms. AreSteady ms in subst P (sym marks) (dealt_steady shapes _ (All-from_recursion IsSteady _ (each_steady disks))));
 }
@@ -127,33 +127,33 @@ is_fresh c machine shapes disks of are exists state marks = record {
 no_zeros : (shapes : List Shape) → disk_sizes shapes ≡ [] → [] ≡ zero_disks shapes
 no_zeros shapes none = sym (ap (map (λ size. replicate size (replicate 512 0))) none)
 
-pub fresh_without : {M : Type 0} (c : Contents) (machine : Seen) (shapes : List Shape) (disks : List (List (List ℕ))) (r : Result M NewError) (m : M) → shapes ≡ c.shapes → disks ≡ [] → r ≡ Ok m → IfSome (new_refusal c.pages shapes (map length disks)) (λ x. r ≡ Err x)
+pub fresh_without : {M : Type 0} (c : Contents) (machine : Seen) (shapes : List Shape) (disks : List (List (List ℕ))) (r : Result M NewError) (m : M) → shapes ≡ c.shapes → disks ≡ [] → r ≡ Ok m → IfSome (trace_refusal c.pages shapes (map length disks)) (λ x. r ≡ Err x)
     → state_of machine ≡ first_machine c.pages shapes (map (λ d. map Some d) disks) → all_marks machine ≡ dealt_marks shapes (map (λ d. marks_in (memory_state d)) disks) → IsFreshMachine c machine
 fresh_without c machine shapes disks r m of none is refused state marks =
-    let there : new_refusal c.pages shapes [] ≡ None = (let P : List (List (List ℕ)) → Type 0 = λ xs. new_refusal c.pages shapes (map length xs) ≡ None in subst P none (made_none (new_refusal c.pages shapes (map length disks)) r m is refused)) in
+    let there : trace_refusal c.pages shapes [] ≡ None = (let P : List (List (List ℕ)) → Type 0 = λ xs. trace_refusal c.pages shapes (map length xs) ≡ None in subst P none (made_none (trace_refusal c.pages shapes (map length disks)) r m is refused)) in
     is_fresh c machine shapes disks of (none ∙ no_zeros shapes (without_disks c.pages shapes there)) (none_with_disks c.pages shapes there) state marks
 
 -- The same of the trace.
-pub tells : (c : Contents) (shapes : List Shape) (fault : Fault) → shapes ≡ c.shapes → MatchOption (new_refusal c.pages shapes (disk_sizes shapes)) (fault ≡ faults.NoMemory) (λ refusal. fault ≡ shape_fault refusal) → TellsOfRehearsed c fault
-tells c shapes fault of told = let P : List Shape → Type 0 = λ xs. MatchOption (new_refusal c.pages xs (disk_sizes xs)) (fault ≡ faults.NoMemory) (λ refusal. fault ≡ shape_fault refusal) in subst P of told
+pub tells : (c : Contents) (shapes : List Shape) (fault : Fault) → shapes ≡ c.shapes → MatchOption (trace_refusal c.pages shapes (disk_sizes shapes)) (fault ≡ faults.NoMemory) (λ refusal. fault ≡ shape_fault refusal) → TellsOfRehearsed c fault
+tells c shapes fault of told = let P : List Shape → Type 0 = λ xs. MatchOption (trace_refusal c.pages xs (disk_sizes xs)) (fault ≡ faults.NoMemory) (λ refusal. fault ≡ shape_fault refusal) in subst P of told
 
 memory_by : (o : Option NewError) (fault : Fault) → o ≡ None → fault ≡ faults.NoMemory → MatchOption o (fault ≡ faults.NoMemory) (λ refusal. fault ≡ shape_fault refusal)
 memory_by o fault none is = rw none is
 
-pub tells_memory : (c : Contents) (shapes : List Shape) (fault : Fault) → shapes ≡ c.shapes → new_refusal c.pages shapes (disk_sizes shapes) ≡ None → fault ≡ faults.NoMemory → TellsOfRehearsed c fault
-tells_memory c shapes fault of none is = tells c shapes fault of (memory_by (new_refusal c.pages shapes (disk_sizes shapes)) fault none is)
+pub tells_memory : (c : Contents) (shapes : List Shape) (fault : Fault) → shapes ≡ c.shapes → trace_refusal c.pages shapes (disk_sizes shapes) ≡ None → fault ≡ faults.NoMemory → TellsOfRehearsed c fault
+tells_memory c shapes fault of none is = tells c shapes fault of (memory_by (trace_refusal c.pages shapes (disk_sizes shapes)) fault none is)
 
 -- Its disks fit, whatever it then answers.
 or_right : (a b : Bool) → (a || b) ≡ false → b ≡ false
 or_right true b is = cc
 or_right false b is = is
 
-pub shapes_are_long : (pages : ℕ) (shapes : List Shape) → new_refusal pages shapes (disk_sizes shapes) ≡ None → All IsLong shapes
+pub shapes_are_long : (pages : ℕ) (shapes : List Shape) → trace_refusal pages shapes (disk_sizes shapes) ≡ None → All IsLong shapes
 shapes_are_long pages shapes exists =
     let bytes = PAGE_SIZE * pages in
-    let within = (not_refused (is_beyond_limits usual 0 bytes shapes) (are_same (disk_sizes shapes) (disk_sizes shapes)) exists).within in
-    let others = not (is_base 0 bytes) || not (is_ram_size usual bytes) || length shapes == 0 || nat_lt DEVICES_MAX (length shapes) in
-    all_long usual shapes (or_right others (are_beyond usual shapes) within)
+    let within = (not_refused (is_beyond_limits (program_limits true) 0 bytes shapes) (are_same (disk_sizes shapes) (disk_sizes shapes)) exists).within in
+    let others = not (is_base 0 bytes) || not (is_ram_size (program_limits true) bytes) || length shapes == 0 || nat_lt DEVICES_MAX (length shapes) in
+    all_long (program_limits true) shapes (or_right others (are_beyond (program_limits true) shapes) within)
 
 -- A rehearsal of it over such disks.
 pub is_rehearsed : {D E : Type 0} (c : Contents) (machine : Seen) (shapes : List Shape) (events : List LiveEvent) (disks : List (List (List ℕ))) (rehearsal : Rehearsal D E) → IsFreshMachine c machine → shapes ≡ c.shapes → events ≡ c.events → disks ≡ zero_disks shapes

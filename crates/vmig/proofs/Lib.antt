@@ -6,6 +6,7 @@ mod ComparingFresh
 mod ComparingReplies
 mod ComparingSteady
 mod ComparingVerdict
+mod Heading
 mod HonestDisks
 mod Likeness
 mod MemoryDisks

@@ -1,12 +1,13 @@
 -- Disks in memory, as a receiver sees them: they are honest, and never fail.
 use Rattle.std.proofs.Common.{◌≡◌, ◌<◌, ℕ, ◌+◌, List, [], ◌∷◌, ◌++◌, map, length, take, get_or, replicate, Option, Some, None, true, false, Result, Ok, Err, IfOk, inl, refl, ap, sym, ◌∙◌}
 use Rattle.std.proofs.lemmas.List.{length-replicate, map-append, take_more}
+use Rattle.machine.specs.declared.limits.Limits.{Limits}
 use Rattle.machine.specs.Shapes.{disk_size_of, disk_sizes, with_size}
 use Rattle.machine.specs.declared.shape.Shape.{Shape}
 use Rattle.receiver.specs.Disks.{AreHonestDisks, IsUnsteady, disk_marks_of, sizes_of}
-use Rattle.receiver.specs.Opened.{usual_at}
 use Rattle.receiver.specs.Receiving.{RefusesSlice}
 use Rattle.receiver.specs.declared.recv_error.RecvError.{RecvError}
+use Rattle.receiver.specs.declared.terms.Terms.{Terms}
 use Rattle.receiver.specs.declared.recv_error.RecvError.TheVariants as errors
 use Rattle.rehearsal.specs.InMemory.{AreHonestAndSteady, memory_state}
 use Rattle.rehearsal.proofs.Reliable.{memory_is_reliable, reliable_is_honest}
@@ -27,23 +28,23 @@ never_unsteady : (disks : List (List (List ℕ))) → ¬ (IsUnsteady (disk_marks
 never_unsteady disks h = let is : true ≡ false = sym ((reliable disks).steady h.disk) ∙ h.unsteady in cc
 
 -- What a refusal tells with such disks it tells with disks that never fail.
-pub refused_steadily : (base : ℕ) (disks : List (List (List ℕ))) (bytes : List ℕ) (e : RecvError) → RefusesSlice (usual_at base) (sizes_of memory_state disks) (disk_marks_of memory_state disks) bytes e → RefusesSlice (usual_at base) (map length disks) [] bytes e
-refused_steadily base disks bytes errors.NoMemory h = tt
-refused_steadily base disks bytes errors.DiskFailed h = absurd (never_unsteady disks h)
-refused_steadily base disks bytes errors.Truncated h = rw (sizes_are disks) at h
-refused_steadily base disks bytes errors.BadMagic h = rw (sizes_are disks) at h
-refused_steadily base disks bytes errors.BadVersion h = rw (sizes_are disks) at h
-refused_steadily base disks bytes errors.BadShape h = rw (sizes_are disks) at h
-refused_steadily base disks bytes errors.ShapeMismatch h = rw (sizes_are disks) at h
-refused_steadily base disks bytes errors.BadTag h = rw (sizes_are disks) at h
-refused_steadily base disks bytes errors.BadPage h = rw (sizes_are disks) at h
-refused_steadily base disks bytes errors.BadSector h = rw (sizes_are disks) at h
-refused_steadily base disks bytes errors.BadRound h = rw (sizes_are disks) at h
-refused_steadily base disks bytes errors.BadDevice h = rw (sizes_are disks) at h
-refused_steadily base disks bytes errors.BadDigest h = rw (sizes_are disks) at h
-refused_steadily base disks bytes errors.Missing h = rw (sizes_are disks) at h
-refused_steadily base disks bytes errors.Trailing h = rw (sizes_are disks) at h
-refused_steadily base disks bytes errors.AlreadyFailed h = rw (sizes_are disks) at h
+pub refused_steadily : (terms : Terms) (disks : List (List (List ℕ))) (bytes : List ℕ) (e : RecvError) → RefusesSlice terms (sizes_of memory_state disks) (disk_marks_of memory_state disks) bytes e → RefusesSlice terms (map length disks) [] bytes e
+refused_steadily terms disks bytes errors.NoMemory h = tt
+refused_steadily terms disks bytes errors.DiskFailed h = absurd (never_unsteady disks h)
+refused_steadily terms disks bytes errors.Truncated h = rw (sizes_are disks) at h
+refused_steadily terms disks bytes errors.BadMagic h = rw (sizes_are disks) at h
+refused_steadily terms disks bytes errors.BadVersion h = rw (sizes_are disks) at h
+refused_steadily terms disks bytes errors.BadShape h = rw (sizes_are disks) at h
+refused_steadily terms disks bytes errors.ShapeMismatch h = rw (sizes_are disks) at h
+refused_steadily terms disks bytes errors.BadTag h = rw (sizes_are disks) at h
+refused_steadily terms disks bytes errors.BadPage h = rw (sizes_are disks) at h
+refused_steadily terms disks bytes errors.BadSector h = rw (sizes_are disks) at h
+refused_steadily terms disks bytes errors.BadRound h = rw (sizes_are disks) at h
+refused_steadily terms disks bytes errors.BadDevice h = rw (sizes_are disks) at h
+refused_steadily terms disks bytes errors.BadDigest h = rw (sizes_are disks) at h
+refused_steadily terms disks bytes errors.Missing h = rw (sizes_are disks) at h
+refused_steadily terms disks bytes errors.Trailing h = rw (sizes_are disks) at h
+refused_steadily terms disks bytes errors.AlreadyFailed h = rw (sizes_are disks) at h
 
 -- The disks of shapes, and of one more.
 abbrev zero_disk : ℕ → List (List ℕ)
@@ -71,6 +72,6 @@ zeros_long (size ∷ sizes) = cons_same (length-replicate size (replicate 512 0)
 pub zeros_sized : (shapes : List Shape) (disks : List (List (List ℕ))) → disks ≡ zero_disks shapes → map length disks ≡ disk_sizes shapes
 zeros_sized shapes disks are = ap (map length) are ∙ zeros_long (disk_sizes shapes)
 
-pub sized : {V E : Type 0} (r : Result V E) (items : V → List (List (List ℕ))) (bytes : List ℕ) (shapes : List Shape) → TellsSizes bytes (disk_sizes shapes) → IfOk r (λ v. items v ≡ zero_disks shapes) → IfOk r (λ v. AreSizesOf bytes (map length (items v)))
-sized (Ok v) items bytes shapes told are = rw (zeros_sized shapes (items v) are) (inl told)
-sized (Err refusal) items bytes shapes told are = tt
+pub sized : {V E : Type 0} (limits : Limits) (r : Result V E) (items : V → List (List (List ℕ))) (bytes : List ℕ) (shapes : List Shape) → TellsSizes limits bytes (disk_sizes shapes) → IfOk r (λ v. items v ≡ zero_disks shapes) → IfOk r (λ v. AreSizesOf limits bytes (map length (items v)))
+sized limits (Ok v) items bytes shapes told are = rw (zeros_sized shapes (items v) are) (inl told)
+sized limits (Err refusal) items bytes shapes told are = tt

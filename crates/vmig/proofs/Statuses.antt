@@ -16,7 +16,7 @@ use Rattle.vmig.specs.Output.{FailsOnFile, Silently}
 use Rattle.vmig.specs.Playing.{AreLinesOver, TellsOfBegin, TellsOfContents, TellsOfOut, TellsOfSending, TellsOfText, TellsOver}
 use Rattle.vmig.specs.Resuming.{AreResumedOver, TellsOfArrival, TellsOfResuming, TellsOfStreamOver}
 use Rattle.vmig.specs.Run.{HasFailed}
-use Rattle.vmig.specs.Words.{is_check_line, is_program_line, is_rehearse_line, is_resume_line, is_run_line, named_file, named_image, named_stream, second_file}
+use Rattle.vmig.specs.Words.{is_check_line, is_program_line, is_rehearse_line, is_resume_line, is_run_line, named_file, named_image, named_stream, names_outside, second_file}
 use Rattle.vmig.specs.declared.comparing.Verdict.{Verdict}
 use Rattle.vmig.specs.declared.comparing.Verdict.TheVariants as verdicts
 use Rattle.vmig.specs.declared.fault.Fault.{Fault}
@@ -104,22 +104,22 @@ of_bytes errors.Missing two = omega (arith, two)
 of_bytes errors.Trailing two = omega (arith, two)
 of_bytes errors.AlreadyFailed two = omega (arith, two)
 
-of_stream : (bytes : List ℕ) (fault : Fault) → TellsOfStream bytes fault → IsOther fault
-of_stream bytes fault (inl h) = as_told fault faults.NoMemory h (λ two. omega (arith, two))
-of_stream bytes fault (inr h) = as_told fault (stream_fault h.refusal) h.is (of_bytes h.refusal)
+of_stream : (outside : Bool) (bytes : List ℕ) (fault : Fault) → TellsOfStream outside bytes fault → IsOther fault
+of_stream outside bytes fault (inl h) = as_told fault faults.NoMemory h (λ two. omega (arith, two))
+of_stream outside bytes fault (inr h) = as_told fault (stream_fault h.refusal) h.is (of_bytes h.refusal)
 
-of_arrival : (stream sizes : List ℕ) (fault : Fault) {marks : _} → TellsOfArrival stream sizes marks fault → IsOther fault
-of_arrival stream sizes fault (inl h) = of_file stream fault h
-of_arrival stream sizes fault (inr h) = as_told fault (stream_fault h.refusal) h.is (of_bytes h.refusal)
+of_arrival : (outside : Bool) (stream sizes : List ℕ) (fault : Fault) {marks : _} → TellsOfArrival outside stream sizes marks fault → IsOther fault
+of_arrival outside stream sizes fault (inl h) = of_file stream fault h
+of_arrival outside stream sizes fault (inr h) = as_told fault (stream_fault h.refusal) h.is (of_bytes h.refusal)
 
-of_stream_over : (image : Option (List ℕ)) (stream : List ℕ) (fault : Fault) → TellsOfStreamOver image stream fault → IsOther fault
-of_stream_over None stream fault h = of_arrival stream _ fault h
-of_stream_over (Some image) stream fault (inl h) = of_file image fault h
-of_stream_over (Some image) stream fault (inr h) = of_arrival stream _ fault h.2
+of_stream_over : (outside : Bool) (image : Option (List ℕ)) (stream : List ℕ) (fault : Fault) → TellsOfStreamOver outside image stream fault → IsOther fault
+of_stream_over outside None stream fault h = of_arrival outside stream _ fault h
+of_stream_over outside (Some image) stream fault (inl h) = of_file image fault h
+of_stream_over outside (Some image) stream fault (inr h) = of_arrival outside stream _ fault h.2
 
-of_resuming : (image : Option (List ℕ)) (stream text : List ℕ) (fault : Fault) → TellsOfResuming image stream text fault → IsOther fault
-of_resuming image stream text fault (inl h) = as_told fault (trace_fault h.refusal) h.is (of_line h.refusal)
-of_resuming image stream text fault (inr h) = of_stream_over image stream fault h.2
+of_resuming : (outside : Bool) (image : Option (List ℕ)) (stream text : List ℕ) (fault : Fault) → TellsOfResuming outside image stream text fault → IsOther fault
+of_resuming outside image stream text fault (inl h) = as_told fault (trace_fault h.refusal) h.is (of_line h.refusal)
+of_resuming outside image stream text fault (inr h) = of_stream_over outside image stream fault h.2
 
 of_rehearsed : (c : Contents) (fault : Fault) → TellsOfRehearsed c fault → IsOther fault
 of_rehearsed c fault h = of_refusal _ fault h
@@ -166,10 +166,10 @@ usage_is words old new fault h =
     by_lines (is_run_line words) (is_resume_line words) (is_check_line words) (is_rehearse_line words) _ _ _ _ _ fault
     (of_named_file (named_file words) (TellsOfText (named_image words) (named_stream words)) (AreLinesOver (named_image words) (named_stream words)) old new fault
     (λ text. of_text (named_image words) (named_stream words) text fault) (λ text lines. behind_lines (named_image words) (named_stream words) text lines fault))
-    (of_named_file (second_file words) (TellsOfResuming (named_image words) (named_file words)) (λ text. Silently (AreResumedOver (named_image words) text)) old new fault
-    (λ text. of_resuming (named_image words) (named_file words) text fault) (λ text lines none. absurd none))
-    (of_named_file (named_file words) TellsOfStream (λ bytes. Silently (IsStreamLine bytes)) old new fault
-    (λ bytes. of_stream bytes fault) (λ bytes lines none. absurd none))
+    (of_named_file (second_file words) (TellsOfResuming (names_outside words) (named_image words) (named_file words)) (λ text. Silently (AreResumedOver (names_outside words) (named_image words) text)) old new fault
+    (λ text. of_resuming (names_outside words) (named_image words) (named_file words) text fault) (λ text lines none. absurd none))
+    (of_named_file (named_file words) (TellsOfStream (names_outside words)) (λ bytes. Silently (IsStreamLine (names_outside words) bytes)) old new fault
+    (λ bytes. of_stream (names_outside words) bytes fault) (λ bytes lines none. absurd none))
     (of_named_file (named_file words) TellsOfRehearsing AreRehearsedLines old new fault
     (λ text. of_rehearsing text fault) (λ text lines lined. told_by lined.verdict fault lined.ends))
     (λ u. u.0) h

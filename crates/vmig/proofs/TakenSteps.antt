@@ -5,7 +5,7 @@ use Rattle.std.specs.List.{list_all}
 use Rattle.clap.specs.Lexer.{long_of, short_of}
 use Rattle.clap.specs.Simple.{App, Shape, argument_words, built, entered, is_simple, matches_of, names_of}
 use Rattle.clap.specs.Takes.{default_passes, entered_passes, is_valid, settle_passes, step_passes, takes, turn_passes, walk_passes}
-use Rattle.clap.specs.Walk.{Held, Rule, Text, Waiting, Walk, after_step, finished, nothing_held, plain_word, settled, walk_from, walked}
+use Rattle.clap.specs.Walk.{Held, Rule, Text, Waiting, Walk, after_step, arg_by_long, finished, long_met, nothing_held, plain_word, settled, walk_from, walked}
 use Rattle.clap.specs.Walk.Waiting.{idle, option, positional}
 use Rattle.vmig.specs.Words.{is_name}
 
@@ -85,6 +85,10 @@ with_value c h id value = record (settled c h) { pending = Some (id, value ∷ [
 -- Behind an option, its value is waited for.
 abbrev pub with_option : List Rule → Held → Text → Held
 with_option c h id = record (settled c h) { pending = Some (id, []) }
+
+-- Behind an option alone, which is used at once.
+abbrev pub with_flag : List Rule → Held → Text → Held
+with_flag c h name = (long_met c (arg_by_long c name) None h).0
 
 -- Behind nothing but the program's name.
 abbrev pub at_first : Walk

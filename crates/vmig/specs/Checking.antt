@@ -1,15 +1,16 @@
 -- What `check` does: a stream is received over disks in memory, and one line says what machine it is of.
-use Rattle.std.specs.Prelude.{◌≡◌, ◌⊎◌, ◌/◌, ℕ, List, [], length, map, replicate}
+use Rattle.std.specs.Prelude.{◌≡◌, ◌⊎◌, ◌/◌, ℕ, Bool, List, [], length, map, replicate}
 use Rattle.guestmem.specs.declared.limits.TheConstants.{PAGE_SIZE}
 use Rattle.machine.specs.Shapes.{disk_sizes}
 use Rattle.machine.specs.State.{MachineState, base_of}
 use Rattle.machine.specs.declared.shape.Shape.{Shape}
-use Rattle.receiver.specs.Opened.{usual_at}
 use Rattle.receiver.specs.Receiving.{IsReceived, RefusesSlice}
 use Rattle.receiver.specs.declared.recv_error.RecvError.{RecvError}
 use Rattle.traces.specs.Replies.{checked_line}
-use Rattle.machine.specs.Limits.{AreWithin, usual}
+use Rattle.machine.specs.Limits.{AreWithin, IsWithinLimits}
+use Rattle.machine.specs.declared.limits.Limits.{Limits}
 use Rattle.wire.specs.Header.{Begins, Opening}
+use Rattle.vmig.specs.Allowing.{program_limits, program_terms}
 use Rattle.vmig.specs.Faults.{TellsOfFile, stream_fault}
 use Rattle.vmig.specs.declared.fault.Fault.{Fault}
 use Rattle.vmig.specs.declared.fault.Fault.TheVariants.{NoMemory}
@@ -18,52 +19,54 @@ use Rattle.vmig.specs.declared.fault.Fault.TheVariants.{NoMemory}
 abbrev pub zero_disks : List Shape → List (List (List ℕ))
 zero_disks shapes = map (λ size. replicate size (replicate 512 0)) (disk_sizes shapes)
 
--- The bytes are the stream of a machine whose RAM begins at the address 0, and this is its line.
-pub record IsStreamLine (bytes line : List ℕ) : Type 0 where
+-- The bytes are the stream of a machine whose RAM begins at the address 0, whose disks may be outside or not, and this is its line.
+pub record IsStreamLine (outside : Bool) (bytes line : List ℕ) : Type 0 where
   pub machine : MachineState
   pub rounds : ℕ
   pub received : IsReceived bytes machine rounds
   pub based : base_of machine.devices ≡ 0
+  pub within : IsWithinLimits (program_limits outside) machine
   pub spelled : line ≡ checked_line (length machine.ram / PAGE_SIZE) (length machine.devices) rounds
 
 -- The machine of some stream, whose RAM begins at the address 0, in which `n` rounds ended. No contract says what the file of a stream holds.
-pub record IsStreamMachine (machine : MachineState) (n : ℕ) : Type 0 where
+pub record IsStreamMachine (outside : Bool) (machine : MachineState) (n : ℕ) : Type 0 where
   pub bytes : List ℕ
   pub received : IsReceived bytes machine n
   pub based : base_of machine.devices ≡ 0
+  pub within : IsWithinLimits (program_limits outside) machine
 
--- The header of a machine within the usual limits, with disks of these sizes.
-pub record TellsSizes (bytes sizes : List ℕ) : Type 0 where
+-- The header of a machine within these limits, with disks of these sizes.
+pub record TellsSizes (limits : Limits) (bytes sizes : List ℕ) : Type 0 where
   pub opening : Opening
   pub rest : List ℕ
   pub begins : Begins bytes opening rest
-  pub within : AreWithin usual opening.pages opening.shapes
+  pub within : AreWithin limits opening.pages opening.shapes
   pub sizes_are : sizes ≡ disk_sizes opening.shapes
 
--- The bytes begin with no header of a machine within the usual limits.
-abbrev pub BeginsNot : List ℕ → Type 0
-BeginsNot bytes = (opening : Opening) (rest : List ℕ) → AreWithin usual opening.pages opening.shapes → ¬ (Begins bytes opening rest)
+-- The bytes begin with no header of a machine within these limits.
+abbrev pub BeginsNot : Limits → List ℕ → Type 0
+BeginsNot limits bytes = (opening : Opening) (rest : List ℕ) → AreWithin limits opening.pages opening.shapes → ¬ (Begins bytes opening rest)
 
-pub record TellsNone (bytes sizes : List ℕ) : Type 0 where
-  pub no_header : BeginsNot bytes
+pub record TellsNone (limits : Limits) (bytes sizes : List ℕ) : Type 0 where
+  pub no_header : BeginsNot limits bytes
   pub none : sizes ≡ []
 
 -- Disks of these sizes fit the header with which the bytes begin; there are none where they begin with no header.
-abbrev pub AreSizesOf : List ℕ → List ℕ → Type 0
-AreSizesOf bytes sizes = TellsSizes bytes sizes ⊎ TellsNone bytes sizes
+abbrev pub AreSizesOf : Limits → List ℕ → List ℕ → Type 0
+AreSizesOf limits bytes sizes = TellsSizes limits bytes sizes ⊎ TellsNone limits bytes sizes
 
 -- What a fault says of bytes, for a machine whose RAM begins at the address 0 and whose disks have the sizes that the header gives and never fail: its number names
 -- the first fault in the bytes, or they are an incomplete stream; or memory was refused.
-pub record TellsOfBytes (bytes : List ℕ) (fault : Fault) : Type 0 where
+pub record TellsOfBytes (outside : Bool) (bytes : List ℕ) (fault : Fault) : Type 0 where
   pub sizes : List ℕ
-  pub fit : AreSizesOf bytes sizes
+  pub fit : AreSizesOf (program_limits outside) bytes sizes
   pub refusal : RecvError
-  pub refused : RefusesSlice (usual_at 0) sizes [] bytes refusal
+  pub refused : RefusesSlice (program_terms outside) sizes [] bytes refusal
   pub is : fault ≡ stream_fault refusal
 
-abbrev pub TellsOfStream : List ℕ → Fault → Type 0
-TellsOfStream bytes fault = (fault ≡ NoMemory) ⊎ TellsOfBytes bytes fault
+abbrev pub TellsOfStream : Bool → List ℕ → Fault → Type 0
+TellsOfStream outside bytes fault = (fault ≡ NoMemory) ⊎ TellsOfBytes outside bytes fault
 
 -- What a fault says of the stream in the file of this name: the file could not be read, or it is about the bytes that were read.
-abbrev pub TellsOfChecked : List ℕ → Fault → Type 0
-TellsOfChecked stream fault = TellsOfFile stream fault ⊎ ((bytes : List ℕ) × TellsOfStream bytes fault)
+abbrev pub TellsOfChecked : Bool → List ℕ → Fault → Type 0
+TellsOfChecked outside stream fault = TellsOfFile stream fault ⊎ ((bytes : List ℕ) × TellsOfStream outside bytes fault)

@@ -1,7 +1,7 @@
 -- What `rehearse` does: the machine of a trace is migrated while the trace is played, over disks of zeros in memory, and
 -- compared with the one that arrived. It writes the lines of the replies of the machine that is migrated, and then the result.
 use Rattle.std.specs.Prelude.{◌≡◌, ◌⊎◌, ℕ, List, [], ◌++◌, codes, flat_map, map, All, IsTrue, Option, Some, None, MatchOption}
-use Rattle.machine.specs.First.{first_machine, new_refusal}
+use Rattle.machine.specs.First.{first_machine}
 use Rattle.machine.specs.Lines.{lines_of}
 use Rattle.machine.specs.Outcome.{outcome_of}
 use Rattle.machine.specs.Seen.{Marks, Seen, all_marks, state_of}
@@ -17,6 +17,7 @@ use Rattle.sender.specs.declared.event.LiveReply.{LiveReply}
 use Rattle.traces.specs.Trace.{Contents, IsTrace, Refuses as RefusesText}
 use Rattle.traces.specs.Replies.{live_reply_line, newline}
 use Rattle.traces.specs.declared.trace.TraceError.{TraceError}
+use Rattle.vmig.specs.Allowing.{trace_refusal}
 use Rattle.vmig.specs.Checking.{zero_disks}
 use Rattle.vmig.specs.Faults.{shape_fault, stream_fault, trace_fault}
 use Rattle.vmig.specs.declared.comparing.Verdict.{Verdict}
@@ -30,7 +31,7 @@ AreSteady marks = All (λ m. IsTrue m.honest × IsTrue m.steady) marks
 
 -- The fresh machine of a trace, over disks of zeros in memory.
 pub record IsFreshMachine (c : Contents) (machine : Seen) : Type 0 where
-  pub exists : new_refusal c.pages c.shapes (disk_sizes c.shapes) ≡ None
+  pub exists : trace_refusal c.pages c.shapes (disk_sizes c.shapes) ≡ None
   pub state : state_of machine ≡ first_machine c.pages c.shapes (map (λ d. map Some d) (zero_disks c.shapes))
   pub steady : AreSteady (all_marks machine)
 
@@ -119,7 +120,7 @@ pub record AreRehearsedLines (text : List ℕ) (ending : Option Fault) (lines : 
 
 -- What a fault says of a trace before anything is written: there is no such machine, or else memory was refused.
 abbrev pub TellsOfRehearsed : Contents → Fault → Type 0
-TellsOfRehearsed c fault = MatchOption (new_refusal c.pages c.shapes (disk_sizes c.shapes)) (fault ≡ NoMemory) (λ refusal. fault ≡ shape_fault refusal)
+TellsOfRehearsed c fault = MatchOption (trace_refusal c.pages c.shapes (disk_sizes c.shapes)) (fault ≡ NoMemory) (λ refusal. fault ≡ shape_fault refusal)
 
 -- What a fault says of a text: it is no trace, or one that could not be rehearsed.
 abbrev pub TellsOfRehearsing : List ℕ → Fault → Type 0

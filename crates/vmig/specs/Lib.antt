@@ -1,3 +1,4 @@
+pub mod Allowing
 pub mod Words
 pub mod Commands
 pub mod Faults

@@ -4,7 +4,7 @@ use Rattle.std.specs.List.{list_any}
 use Rattle.blk.specs.Sectors.{Sector}
 use Rattle.machine.specs.Seen.{Seen, state_of}
 use Rattle.machine.specs.State.{MachineState}
-use Rattle.machine.specs.First.{first_machine, new_refusal}
+use Rattle.machine.specs.First.{first_machine}
 use Rattle.sender.specs.History.{is_fault}
 use Rattle.sender.specs.Ran.{Ran, WasServed}
 use Rattle.sender.specs.declared.event.LiveEvent.{LiveEvent}
@@ -13,6 +13,7 @@ use Rattle.traces.specs.Trace.{Contents, IsTrace, Refuses as RefusesText}
 use Rattle.traces.specs.Replies.{live_reply_line}
 use Rattle.traces.specs.declared.trace.TraceError.{TraceError}
 use Rattle.wire.specs.Sinks.{SinkState, over_writer}
+use Rattle.vmig.specs.Allowing.{trace_refusal}
 use Rattle.vmig.specs.Faults.{TellsOfFile, trace_fault, shape_fault}
 use Rattle.vmig.specs.declared.fault.Fault.{Fault}
 use Rattle.vmig.specs.declared.fault.Fault.TheVariants.{NoMemory, Line, StreamOut}
@@ -98,7 +99,7 @@ TellsOfBegin (Some stream) c fault = ⊥
 -- What a fault says of a trace whose machine was to get disks of these sizes: there is no such machine, or else memory was
 -- refused.
 abbrev pub TellsOfTrace : Contents → List ℕ → Fault → Type 0
-TellsOfTrace c sizes fault = MatchOption (new_refusal c.pages c.shapes sizes) (fault ≡ NoMemory) (λ refusal. fault ≡ shape_fault refusal)
+TellsOfTrace c sizes fault = MatchOption (trace_refusal c.pages c.shapes sizes) (fault ≡ NoMemory) (λ refusal. fault ≡ shape_fault refusal)
 
 -- What a fault says of the stream: it could not be made.
 abbrev pub TellsOfOut : Option (List ℕ) → Fault → Type 0
@@ -108,7 +109,7 @@ TellsOfOut (Some stream) fault = TellsOfFile stream fault
 -- What a fault says of a trace that is to be played with a stream: it is about its machine or, if there is such a machine,
 -- about the stream.
 abbrev pub TellsOfSending : Option (List ℕ) → Contents → List ℕ → Fault → Type 0
-TellsOfSending stream c sizes fault = TellsOfTrace c sizes fault ⊎ ((new_refusal c.pages c.shapes sizes ≡ None) × TellsOfOut stream fault)
+TellsOfSending stream c sizes fault = TellsOfTrace c sizes fault ⊎ ((trace_refusal c.pages c.shapes sizes ≡ None) × TellsOfOut stream fault)
 
 -- What a fault says of a trace over an image: the file is no image of a disk, or the fault is about the trace over a disk of
 -- some number of sectors.

@@ -8,7 +8,7 @@ use Rattle.vmig.specs.Faults.{fault_line, status_of}
 use Rattle.vmig.specs.Output.{HasDoneFile, FailsOnFile, Silently}
 use Rattle.vmig.specs.Playing.{AreLinesOver, TellsOfText}
 use Rattle.vmig.specs.Resuming.{AreResumedOver, TellsOfResuming}
-use Rattle.vmig.specs.Words.{is_run_line, is_resume_line, is_check_line, is_rehearse_line, named_file, second_file, named_image, named_stream}
+use Rattle.vmig.specs.Words.{is_run_line, is_resume_line, is_check_line, is_rehearse_line, named_file, second_file, named_image, named_stream, names_outside}
 use Rattle.vmig.specs.declared.fault.Fault.{Fault}
 use Rattle.vmig.specs.declared.fault.Fault.TheVariants.{Usage}
 
@@ -16,16 +16,16 @@ use Rattle.vmig.specs.declared.fault.Fault.TheVariants.{Usage}
 abbrev pub HasDone : List (List ℕ) → Option (List ℕ) → Option (List ℕ) → Type 0
 HasDone words old new =
     MatchBool (is_run_line words) (HasDoneFile (AreLinesOver (named_image words) (named_stream words)) old new)
-    (MatchBool (is_resume_line words) (HasDoneFile (λ text. Silently (AreResumedOver (named_image words) text)) old new)
-    (MatchBool (is_check_line words) (HasDoneFile (λ bytes. Silently (IsStreamLine bytes)) old new)
+    (MatchBool (is_resume_line words) (HasDoneFile (λ text. Silently (AreResumedOver (names_outside words) (named_image words) text)) old new)
+    (MatchBool (is_check_line words) (HasDoneFile (λ bytes. Silently (IsStreamLine (names_outside words) bytes)) old new)
     (MatchBool (is_rehearse_line words) (HasDoneFile AreRehearsedLines old new) ⊥)))
 
 -- It failed, and this fault says why.
 abbrev pub HasFailed : List (List ℕ) → Option (List ℕ) → Option (List ℕ) → Fault → Type 0
 HasFailed words old new fault =
     MatchBool (is_run_line words) (FailsOnFile (named_file words) (TellsOfText (named_image words) (named_stream words)) (AreLinesOver (named_image words) (named_stream words)) old new fault)
-    (MatchBool (is_resume_line words) (FailsOnFile (second_file words) (TellsOfResuming (named_image words) (named_file words)) (λ text. Silently (AreResumedOver (named_image words) text)) old new fault)
-    (MatchBool (is_check_line words) (FailsOnFile (named_file words) TellsOfStream (λ bytes. Silently (IsStreamLine bytes)) old new fault)
+    (MatchBool (is_resume_line words) (FailsOnFile (second_file words) (TellsOfResuming (names_outside words) (named_image words) (named_file words)) (λ text. Silently (AreResumedOver (names_outside words) (named_image words) text)) old new fault)
+    (MatchBool (is_check_line words) (FailsOnFile (named_file words) (TellsOfStream (names_outside words)) (λ bytes. Silently (IsStreamLine (names_outside words) bytes)) old new fault)
     (MatchBool (is_rehearse_line words) (FailsOnFile (named_file words) TellsOfRehearsing AreRehearsedLines old new fault)
     ((fault ≡ Usage) × Keeps old new))))
 

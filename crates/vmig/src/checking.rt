@@ -2,35 +2,40 @@
 //!
 //! The disks have the sizes that the header gives, so a check asks for as much memory as they have.
 
-ghost use Rattle.std.specs.Prelude.{◌≡◌, ◌≤◌, ◌∷◌, ◌++◌, [], IfOk, IfErr, OnOk, OnErr, length};
+ghost use Rattle.std.specs.Prelude.{◌≡◌, ◌≤◌, ◌∷◌, ◌++◌, [], drop, take, IfOk, IfErr, IfSome, MatchOption, OnOk, OnErr, length};
 ghost use Rattle.std.specs.Io.KnownBytes.{Appends};
+ghost use Rattle.machine.specs.Limits.{AreWithin};
 ghost use Rattle.machine.specs.Seen.{state_of};
 ghost use Rattle.traces.specs.Replies.{checked_line, AppendsBeginning};
+ghost use Rattle.wire.specs.Header.{Begins, said};
+ghost use Rattle.vmig.specs.Allowing.{program_limits};
 ghost use Rattle.vmig.specs.Checking.{BeginsNot, IsStreamLine, IsStreamMachine, TellsOfChecked, TellsOfStream, zero_disks};
 ghost use Rattle.vmig.specs.Output.{FailsOnFile, HasDoneFile, Silently};
 
+use crate::allowing::{program_limits, program_terms};
 use crate::fault::Fault;
-use crate::feeding::{PIECE_SIZE, read_front, receive_rest};
+use crate::feeding::{Front, read_front, receive_rest};
 use crate::output::{flush, open_file};
 use guestmem::{NoMemory, PAGE_SIZE};
-use machine::{Machine, MemDisk, Shape};
-use receiver::receive;
+use machine::{Limits, Machine, MemDisk, Shape};
+use receiver::{Receiver, receive_with};
 use std::alloc::Global;
 use std::io::{Read, Write};
 use std::rt::Files;
 use traces::{WriteFault, write_checked};
-use wire::decode_header;
+use wire::{Header, HeaderError, read_header};
 
-/// Checks the stream in the file of this name.
+/// Checks the stream in the file of this name, of a machine whose disks may be outside or not.
 pub fn check_stream<'a, R: Files + AllocGlobal, O: Write>(
     rt: &R,
     name: &'a str,
+    outside: bool,
     out: &mut O,
 ) -> Result<(), Fault<'a>>
-    ensures done { OnOk result (HasDoneFile (λ bytes. Silently (IsStreamLine bytes)) (O.contents out.old) (O.contents out.new)) }
-    ensures failed { IfErr result (FailsOnFile name.entry.now TellsOfStream (λ bytes. Silently (IsStreamLine bytes)) (O.contents out.old) (O.contents out.new)) }
+    ensures done { OnOk result (HasDoneFile (λ bytes. Silently (IsStreamLine outside bytes)) (O.contents out.old) (O.contents out.new)) }
+    ensures failed { IfErr result (FailsOnFile name.entry.now (TellsOfStream outside) (λ bytes. Silently (IsStreamLine outside bytes)) (O.contents out.old) (O.contents out.new)) }
 {
-    let (machine, rounds) = receive_file(rt, name)?;
+    let (machine, rounds) = receive_file(rt, name, outside)?;
     let pages = machine.ram().len() / PAGE_SIZE as u64;
     let devices = machine.shapes().len();
     write_line(pages as u32, devices as u32, rounds, out)?;
@@ -42,48 +47,64 @@ pub fn check_stream<'a, R: Files + AllocGlobal, O: Write>(
 fn receive_file<'a, R: Files + AllocGlobal>(
     rt: &R,
     name: &'a str,
+    outside: bool,
 ) -> Result<(Machine<MemDisk>, u32), Fault<'a>>
-    ensures received { IfOk result (λ x. IsStreamMachine (state_of x.0) x.1) }
-    ensures failed { IfErr result (TellsOfChecked name.entry.now) }
+    ensures received { IfOk result (λ x. IsStreamMachine outside (state_of x.0) x.1) }
+    ensures failed { IfErr result (TellsOfChecked outside name.entry.now) }
 {
     let alloc = rt.alloc();
     let mut file = open_file(rt, name)?;
-    let Ok(mut piece) = vec![in alloc; 0u8; PIECE_SIZE] else {
-        return Err(Fault::NoMemory);
-    };
-    let count = read_front(&mut file, name, piece.as_mut_slice())?;
-    receive_in_memory(alloc, &mut file, name, piece.as_mut_slice(), count)
+    let front = read_front(alloc, &mut file, name)?;
+    receive_in_memory(alloc, &mut file, name, front, outside)
 }
 
-/// Receives a stream over disks of zeros in memory. The first `count` bytes of the piece are its front, and the file has the rest.
+/// Receives a stream over disks of zeros in memory. The file has what follows the front.
 fn receive_in_memory<'a, F: Read>(
     alloc: Global,
     file: &mut F,
     name: &'a str,
-    piece: &mut [u8],
-    count: usize,
+    front: Front,
+    outside: bool,
 ) -> Result<(Machine<MemDisk>, u32), Fault<'a>>
-    requires { count ≤ length piece.old }
-    ensures received { IfOk result (λ x. IsStreamMachine (state_of x.0) x.1) }
-    ensures failed { IfErr result (TellsOfChecked name.entry.now) }
+    requires { front.count ≤ length front.piece.items }
+    ensures received { IfOk result (λ x. IsStreamMachine outside (state_of x.0) x.1) }
+    ensures failed { IfErr result (TellsOfChecked outside name.entry.now) }
 {
-    match decode_header(alloc, &piece[..count])? {
+    match header_of(alloc, program_limits(outside), &front.piece[..front.count])? {
         Some(header) => {
             let disks = disks_of(alloc, header.shapes.as_slice())?;
-            receive_rest(alloc, file, name, piece, count, disks)
+            let receiver = Receiver::with_terms(alloc, disks, None, program_terms(outside));
+            receive_rest(file, name, front, receiver)
         }
-        None => receive_headless(alloc, &piece[..count]),
+        None => receive_headless(alloc, &front.piece[..front.count], outside),
+    }
+}
+
+/// The header at the beginning of the bytes. `None` if they begin with no header of a machine within these limits.
+#[tactic(auto, using(crate::proofs::Heading::none_at_fault, crate::proofs::Heading::none_in_part))]
+fn header_of(alloc: Global, limits: Limits, bytes: &[u8]) -> Result<Option<Header>, NoMemory>
+    ensures found { IfOk result (λ found. MatchOption found (BeginsNot limits bytes.now) (λ h. (h.len ≤ length bytes.now) × Begins bytes.now (said h) (drop h.len bytes.now))) }
+    ensures within { IfOk result (λ found. IfSome found (λ h. AreWithin limits h.pages h.shapes.items)) }
+{
+    match read_header(alloc, limits, bytes) {
+        Ok(found) => Ok(found),
+        Err(HeaderError::NoMemory) => Err(NoMemory),
+        Err(_) => Ok(None),
     }
 }
 
 /// Refuses bytes that begin with no header, as a receiver without disks does.
-fn receive_headless(alloc: Global, bytes: &[u8]) -> Result<(Machine<MemDisk>, u32), Fault<'static>>
-    requires { BeginsNot bytes.now }
-    ensures received { IfOk result (λ x. IsStreamMachine (state_of x.0) x.1) }
-    ensures failed { IfErr result (TellsOfStream bytes.now) }
+fn receive_headless(
+    alloc: Global,
+    bytes: &[u8],
+    outside: bool,
+) -> Result<(Machine<MemDisk>, u32), Fault<'static>>
+    requires { BeginsNot (program_limits outside) bytes.now }
+    ensures received { IfOk result (λ x. IsStreamMachine outside (state_of x.0) x.1) }
+    ensures failed { IfErr result (TellsOfStream outside bytes.now) }
 {
     let none: Vec<MemDisk> = Vec::new(alloc);
-    let received = receive(alloc, bytes, none)?;
+    let received = receive_with(alloc, bytes, none, program_terms(outside))?;
     Ok(received)
 }
 

@@ -19,6 +19,7 @@ ghost use Rattle.vmig.specs.Output.{FailsOnFile, HasDoneFile, HasWritten, RunFai
 use crate::checking::disks_of;
 use crate::fault::Fault;
 use crate::output::{flush, read_file, write_each};
+use crate::playing::new_machine;
 use guestmem::{PAGE_SIZE, Ram};
 use machine::{Disk, Machine, MemDisk, NewError, Reply, SECTOR_SIZE};
 use receiver::RecvError;
@@ -101,11 +102,11 @@ fn fresh_machine(alloc: Global, trace: &Trace) -> Result<Machine<MemDisk>, Fault
 {
     let shapes = trace.shapes.as_slice();
     let none: Vec<MemDisk> = Vec::new(alloc);
-    match Machine::new(alloc, trace.pages, shapes, none) {
+    match new_machine(alloc, trace.pages, shapes, none) {
         Ok(machine) => Ok(machine),
         Err(NewError::DiskMismatch) => {
             let disks = disks_of(alloc, shapes)?;
-            let machine = Machine::new(alloc, trace.pages, shapes, disks)?;
+            let machine = new_machine(alloc, trace.pages, shapes, disks)?;
             Ok(machine)
         }
         Err(NewError::BadShape) => Err(Fault::from(NewError::BadShape)),

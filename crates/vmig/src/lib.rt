@@ -2,8 +2,9 @@
 //!
 //! Machines, their events and their replies are those of `machine`; `Live`, `replay`, `save` and `saved_len` are those of `sender`,
 //! and `Receiver`, `receive` and `receive_at` those of `receiver`, over the sinks and records of `wire`; `rehearse` is that of `rehearsal`, and
-//! `parse`, `write_reply` and what belongs to them are those of `traces`. RAM, its logs, and the memory of a caller in which it may lie
-//! are those of `guestmem` and `region`.
+//! `parse`, `write_reply` and what belongs to them are those of `traces`. A disk outside is asked for a `DiskCall` of `blk`, and `Calls`, of
+//! `disk_calls`, knows which of them are out. RAM, its logs, and the memory of a caller in which it may lie are those of `guestmem` and
+//! `region`.
 //! The functions of `laws` are the laws of all of these.
 //!
 //! `execute` is the whole program: its words, the files that they name, what it prints and its exit status. The crate
@@ -20,8 +21,8 @@
 //! new file holds what was sent of a machine. Over an image each reply is that of a call, from a machine over some sectors on, or, of
 //! `resume`, from the machine that arrived on; which sectors these are is not said. The crate `calls` tests what files hold.
 //!
-//! The definitions are in `specs/`: `Words` the program's words, `Faults` for which refusal each fault is, its status and its
-//! line, `Playing`, `Resuming`, `Checking` and `Comparing` what `run`, `resume`, `check` and `rehearse` write and what a fault
+//! The definitions are in `specs/`: `Allowing` how large the program's machines may be, `Words` its words, `Faults` for which refusal each
+//! fault is, its status and its line, `Playing`, `Resuming`, `Checking` and `Comparing` what `run`, `resume`, `check` and `rehearse` write and what a fault
 //! of theirs says, `Feeding` what is known of a stream whose file is read in pieces, `Output` how much of it was written, and `Run` all of it by the words. `Commands` is for the private parts
 //! of `words` alone.
 //!
@@ -29,6 +30,7 @@
 //! command lines; that clap then refuses them only if it is out of memory, and finds the names in them, is proved.
 #![tactic(auto)]
 
+mod allowing;
 mod checking;
 mod comparing;
 mod fault;
@@ -40,15 +42,18 @@ mod program;
 mod resuming;
 mod words;
 
+pub use blk::{DiskCall, What};
 pub use dirtylog::BitSet;
+pub use disk_calls::{Asks, CALLS_MAX, Calls, Handed, Place};
 pub use guestmem::{
     ACCESS_MAX, Both, NoLog, NoMemory, PAGE_SIZE, PAGES_MAX, Ram, RamError, TouchLog, Touched,
     is_zero,
 };
 pub use machine::{
-    Board, Bytes, DEVICES_MAX, DeviceState, Disk, DiskFault, Event, FaultDisk, FileDisk, Kind,
-    Limits, Machine, MemDisk, NewError, PageLog, Parked, RamOf, Refusal, Reply, SECTOR_SIZE,
-    SECTORS_MAX, Shape, Stepped, SyncOwed, Turn, TurnEnd, Unmade, Work, is_base,
+    Board, Bytes, DEVICES_MAX, DeviceState, Disk, DiskAnswer, DiskFault, Event, FaultDisk,
+    FileDisk, Kind, Limits, Machine, MemDisk, NewError, OutsideCall, PageLog, Parked, RamOf,
+    Refusal, Reply, SECTOR_SIZE, SECTORS_MAX, Shape, Stepped, SyncOwed, Turn, TurnEnd, Unmade,
+    Work, is_base,
 };
 pub use program::execute;
 pub use receiver::{

@@ -10,7 +10,7 @@
 //! The lines of a run over an image are those of calls, one after another, from a fresh machine over some sectors on: no
 //! contract says what a file holds. Over disks in memory the same function is proved to answer as the definition does.
 
-ghost use Rattle.std.specs.Prelude.{◌≡◌, [], IfOk, IfErr, OnOk, All, IsTrue, None, length, map, false, Some};
+ghost use Rattle.std.specs.Prelude.{◌≡◌, [], IfOk, IfErr, IfSome, OnOk, All, IsTrue, Err, None, length, map, false, Some};
 ghost use Rattle.std.specs.List.{list_any};
 ghost use Rattle.sender.specs.History.{is_fault};
 ghost use Rattle.traces.specs.Trace.{contents_of};
@@ -18,13 +18,17 @@ ghost use Rattle.vmig.specs.Output.{FailsOnFile, HasDoneFile, HasWritten, IsOne,
 ghost use Rattle.vmig.specs.Faults.{TellsOfFile};
 ghost use Rattle.vmig.specs.Playing.{AreAnswers, AreAnswersFor, AreAnswersOver, AreLinesOver, ArePlayed, AreReplies, IsOutput, MayPlay, TellsOfBegin, TellsOfSending, TellsOfText, TellsOver};
 ghost use Rattle.wire.specs.Sinks.{SinkState, over_writer};
-ghost use Rattle.machine.specs.Seen.{AreHonest, state_of};
+ghost use Rattle.machine.specs.First.{dealt_marks, first_machine, marks_in};
+ghost use Rattle.machine.specs.Seen.{AreHonest, all_marks, state_of};
+ghost use Rattle.machine.specs.declared.new_error.NewError.TheVariants as new_error;
+ghost use Rattle.vmig.specs.Allowing.{trace_refusal};
 ghost use Rattle.vmig.specs.declared.fault.Fault.TheVariants as faults;
 ghost use Rattle.vmig.specs.Words.{name_in};
 
+use crate::allowing::program_limits;
 use crate::fault::Fault;
 use crate::output::{create_apart, read_file, write_all};
-use machine::{Disk, FileDisk, Machine, MemDisk};
+use machine::{Board, Disk, FileDisk, Machine, MemDisk, NewError, RamOf, Shape};
 use sender::{LiveEvent, LiveReply, MigError, Replay, replay};
 use std::alloc::Global;
 use std::io::Write;
@@ -142,7 +146,7 @@ fn replies_to<'a, R: Files + AllocGlobal, D: Disk + Drop>(
     ensures failed { IfErr result (TellsOfSending (name_in stream.entry) (contents_of trace.now) (map (λ d. length (D.state d).sectors) disks.items)) }
 {
     let alloc = rt.alloc();
-    let machine = Machine::new(alloc, trace.pages, trace.shapes.as_slice(), disks)?;
+    let machine = new_machine(alloc, trace.pages, trace.shapes.as_slice(), disks)?;
     match stream {
         Some(name) => {
             let file = create_apart(rt, name, inputs)?;
@@ -152,6 +156,31 @@ fn replies_to<'a, R: Files + AllocGlobal, D: Disk + Drop>(
             let nowhere: Vec<u8> = Vec::new(alloc);
             replies_of(alloc, machine, trace.events.as_slice(), nowhere)
         }
+    }
+}
+
+/// A fresh machine of a trace, with these disks. Those that are outside may have any size.
+pub fn new_machine<D: Disk + Drop>(
+    alloc: Global,
+    pages: u32,
+    shapes: &[Shape],
+    disks: Vec<D>,
+) -> Result<Machine<D>, NewError>
+    ensures made { IfOk result (λ m. state_of m ≡ first_machine pages shapes.now (map (λ d. map Some (D.state d).sectors) disks.items)) }
+    ensures marks { IfOk result (λ m. all_marks m ≡ dealt_marks shapes.now (map (λ d. marks_in (D.state d)) disks.items)) }
+    ensures refused { IfSome (trace_refusal pages shapes.now (map (λ d. length (D.state d).sectors) disks.items)) (λ error. result ≡ Err error) }
+    ensures memory { trace_refusal pages shapes.now (map (λ d. length (D.state d).sectors) disks.items) ≡ None → IfErr result (λ error. error ≡ new_error.NoMemory) }
+{
+    let board = Board {
+        limits: program_limits(true),
+        base: 0,
+        ram: RamOf::Pages(pages),
+        shapes,
+        disks,
+    };
+    match Machine::make(alloc, board) {
+        Ok(machine) => Ok(machine),
+        Err(unmade) => Err(unmade.reason()),
     }
 }
 

@@ -11,7 +11,7 @@ use crate::checking::check_stream;
 use crate::comparing::rehearse_trace;
 use crate::fault::Fault;
 use crate::playing::run_trace;
-use crate::resuming::resume_trace;
+use crate::resuming::{Arrival, resume_trace};
 use crate::words::{Request, read_words};
 use std::io::Write;
 use std::rt::Files;
@@ -21,9 +21,9 @@ use std::rt::Files;
 /// - `run TRACE [--disk IMAGE] [--out STREAM]` plays the trace in a file on a fresh machine, and writes one line a reply. The
 ///   bytes of the file IMAGE are the sectors of its disk, which is read and written. The stream of a migration goes to the file
 ///   STREAM, which is made anew before the first event.
-/// - `resume STREAM TRACE [--disk IMAGE]` receives the machine of a stream, its disk in the file IMAGE, and plays the events of
-///   the trace on it.
-/// - `check STREAM` reads a stream over disks in memory, and writes `ok P D R`: the pages and devices of its machine, and the
+/// - `resume STREAM TRACE [--disk IMAGE] [--outside]` receives the machine of a stream, its disk in the file IMAGE, and plays the events
+///   of the trace on it. With `--outside` its disks may be outside: what these answer is in the trace.
+/// - `check STREAM [--outside]` reads a stream over disks in memory, and writes `ok P D R`: the pages and devices of its machine, and the
 ///   number of rounds that ended in it.
 /// - `rehearse TRACE` plays a trace over disks of zeros in memory, moves the machine where the trace stops it, plays the rest on
 ///   both machines, and writes the replies of the first, and then `equal`, `differ`, or `no stop`.
@@ -80,8 +80,18 @@ fn run<'a, R: Files + AllocGlobal, O: Write>(
             stream,
             trace,
             image,
-        } => resume_trace(rt, stream, trace, image, out),
-        Request::Check { stream } => check_stream(rt, stream, out),
+            outside,
+        } => resume_trace(
+            rt,
+            Arrival {
+                stream,
+                image,
+                outside,
+            },
+            trace,
+            out,
+        ),
+        Request::Check { stream, outside } => check_stream(rt, stream, outside, out),
         Request::Rehearse { trace } => rehearse_trace(rt, trace, out),
     }
 }

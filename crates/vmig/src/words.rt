@@ -4,10 +4,10 @@
 //! UTF-8 are no words of the program.
 
 ghost use Rattle.std.specs.Prelude.{◌≡◌, map, true, false, IfOk, IfErr};
-ghost use Rattle.vmig.specs.Words.{are_run_options, is_check_line, is_name, is_option, is_program_line, is_rehearse_line, is_resume_line, is_run_line, is_verb_and_file, named_file, Asks};
+ghost use Rattle.vmig.specs.Words.{are_resume_options, are_run_options, is_check_line, is_name, is_option, is_outside_option, is_program_line, is_rehearse_line, is_resume_line, is_run_line, is_verb_and_file, named_file, Asks};
 ghost use Rattle.vmig.specs.declared.words.WordsError.TheVariants.{Usage, NoMemory};
 ghost use Rattle.clap.specs.Words.{app_of, kind_of, rule_of};
-ghost use Rattle.vmig.specs.Commands.{file_argument, file_command, file_option, resume_command, run_command};
+ghost use Rattle.vmig.specs.Commands.{check_command, file_argument, file_command, file_option, plain_option, resume_command, run_command};
 ghost use Rattle.clap.specs.declared.error.kind.ErrorKind.TheVariants.{OutOfMemory};
 
 use clap::error::ErrorKind;
@@ -24,16 +24,18 @@ pub enum Request<'a> {
         stream: Option<&'a str>,
     },
 
-    /// Receive the stream, over the image of a disk or over none, and play the trace on its machine.
+    /// Receive the stream, over the image of a disk or over none, and play the trace on its machine. `outside`: its disks may be outside.
     Resume {
         stream: &'a str,
         trace: &'a str,
         image: Option<&'a str>,
+        outside: bool,
     },
 
-    /// Check the stream.
+    /// Check the stream. `outside`: the disks of its machine may be outside.
     Check {
         stream: &'a str,
+        outside: bool,
     },
 
     /// Play the trace, move its machine on the way, and compare both machines.
@@ -89,6 +91,29 @@ fn is_option(option: &str, words: &[&str]) -> bool
     }
 }
 
+/// Whether the words are `--outside`, or none.
+fn is_outside_option(words: &[&str]) -> bool
+    ensures { result ≡ is_outside_option (map (λ word. word.now) words.now) }
+{
+    match words {
+        [] => true,
+        [word] => *word == "--outside",
+        _ => false,
+    }
+}
+
+/// Whether the words are the disk of a machine that arrives and `--outside`, in this order; each may be missing.
+fn are_resume_options(words: &[&str]) -> bool
+    ensures { result ≡ are_resume_options (map (λ word. word.now) words.now) }
+{
+    match words {
+        [disk, image, outside @ ..] => {
+            *disk == "--disk" && is_file_name(image) && is_outside_option(outside)
+        }
+        _ => is_outside_option(words),
+    }
+}
+
 /// Whether the words are the disk of a run and its stream, in this order; each may be missing.
 fn are_run_options(words: &[&str]) -> bool
     ensures { result ≡ are_run_options (map (λ word. word.now) words.now) }
@@ -120,7 +145,7 @@ fn is_resume_line(words: &[&str]) -> bool
             *verb == "resume"
                 && is_file_name(stream)
                 && is_file_name(trace)
-                && is_option("--disk", options)
+                && are_resume_options(options)
         }
         _ => false,
     }
@@ -130,7 +155,9 @@ fn is_check_line(words: &[&str]) -> bool
     ensures { result ≡ is_check_line (map (λ word. word.now) words.now) }
 {
     match words {
-        [verb, stream] => *verb == "check" && is_file_name(stream),
+        [verb, stream, options @ ..] => {
+            *verb == "check" && is_file_name(stream) && is_outside_option(options)
+        }
         _ => false,
     }
 }
@@ -158,8 +185,7 @@ pub fn read_words<'a>(alloc: Global, words: &'a [&'a str]) -> Result<Request<'a>
         return read_resume(alloc, words);
     }
     if is_check_line(words) {
-        let stream = read_file_word(alloc, words)?;
-        return Ok(Request::Check { stream });
+        return read_check(alloc, words);
     }
     if is_rehearse_line(words) {
         let trace = read_file_word(alloc, words)?;
@@ -184,6 +210,14 @@ fn option<'a>(alloc: Global, name: &'a str) -> Arg<'a>
     Arg::new(alloc, name).long(name).action(ArgAction::Set)
 }
 
+/// An option alone.
+fn plain_option<'a>(alloc: Global, name: &'a str) -> Arg<'a>
+    ensures rule { rule_of result ≡ plain_option name.entry.now }
+    ensures local { result.global ≡ false }
+{
+    Arg::new(alloc, name).long(name).action(ArgAction::SetTrue)
+}
+
 /// `run` as clap knows it.
 fn run_command<'a>(alloc: Global) -> Result<Command<'a>, AllocError>
     ensures { IfOk result (λ command. app_of command ≡ run_command) }
@@ -200,7 +234,17 @@ fn resume_command<'a>(alloc: Global) -> Result<Command<'a>, AllocError>
 {
     let sent = Command::new(alloc, "resume").arg(file(alloc, "stream"))?;
     let named = sent.arg(file(alloc, "trace"))?;
-    let command = named.arg(option(alloc, "disk"))?;
+    let over = named.arg(option(alloc, "disk"))?;
+    let command = over.arg(plain_option(alloc, "outside"))?;
+    Ok(command)
+}
+
+/// `check` as clap knows it.
+fn check_command<'a>(alloc: Global) -> Result<Command<'a>, AllocError>
+    ensures { IfOk result (λ command. app_of command ≡ check_command) }
+{
+    let named = Command::new(alloc, "check").arg(file(alloc, "stream"))?;
+    let command = named.arg(plain_option(alloc, "outside"))?;
     Ok(command)
 }
 
@@ -255,7 +299,26 @@ fn read_resume<'a>(alloc: Global, words: &'a [&'a str]) -> Result<Request<'a>, W
         stream,
         trace,
         image,
+        outside: matches.get_flag("outside"),
     })
+}
+
+/// Reads the words of a line of `check`.
+fn read_check<'a>(alloc: Global, words: &'a [&'a str]) -> Result<Request<'a>, WordsError>
+    requires { is_check_line (map (λ word. word.now) words.now) ≡ true }
+    ensures memory { IfErr result (λ refusal. refusal ≡ NoMemory) }
+    ensures asks { IfOk result (Asks (map (λ word. word.now) words.entry.now)) }
+{
+    let command = check_command(alloc)?;
+    let matches = match command.try_get_matches_from(words) {
+        Ok(matches) => matches,
+        Err(error) => return Err(WordsError::from(error)),
+    };
+    let Some(stream) = matches.get_str("stream") else {
+        return Err(WordsError::Usage);
+    };
+    let outside = matches.get_flag("outside");
+    Ok(Request::Check { stream, outside })
 }
 
 /// Reads the words of a line of a verb and one file.

@@ -1,5 +1,6 @@
 use Rattle.std.proofs.Common.{inr, length, map, refl}
 use Rattle.std.proofs.lemmas.Result.{err_from_is_err_and}
+use Rattle.vmig.specs.Allowing.{program_terms}
 use Rattle.vmig.proofs.MemoryDisks.{refused_steadily}
 use Rattle.vmig.proofs.checking.receive_headless.Goals as goal
 
@@ -10,6 +11,6 @@ returns-in_err-received-clause-failed c =
       sizes = map length c.new-none.result.items;
       fit = inr (record { no_header = c.requires; none = rw c.new-none.ensures.items refl });
       refusal = _;
-      refused = refused_steadily 0 c.new-none.result.items c.args.bytes.now _ c.in_err-received.ensures.refused;
+      refused = refused_steadily (program_terms c.args.outside) c.new-none.result.items c.args.bytes.now _ c.in_err-received.ensures.refused;
       is = told.2;
     }))
