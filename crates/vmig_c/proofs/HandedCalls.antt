@@ -1,5 +1,5 @@
 -- Calls of disks outside, by cases on the handle and on its state.
-use Rattle.std.proofs.Common.{◌≡◌, ◌+◌, ℕ, Bool, true, false, List, refl, sym, ap, ◌∙◌, subst, inl, inr, true≢false}
+use Rattle.std.proofs.Common.{◌≡◌, ◌+◌, ◌≤◌, ◌<◌, arith, length, ℕ, Bool, true, false, List, refl, sym, ap, ◌∙◌, subst, inl, inr, true≢false}
 use Rattle.std.specs.Prelude.{Option, Some, None, is_some}
 use Rattle.blk.specs.declared.outside.DiskCall.{DiskCall}
 use Rattle.disk_calls.specs.Calls.{AllCalls, without}
@@ -7,9 +7,11 @@ use Rattle.disk_calls.specs.declared.calls.Place.{Place}
 use Rattle.machine.specs.Seen.{Seen, state_of}
 use Rattle.machine.specs.declared.event.DiskAnswer.{DiskAnswer}
 use Rattle.sender.specs.LiveState.{LiveSeen}
-use Rattle.vmig_c.specs.DiskCalls.{HandsUnless, IsOut, MeetsStill, asker_of}
-use Rattle.vmig_c.specs.Kept.{KeptSeen, State, Still, Moving}
-use Rattle.vmig_c.specs.Outside.{Answers, AnswersIf, AnswersKept, HandsCall, HandsKept, HasNotAnswered, Meets, MeetsMoving, Unfound, answer_refusal}
+use Rattle.vmig_c.specs.DiskCalls.{HandsFrom, HandsUnless, HasHandedNone, IsOut, MeetsStill, asker_of, handing_refusal}
+use Rattle.machine.specs.State.{MachineState}
+use Rattle.vmig_c.specs.Kept.{KeptSeen, State, Still, Moving, Arriving, Lent}
+use Rattle.vmig_c.specs.Outside as outside
+use Rattle.vmig_c.specs.Outside.{Answers, AnswersIf, AnswersKept, HandsCall, HandsKept, HasAnswered, HasNotAnswered, Meets, MeetsMoving, RefusedAnswersNothing, RefusedHandsNothing, Unfound, answer_refusal}
 use Rattle.vmig_c.specs.OnHandle.{Unless}
 use Rattle.vmig_c.specs.Resetting.{stop_refusal}
 use Rattle.vmig_c.specs.declared.outside.Call.{Call}
@@ -73,3 +75,36 @@ unfound k number fits answer status why = unfound_by (answer_refusal k.state) k 
 pub refused_by : (refusal found : Option ℕ) (calls : AllCalls) (number status : ℕ) → found ≡ refusal → found ≡ Some status → Unfound refusal calls number status
 refused_by (Some reason) found calls number status is why = cc
 refused_by None found calls number status is why = cc
+
+-- What is refused changes nothing.
+same_none : (calls after : AllCalls) (status reason : ℕ) (call old_call : Call) (buf new_buf : List ℕ) → HasHandedNone calls status call old_call buf new_buf after reason → (after ≡ calls) × (call ≡ old_call) × (new_buf ≡ buf)
+same_none calls after status reason call old_call buf new_buf h = (h.calls_same, h.call_same, h.buf_same)
+
+same_unless : (refusal : Option ℕ) (m : MachineState) (calls after : AllCalls) (status : ℕ) (call old_call : Call) (buf new_buf : List ℕ) → status < 64
+    → Unless refusal (HasHandedNone calls status call old_call buf new_buf after) (HandsFrom m calls status call old_call buf new_buf after) → (after ≡ calls) × (call ≡ old_call) × (new_buf ≡ buf)
+same_unless (Some reason) m calls after status call old_call buf new_buf few h = same_none calls after status reason call old_call buf new_buf h
+same_unless None m calls after status call old_call buf new_buf few (inl h) = absurd (omega (arith, h.status_is, few))
+same_unless None m calls after status call old_call buf new_buf few (inr h) = same_none calls after status 65 call old_call buf new_buf h.1
+
+pub refused_hands_nothing : RefusedHandsNothing
+refused_hands_nothing (Still m) calls after status call old_call buf new_buf h some few = same_unless (handing_refusal None (length buf)) (state_of m) calls after status call old_call buf new_buf few h
+refused_hands_nothing (Moving l) calls after status call old_call buf new_buf h some few = same_unless (handing_refusal (stop_refusal l.phase) (length buf)) (state_of l.machine) calls after status call old_call buf new_buf few h
+refused_hands_nothing (Arriving r) calls after status call old_call buf new_buf h some few = same_none calls after status 8 call old_call buf new_buf h
+refused_hands_nothing (Lent x) calls after status call old_call buf new_buf h some few = same_none calls after status 23 call old_call buf new_buf h
+
+same_not : (k : KeptSeen) (status reason : ℕ) (next : State) (log : Option (List Bool)) (calls : AllCalls) → HasNotAnswered k status next log calls reason → (next ≡ k.state) × (log ≡ k.written) × (calls ≡ k.calls)
+same_not k status reason next log calls h = (h.state_same, h.log_same, h.calls_same)
+
+same_misfit : (refusal : Option ℕ) (k : KeptSeen) (place : Place) (answer : DiskAnswer) (status : ℕ) (next : State) (log : Option (List Bool)) (calls : AllCalls) → 1 ≤ status
+    → Unless refusal (HasNotAnswered k status next log calls) (HasAnswered k place answer status next log calls) → (next ≡ k.state) × (log ≡ k.written) × (calls ≡ k.calls)
+same_misfit (Some reason) k place answer status next log calls some h = same_not k status reason next log calls h
+same_misfit None k place answer status next log calls some h = absurd (omega (arith, h.status_is, some))
+
+same_answers : (refusal : Option ℕ) (k : KeptSeen) (number : ℕ) (fits : DiskCall → Bool) (answer : DiskCall → DiskAnswer) (status : ℕ) (next : State) (log : Option (List Bool)) (calls : AllCalls) → 1 ≤ status
+    → Unless refusal (HasNotAnswered k status next log calls) (AnswersIf k number fits answer status next log calls) → (next ≡ k.state) × (log ≡ k.written) × (calls ≡ k.calls)
+same_answers (Some reason) k number fits answer status next log calls some h = same_not k status reason next log calls h
+same_answers None k number fits answer status next log calls some (inl h) = same_misfit (outside.misfit (fits h.place.call)) k h.place (answer h.place.call) status next log calls some h.answered
+same_answers None k number fits answer status next log calls some (inr h) = same_not k status 28 next log calls h.1
+
+pub refused_answers_nothing : RefusedAnswersNothing
+refused_answers_nothing k number fits answer status next log calls h some = same_answers (answer_refusal k.state) k number fits answer status next log calls some h

@@ -1,5 +1,5 @@
 -- Calls of disks outside of the machine of a handle, by its state.
-use Rattle.std.specs.Prelude.{◌≡◌, ◌⊎◌, ℕ, ◌+◌, Bool, true, false, List, Option, Some, None}
+use Rattle.std.specs.Prelude.{◌≡◌, ◌⊎◌, ℕ, ◌+◌, ◌≤◌, ◌<◌, Bool, true, false, List, Option, Some, None}
 use Rattle.guestmem.specs.Maybe.{after_if}
 use Rattle.blk.specs.declared.outside.DiskCall.{DiskCall}
 use Rattle.disk_calls.specs.Calls.{AllCalls, without}
@@ -115,3 +115,11 @@ Done k number count bytes status after = Answers k number (fits_done count bytes
 -- A call failed.
 abbrev pub FailsCall : Option KeptSeen → ℕ → ℕ → Option KeptSeen → Type 0
 FailsCall k number status after = Answers k number (λ call. true) (λ call. answers.Failed) status after
+
+-- A status from 1 to 63 says that no call was handed out, or that the answer was refused: nothing changed, and the buffer is as it was.
+abbrev pub RefusedHandsNothing : Type 0
+RefusedHandsNothing = (k : State) (calls after : AllCalls) (status : ℕ) (call old_call : Call) (buf new_buf : List ℕ) → HandsKept k calls status call old_call buf new_buf after → 1 ≤ status → status < 64 → (after ≡ calls) × (call ≡ old_call) × (new_buf ≡ buf)
+
+abbrev pub RefusedAnswersNothing : Type 0
+RefusedAnswersNothing = (k : KeptSeen) (number : ℕ) (fits : DiskCall → Bool) (answer : DiskCall → DiskAnswer) (status : ℕ) (next : State) (log : Option (List Bool)) (calls : AllCalls) → AnswersKept k number fits answer status next log calls → 1 ≤ status
+    → (next ≡ k.state) × (log ≡ k.written) × (calls ≡ k.calls)

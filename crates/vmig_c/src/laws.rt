@@ -4,6 +4,7 @@ ghost use Rattle.vmig_c.specs.ArrivedLogs.{ArrivedHasPlaces};
 ghost use Rattle.vmig_c.specs.Durable.{FailedIsLost, FailedMirrors, FailedStaysPlain, RefusedFailsNothing};
 ghost use Rattle.vmig_c.specs.Mirror.{AppliedMirrors, PulledMirrors, PushedMirrors, UnseenMirrors};
 ghost use Rattle.c_machine.specs.Plain.{PlainStays, RefusedChangesNothing};
+ghost use Rattle.vmig_c.specs.Outside.{RefusedAnswersNothing, RefusedHandsNothing};
 ghost use Rattle.vmig_c.specs.Refused.{RefusedTellsNothing, RefusedWritesNothing};
 ghost use Rattle.vmig_c.specs.Stepped.{RefusedStepsNothing};
 ghost use Rattle.vmig_c.specs.Turns.{RefusedTurnsNothing, TurnsStaySent};
@@ -48,6 +49,16 @@ pub fn refused_turns_nothing()
 /// A failed sync that is refused, by a status from 1 to 63, changes nothing.
 pub fn refused_fails_nothing()
     ensures { RefusedFailsNothing }
+{}
+
+/// Where no call of a disk outside is handed out, by a status from 1 to 63, nothing changed.
+pub fn refused_hands_nothing()
+    ensures { RefusedHandsNothing }
+{}
+
+/// An answer of a disk outside that is refused changes nothing: the call is still out.
+pub fn refused_answers_nothing()
+    ensures { RefusedAnswersNothing }
 {}
 
 /// After one that was not refused the disk is lost.
