@@ -354,6 +354,7 @@ are_both word stream trace h =
     record { first = (both (bytes_eq word (codes "resume")) (is_name stream) front.0).1; second = front.1 }
 
 pub resume_finds : (words : List (List ℕ)) → is_resume_line words ≡ true → FindsResume words
+unfolding are_resume_options
 resume_finds [] h = cc
 resume_finds (word ∷ []) h = cc
 resume_finds (word ∷ stream ∷ []) h = cc
@@ -384,8 +385,8 @@ reads_flag m app of words id is finds has =
     one_of_rows id (found_of m).entries.items ∙ ap (one_of id) (rows ∙ ap (λ a. matches_of a words) is)
 
 pub flag_is : (b wanted : Bool) (o : Option (List ℕ)) → o ≡ Some (told_flag wanted) → (o ≡ Some (codes "true") → b ≡ true) → (o ≡ Some (codes "false") → b ≡ false) → b ≡ wanted
-flag_is b true o is yes no = yes is
-flag_is b false o is yes no = no is
+flag_is b true o is true_is false_is = true_is is
+flag_is b false o is true_is false_is = false_is is
 
 pub text_is : (o : Option (Bor (List ℕ))) (x : Bor (List ℕ)) (t : List ℕ) → o ≡ Some x → option_map (λ s. s.now) o ≡ Some t → x.now ≡ t
 text_is o x t is h = let told : Some x.now ≡ Some t = rw is at h in cc

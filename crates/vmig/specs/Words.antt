@@ -33,7 +33,7 @@ is_outside_option (word ∷ []) = bytes_eq word (codes "--outside")
 is_outside_option (word ∷ more ∷ others) = false
 
 -- --disk IMAGE --outside, of which each may be missing
-abbrev pub are_resume_options : List (List ℕ) → Bool
+unfoldable pub are_resume_options : List (List ℕ) → Bool
 are_resume_options [] = true
 are_resume_options (word ∷ []) = is_outside_option (word ∷ [])
 are_resume_options (word ∷ name ∷ words) = bytes_eq word (codes "--disk") && is_name name && is_outside_option words

@@ -103,6 +103,7 @@ fn is_outside_option(words: &[&str]) -> bool
 }
 
 /// Whether the words are the disk of a machine that arrives and `--outside`, in this order; each may be missing.
+#[tactic(auto, unfolding(crate::specs::Words::are_resume_options))]
 fn are_resume_options(words: &[&str]) -> bool
     ensures { result ≡ are_resume_options (map (λ word. word.now) words.now) }
 {

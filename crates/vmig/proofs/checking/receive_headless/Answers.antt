@@ -11,6 +11,6 @@ returns-in_err-received-clause-failed c =
       sizes = map length c.new-none.result.items;
       fit = inr (record { no_header = c.requires; none = rw c.new-none.ensures.items refl });
       refusal = _;
-      refused = refused_steadily (program_terms c.args.outside) c.new-none.result.items c.args.bytes.now _ c.in_err-received.ensures.refused;
+      refused = refused_steadily (program_terms c.args.outside) c.new-none.result.items c.args.bytes.now _ (rw c.program_terms.ensures at c.in_err-received.ensures.refused);
       is = told.2;
     }))
