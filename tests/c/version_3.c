@@ -192,6 +192,7 @@ static size_t row_length(const struct reader *r, uint8_t number)
     case 2: return 30;
     case 3: case 4: return 1;
     case 129: return r->version == 3 ? 9 : 0;
+    case 130: return r->version == 3 ? 30 : 0;
     default: return 0;
     }
 }
@@ -205,9 +206,10 @@ static void read_row(struct reader *r, uint32_t dev)
     fails(r, row_length(r, row[0]) == 0, VMIG_STREAM_BAD_SHAPE);
     if (r->fault != VMIG_OK || next(r, row_length(r, row[0]) - 1) == NULL) return;
     if (row[0] == 1) r->shapes[dev].longest = USUAL;
-    if (row[0] == 2) {
+    if (row[0] == 2 || row[0] == 130) {
+        uint64_t most = row[0] == 2 ? UINT32_MAX : UINT64_C(1) << 54;
         r->shapes[dev].sectors = little(row + 1, 8);
-        fails(r, r->shapes[dev].sectors == 0 || r->shapes[dev].sectors > UINT32_MAX || row[9] > 1, VMIG_STREAM_BAD_SHAPE);
+        fails(r, r->shapes[dev].sectors == 0 || r->shapes[dev].sectors > most || row[9] > 1, VMIG_STREAM_BAD_SHAPE);
     }
     if (row[0] == 129) {
         r->shapes[dev].longest = (uint32_t)little(row + 7, 2);
@@ -215,13 +217,14 @@ static void read_row(struct reader *r, uint32_t dev)
     }
 }
 
-/* What the arrival has to say of a header that is whole. Version 3 is that of machines with a device for long frames. */
+/* What the arrival has to say of a header that is whole. Version 3 is that of machines with a device for long frames, or with a disk outside, of which
+ * these arrivals allow none. */
 static void is_let_in(struct reader *r)
 {
     int is_long = 0, is_large = r->pages > 1;
 
     for (uint32_t dev = 0; dev < r->count; dev++) {
-        is_long |= r->shapes[dev].longest > USUAL;
+        is_long |= r->shapes[dev].longest > USUAL || r->shapes[dev].kind == 130;
         is_large |= r->shapes[dev].longest > r->longest_allowed || r->shapes[dev].sectors > 0;
     }
     fails(r, r->version == 3 && !is_long, VMIG_STREAM_BAD_VERSION);
