@@ -119,7 +119,10 @@ int storage_drain(struct host *h)
 {
     while (count_out(h) > 0) {
         if (operator_words.ends) return 0;
-        if (storage_answer(h)) continue;
+        if (storage_answer(h)) {
+            h->steps_wait = 1;
+            continue;
+        }
         take_ram(h);
         leave_library(h);
         pool_wait(&h->pool);
