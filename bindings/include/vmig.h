@@ -138,7 +138,7 @@
  *
  * DISKS OUTSIDE: a device of the kind VMIG_BLOCK_OUTSIDE is a block device whose sectors are where you like: in a qcow2 image,
  * behind a network, encrypted, in a file that your threads read and write. Of it the machine has requests, and no sector. It asks
- * for what they need, you do it while the guest goes on, and answer, in any order:
+ * for what they need, you do it while the guest runs, and answer, in any order:
  *
  *     while (vmig_disk_call(m, &call, slot->bytes, sizeof slot->bytes) == VMIG_CALL) submit(slot, call);      after each turn, as
  *     ...                                                                                    its steps take requests; until IDLE
@@ -157,8 +157,8 @@
  *   then on each flush and each durable call of that disk fails.
  * - While a call is out nothing is done that would drop its request, or have another host ask for it: vmig_reg_write, vmig_reset
  *   and vmig_send_stop are VMIG_CALLS_OUT, and nothing changed. Let the lock go, give RAM back, answer what is out, and make the
- *   call again; a processor of the guest waits in its access meanwhile. All else goes on. What is saved asks anew for what is out;
- *   what is out of a machine that is freed is yours to end.
+ *   call again; a processor of the guest waits in its access meanwhile. All other calls are as before. What is saved asks anew for
+ *   what is out; what is out of a machine that is freed is yours to end.
  * - In no stream is a sector of it. To move a guest over storage that both hosts see: pause the guest, answer all that is out,
  *   vmig_send_stop, close the storage, and only then tell the target, which opens it and then runs the guest.
  *

@@ -448,7 +448,7 @@ static void happen(void)
         break;
     default: move(); break;
     }
-    expect("so many are out", description_of(&machine).calls_out, count_out);
+    expect("calls that are out", description_of(&machine).calls_out, count_out);
 }
 
 /* All that was offered is served in the end. */
