@@ -98,7 +98,7 @@ abbrev pub is_outside : Kind → Bool
 is_outside (Outside block) = true
 is_outside _ = false
 
--- The k-th outstanding request, from 0, waits for a disk outside: no step goes on with it before the host has answered for the disk.
+-- The k-th outstanding request, from 0, waits for a disk outside: no step advances it before the host has answered for the disk.
 abbrev pub waits_outside : Kind → ℕ → Bool
 waits_outside (Outside block) k = awaits_at block.requests k Failed
 waits_outside _ k = false

@@ -14,7 +14,7 @@ use Rattle.machine.specs.declared.outside_call.OutsideCall.{OutsideCall}
 use Rattle.machine.specs.declared.reply.Reply.{Reply}
 use Rattle.machine.specs.declared.reply.Reply.TheVariants.{Idle, Moved}
 
--- No step goes on with a request that waits for a disk outside: it is idle, and changes nothing.
+-- No step advances a request that waits for a disk outside: it is idle, and changes nothing.
 abbrev pub WaitingIsIdle : Type 0
 WaitingIsIdle = (m : MachineState) (dev pick : ℕ) (asked : OutsideCall) (o : Outcome) (r : Reply) (after : MachineState) → IsSound m → disk_call_of m dev pick ≡ Some asked → IsStep m (Step dev pick) o r after → (r ≡ Idle) × (after ≡ m)
 

@@ -73,7 +73,7 @@ Once devices makes old turn (Some ends.NoMemory) sent new after = (w : Work) × 
 Once devices makes old turn (Some (ends.Answer s)) sent new after = (w : Work) × IsMade devices makes old turn.last w (reply_in s sent) new × (goes_on (is_entropy (slice_get (devices old) w.dev)) (reply_in s sent) ≡ false)
     × (reply_in s sent ≢ replies.NoMemory) × (after ≡ counted turn w)
 
--- Why a turn ends that has made so many steps: it has none left, and whether there is more to do is told; or its next step says so. Where
+-- Why a turn ends that has made this many steps: it has none left, and whether there is more to do is told; or its next step says so. Where
 -- memory was refused to that step, and others were made before it, it is told as more to do.
 abbrev pub Ends : {S : Type 0} → (S → List DeviceState) → (S → Event → Reply → S → Type 0) → ℕ → S → Turn → TurnEnd → List ℕ → S → Turn → Type 0
 Ends devices makes made old turn ends.Idle sent new after = (next_work (devices old) turn.last ≡ None) × (new ≡ old) × (after ≡ turn)

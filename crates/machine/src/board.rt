@@ -34,7 +34,7 @@ pub struct Board<'a, D> {
 
 /// What the RAM of a machine is made of.
 pub enum RamOf {
-    /// So many pages of zeros, in memory of the machine's own.
+    /// This many pages of zeros, in memory of the machine's own.
     Pages(u32),
 
     /// The bytes of a region, as they are. They stay where they lie.

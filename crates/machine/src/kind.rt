@@ -168,7 +168,7 @@ impl Kind {
         }
     }
 
-    /// Whether a step may go on with the k-th outstanding request, from 0: there is one, and it waits for no disk outside.
+    /// Whether a step may advance the k-th outstanding request, from 0: there is one, and it waits for no disk outside.
     pub(crate) fn can_advance(&self, k: usize) -> bool
         ensures { result ≡ can_advance self.now k }
     {

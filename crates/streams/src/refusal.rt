@@ -16,13 +16,13 @@ use std::alloc::Global;
 /// `A DISK, AND`: then there is one more; or a line of a script about disks, as `PLAN 0 1, AND`: then they are as this line
 /// says.
 ///
-/// A line may begin with `WITHIN FRAME OUTSIDE, AND`: then the limits are the usual ones but for these: frames of so many bytes, and
-/// disks outside of so many sectors.
+/// A line may begin with `WITHIN FRAME OUTSIDE, AND`: then the limits are the usual ones but for these: frames of this many bytes, and
+/// disks outside of this many sectors.
 ///
 /// A line may stand for many streams (`Streams`). Then the numbers are encoded like a stream, and of the offsets `PLACE*COUNT`
 /// stands for COUNT equal ones.
 ///
-/// After `HELD OF` and a stream come numbers of bytes, ` AT ` and offsets: so many bytes a receiver holds when it was fed the
+/// After `HELD OF` and a stream come numbers of bytes, ` AT ` and offsets: this many bytes a receiver holds when it was fed the
 /// stream up to each offset, in pieces of any size.
 pub fn tells(alloc: Global, line: &str) -> Result<()> {
     let (streams, told) = line.split_once(" -> ").context("no number")?;

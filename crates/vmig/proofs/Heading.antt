@@ -1,8 +1,6 @@
 -- Bytes at whose front there is no header of a machine within some limits.
-use Rattle.std.proofs.Common.{◌≡◌, ◌≢◌, ℕ, List, refl}
-use Rattle.machine.specs.Limits.{AreWithin}
+use Rattle.std.proofs.Common.{◌≢◌, ℕ, List, refl}
 use Rattle.machine.specs.declared.limits.Limits.{Limits}
-use Rattle.wire.specs.Header.{Begins, Opening}
 use Rattle.wire.specs.HeaderFaults.{IsHeaderPart, OnFault, ShowsFault}
 use Rattle.wire.specs.declared.header_error.HeaderError.{HeaderError}
 use Rattle.wire.specs.declared.header_error.HeaderError.TheVariants as errors

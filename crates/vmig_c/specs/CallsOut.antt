@@ -12,7 +12,7 @@ outs_in (s ∷ ss) = length s.outs + outs_in ss
 abbrev pub count_out : AllCalls → ℕ
 count_out calls = outs_in calls.devices
 
--- The requests of each of so many devices. One that the machine does not have asks for nothing.
+-- The requests of each of this many devices. One that the machine does not have asks for nothing.
 abbrev pub of_each : ℕ → List (List Request) → List (List Request)
 of_each zero asked = []
 of_each (suc n) [] = [] ∷ of_each n []

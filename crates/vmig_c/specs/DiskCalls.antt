@@ -130,7 +130,7 @@ abbrev pub HandsUnless : Option ℕ → MachineState → AllCalls → ℕ → Ca
 HandsUnless stopped m calls status call old_call buf new_buf after =
     Unless (handing_refusal stopped (length buf)) (HasHandedNone calls status call old_call buf new_buf after) (HandsFrom m calls status call old_call buf new_buf after)
 
--- So many sectors that were done, with these bytes, are an answer to this call: of a read their bytes, of others none; one sector at least, and no more
+-- This many sectors that were done, with these bytes, are an answer to this call: of a read their bytes, of others none; one sector at least, and no more
 -- than were handed out; of a flush none.
 abbrev pub is_part : ℕ → ℕ → Bool
 is_part count all = nat_lt 0 count && not (nat_lt all count)
@@ -176,7 +176,7 @@ IsOut calls number place = IsAt calls.devices place.dev place.i (record { number
 abbrev pub IsNotOut : AllCalls → ℕ → Type 0
 IsNotOut calls number = (dev i : ℕ) (out : Out) → IsAt calls.devices dev i out → out.number ≢ number
 
--- So many sectors of a call were done, with these bytes.
+-- This many sectors of a call were done, with these bytes.
 abbrev pub fits_done : ℕ → List ℕ → DiskCall → Bool
 fits_done count bytes call = answers_call call.what call.count count (length bytes)
 

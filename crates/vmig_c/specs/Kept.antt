@@ -78,7 +78,7 @@ abbrev pub first_calls : ℕ → AllCalls
 first_calls block = record { devices = replicate DEVICES_MAX (record { size = block_size block; outs = [] }); turn = 0; number = 0 }
 
 -- As it is at first: whose memory its disks lie in, none of them is lost, nothing was fed, no call is out, and what the flags ask for, with a
--- log of so many places.
+-- log of this many places.
 pub record IsNew (mapped : Bool) (flags places block : ℕ) (k : KeptSeen) : Type 0 where
   pub is_mapped : k.is_mapped ≡ mapped
   pub none_lost : k.lost ≡ none_lost

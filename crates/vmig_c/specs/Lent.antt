@@ -82,7 +82,7 @@ back_refusal_of (Arriving r) bytes pages = Some no_machine
 back_refusal_of (Lent x) bytes pages = return_refusal_of (length (parked_in x).versions) bytes pages
 back_refusal_of _ bytes pages = Some not_lent
 
--- So many bytes are the RAM that is lent, and each number is that of one of its pages.
+-- This many bytes are the RAM that is lent, and each number is that of one of its pages.
 abbrev pub IsReturnable : State → ℕ → List ℕ → Type 0
 IsReturnable (Lent x) bytes pages = (bytes ≡ PAGE_SIZE * length (parked_in x).versions) × (are_pages (length (parked_in x).versions) pages ≡ true)
 IsReturnable _ bytes pages = ⊥

@@ -145,7 +145,7 @@ AbortsKept (Arriving r) status (Arriving next) = Refuses status next r no_machin
 AbortsKept (Lent x) status (Lent next) = Refuses status next x lent
 AbortsKept _ status _ = ⊥
 
--- So many items are left, and so many bytes.
+-- This many items are left, and this many bytes.
 pub record AreTold (items : Left) (stop_bytes status : ℕ) (left : SendLeft) : Type 0 where
   pub status_is : status ≡ done
   pub left_is : left ≡ record { due_pages = items.due_pages; due_sectors = items.due_sectors; dirty_pages = items.dirty_pages; dirty_sectors = items.dirty_sectors; stop_bytes = stop_bytes; reserved = replicate 3 0 }

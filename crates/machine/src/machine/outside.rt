@@ -1,6 +1,6 @@
 //! Disks outside of the machine: what is asked of them, and what they answer.
 //!
-//! A request of a device whose disk is outside waits, and no step goes on with it. The host looks at what it asks (`disk_call`), does that in its
+//! A request of a device whose disk is outside waits, and no step advances it. The host looks at what it asks (`disk_call`), does that in its
 //! own time, and hands the answer in, whole or in part: an event, with its bytes in it. Both questions change nothing, and no call here takes
 //! memory.
 

@@ -193,7 +193,9 @@ impl DeviceState {
     }
 
     /// A step of a device whose disk is outside that looks at no queue: it gives its id, or ends a request. It is a call of its own, which other
-    /// devices do not carry along.
+    /// devices do not carry along, and cold: otherwise the compiler takes what follows it, the step of a disk in the machine, as unlikely, and
+    /// inlines nothing there.
+    #[cold]
     #[inline(never)]
     pub(crate) fn step_outside<L: TouchLog>(
         &mut self,

@@ -1,7 +1,7 @@
 use Rattle.std.proofs.Common.{◌≡◌, ◌++◌, [], ap, sym, subst, rules, take, List, ℕ, ◌∙◌}
 use Rattle.std.proofs.lemmas.Result.{err_from_is_err_and}
 use Rattle.machine.specs.Limits.{IsWithinLimits}
-use Rattle.machine.specs.Seen.{Marks, state_of}
+use Rattle.machine.specs.Seen.{state_of}
 use Rattle.receiver.proofs.Whole.{stream_rounds}
 use Rattle.receiver.specs.Disks.{AreHonestDisks}
 use Rattle.machine.specs.Layout.{pages_of}

@@ -1,4 +1,4 @@
-use Rattle.std.proofs.Common.{◌++◌, refl, rules, subst, sym}
+use Rattle.std.proofs.Common.{◌++◌, rules, subst, sym}
 use Rattle.std.proofs.lemmas.Result.{err_from_is_err_and}
 use Rattle.receiver.specs.Disks.{AreHonestDisks, disk_marks_of, sizes_of}
 use Rattle.vmig.proofs.Arriving.{of_arrival}
