@@ -1,4 +1,4 @@
--- Calls of disks outside, by cases on the handle and on its state.
+-- Calls of disks outside, by cases on the state of what a handle has.
 use Rattle.std.proofs.Common.{◌≡◌, ◌+◌, ◌≤◌, ◌<◌, arith, length, ℕ, Bool, true, false, List, refl, sym, ap, ◌∙◌, subst, inl, inr, true≢false}
 use Rattle.std.specs.Prelude.{Option, Some, None, is_some}
 use Rattle.blk.specs.declared.outside.DiskCall.{DiskCall}
