@@ -1,8 +1,8 @@
 -- The calls of an arrival, by cases on the handle.
 use Rattle.std.proofs.Common.{◌≡◌, ℕ, Bool, false, List, ap, ◌∙◌, subst, true≢false}
 use Rattle.std.specs.Prelude.{Option, Some, None, is_some}
-use Rattle.vmig_c.specs.Arriving.{Fed, FeedsKept, Finished, FinishesKept, fed_after}
-use Rattle.vmig_c.specs.Kept.{KeptSeen}
+use Rattle.c_handle.specs.Arriving.{Fed, FeedsKept, Finished, FinishesKept, fed_after}
+use Rattle.c_handle.specs.Kept.{KeptSeen}
 use Rattle.std.proofs.Common.{refl}
 
 pub fed_none : (k after : Option KeptSeen) (piece : List ℕ) → is_some k ≡ false → after ≡ k → Fed k piece 8 after

@@ -1,10 +1,10 @@
 -- What is told of a handle, by cases on it.
 use Rattle.std.proofs.Common.{◌≡◌, ℕ, false, refl, subst, true≢false}
 use Rattle.std.specs.Prelude.{Option, Some, None, is_some}
-use Rattle.vmig_c.specs.Described.{Describes, IsDescribed}
+use Rattle.c_handle.specs.Described.{Describes, IsDescribed}
 use Rattle.c_machine.specs.Description.{nothing_told}
-use Rattle.vmig_c.specs.Kept.{KeptSeen}
-use Rattle.vmig_c.specs.NextWork.{FindsWork, FoundWork}
+use Rattle.c_handle.specs.Kept.{KeptSeen}
+use Rattle.c_handle.specs.NextWork.{FindsWork, FoundWork}
 use Rattle.c_machine.specs.declared.description.Description.{Description}
 
 pub none : (k : Option KeptSeen) (d : Description) → is_some k ≡ false → d ≡ nothing_told → Describes k d

@@ -1,50 +1,14 @@
 //! A machine as C sees it: `vmig.h` says the same to its reader, and what C owes.
 //!
-//! `Handle` is the one type that C holds: a pointer, null or of a machine in a box. All raw pointers are in one file, `handle`.
-//! It cannot be dropped, so a function that loses one is refused. It holds a machine that is idle, is being migrated or has lent its RAM,
-//! with RAM and disks in memory of the library or of the caller, or one that arrives (`kept`). No call moves RAM or disks. The structs and
-//! the statuses of C are those of the crate below, `c_machine`.
+//! Here are the exports and nothing else. An export looks whether the handle has a machine, and is then a call of `c_handle`, the crate below,
+//! which has the handle, what a handle has and what each call does to it. The structs and the statuses of C are those of `c_machine`.
 //!
 //! # What the layers above may rely on
 //! - Every export is an ordinary function, and its clause is the step of the machine (`specs/Told`, `specs/Stepped`), its making
-//!   (`specs/Made`) or its stream (`specs/Moving`), by the status that it returns. From 1 to 63 nothing has changed, but for 20 (the
-//!   writer failed) and for a stream that is refused as it arrives. `vmig_step` is not done where what it sends might not fit.
-//! - What a call does to a handle, and by the state of its machine, is said once for all (`specs/OnHandle`). On a handle without a machine
-//!   it is refused; on another it changes the state of the machine alone.
-//! - `vmig_next` names the next step that has something to do, and says whether it makes a flush, or ends a write that the driver then
-//!   takes for durable (`specs/NextWork`). After `vmig_sync_failed` the disk is lost for as long as the handle has the machine: each flush
-//!   of it is made as one whose disk failed, and such a write does not end (`specs/Durable`).
-//! - Every call has its clause in each state: the calls of a migration those of `Live` (`specs/Migrated`), over a writer into
-//!   memory from which `vmig_send_take` takes; the calls of an arrival those of `Receiver` (`specs/Awaited`, `specs/Arriving`), over
-//!   disks that are made as soon as the header is whole, or over images of the caller (`specs/Landing`). What arrives is no machine
-//!   for the other calls.
-//! - `vmig_make` makes the first machine as its struct says, of one equation (`c_machine`, `specs/Made`); `vmig_arrive` lets one arrive, within
-//!   limits (`specs/Expected`). RAM and images that the struct names are taken where it is done, and nothing else is. `Admission` reads the
-//!   header of what arrives: no byte that completes it is let in before it was compared with the limits (`specs/Admission`).
-//! - The bytes that were taken, followed by those that wait, are what a machine that is being migrated has written, from its
-//!   first call to its stop, and the machine that arrives from them is that machine: laws over these clauses (`specs/Sent`).
-//! - A caller whose guest runs on hardware keeps the guest's RAM in memory of its own (`specs/Mirror`). `vmig_push` is one
-//!   write of a whole page for each page that it hands in, and `vmig_pull` copies out each page whose version is not the one
-//!   that the caller noted, or is the greatest. `Mirrors` says that each page whose noted version is the current one is the
-//!   machine's. Whatever is applied to the machine keeps a mirror; pushed pages are mirrored; and after a pull of a mirror the
-//!   caller's RAM is the machine's, byte for byte (`laws`). The caller's part is to hand in every page that its guest wrote.
-//! - `vmig_release` frees what there is, and the slots then hold the contents of disks over images, in the order of the devices, but for
-//!   bad sectors, which may hold anything (`specs/Unmapping`). That an image comes back to its address is not in the clause, since a
-//!   machine is not seen with addresses; the disk has no other memory to give.
-//! - `vmig_lend` lends RAM that lies in memory of the caller to it, and `vmig_give_back` takes it back with the pages that were written
-//!   (`specs/Lent`). Meanwhile the handle has all of the machine but its RAM (`loan`): a call that touches no byte of it is done, with the
-//!   clause that it has of any machine, whatever RAM holds meanwhile, and each other call is refused.
-//! - `vmig_disk_call` hands out what a disk outside is to do, the next call of crate `disk_calls` over the machine's requests, and `vmig_disk_done`
-//!   and `vmig_disk_failed` answer one by its number: the machine's event at the request that asked, or nothing where none waits any more
-//!   (`specs/Outside`). What is out lies beside the machine, in each of its states (`calls_out`). A register write and a reset that would drop a
-//!   request whose call is out are refused (`specs/Dropping`), and so is a stop while one is.
-//! - `vmig_mark` names pages later than RAM came back: each is taken for written whole, with the bytes that lie there (`specs/Late`). By which
-//!   pages a machine that is being migrated is behind its history the laws say; a round and a stop want none (`specs/Sent`).
-//! - Where its struct asks for a log, a step, a write of RAM and a push are told to it, each page that they wrote into and no other, and
-//!   `vmig_written` hands these out from the least on, each once (`specs/HandedOut`). No other call changes it. It has a place for each
-//!   page from the first, of a machine that arrives for each that is allowed: that is an invariant of what a handle has (`kept`).
-//! - With the flag LARGE a machine may be as large as its stream can tell. Without it the limits are the usual ones, made or arriving: a
-//!   machine beyond them is refused at the same place of its struct, or at the same byte of its stream.
+//!   (`specs/Made`) or its stream (`specs/Moving`), by the status that it returns: these files and all that a clause here names are in
+//!   `c_handle`. From 1 to 63 nothing has changed, but for 20 (the writer failed) and for a stream that is refused as it arrives. `vmig_step` is
+//!   not done where what it sends might not fit.
+//! - On a handle without a machine a call is refused, and what it does to any other is said once for all (`specs/OnHandle`).
 //! - The caller's part is C's: pointers and counts name memory as the header says.
 //!
 //! # Why it is so
@@ -53,99 +17,48 @@
 //! - A pointer whose count is 0 may be null, as C programmers write it. No contract says so, since a proof cannot compare a
 //!   caller's pointer with null. The module that the compiler hands to LLVM has no attribute by which a pointer is known not to
 //!   be null, and no empty slice of a caller is put into an `Option`; `tests/c/nulls.c` makes each such call.
+//! - A static library exports its own functions alone, no function of a crate below, and is proved again where its archive is made. So nothing is
+//!   in it that can be below.
 #![tactic(auto)]
 
 ghost use Rattle.std.specs.Prelude.{◌≡◌, None};
 ghost use Rattle.machine.specs.declared.event.Event.TheVariants as events;
-ghost use Rattle.vmig_c.specs.Announced.{Announces};
-ghost use Rattle.vmig_c.specs.Arriving.{Fed, Finished};
-ghost use Rattle.vmig_c.specs.Described.{Describes};
-ghost use Rattle.vmig_c.specs.Dropping.{WroteReg};
-ghost use Rattle.vmig_c.specs.Durable.{Failed};
-ghost use Rattle.vmig_c.specs.Expected.{Expects};
-ghost use Rattle.vmig_c.specs.Sectors.{SectorRead};
-ghost use Rattle.vmig_c.specs.HandedOut.{HandedOut};
-ghost use Rattle.vmig_c.specs.Late.{Marked};
-ghost use Rattle.vmig_c.specs.Lent.{GivesBack, Lends};
-ghost use Rattle.vmig_c.specs.Made.{Makes};
-ghost use Rattle.vmig_c.specs.Migrated.{Aborted, Begun, EndedRound, HasBeenStopped, Leaves, SentSome, Taken};
-ghost use Rattle.vmig_c.specs.Mirror.{Pulled, Pushed};
-ghost use Rattle.vmig_c.specs.Moving.{Saved};
-ghost use Rattle.vmig_c.specs.NextWork.{FoundWork};
-ghost use Rattle.vmig_c.specs.Outside.{Done, FailsCall, HandsCall};
-ghost use Rattle.vmig_c.specs.Resetting.{Resets};
-ghost use Rattle.vmig_c.specs.Rooms.{Rooms};
-ghost use Rattle.vmig_c.specs.Stepped.{Stepped};
-ghost use Rattle.vmig_c.specs.Unmapping.{Releases};
-ghost use Rattle.vmig_c.specs.Turns.{Worked};
-ghost use Rattle.vmig_c.specs.Told.{Read, Told, ToldOr, ToldSo, Written, lines_told};
-ghost use Rattle.vmig_c.specs.Version.{version};
+ghost use Rattle.c_handle.specs.Announced.{Announces};
+ghost use Rattle.c_handle.specs.Arriving.{Fed, Finished};
+ghost use Rattle.c_handle.specs.Described.{Describes};
+ghost use Rattle.c_handle.specs.Dropping.{WroteReg};
+ghost use Rattle.c_handle.specs.Durable.{Failed};
+ghost use Rattle.c_handle.specs.Expected.{Expects};
+ghost use Rattle.c_handle.specs.Sectors.{SectorRead};
+ghost use Rattle.c_handle.specs.HandedOut.{HandedOut};
+ghost use Rattle.c_handle.specs.Late.{Marked};
+ghost use Rattle.c_handle.specs.Lent.{GivesBack, Lends};
+ghost use Rattle.c_handle.specs.Made.{Makes};
+ghost use Rattle.c_handle.specs.Migrated.{Aborted, Begun, EndedRound, HasBeenStopped, Leaves, SentSome, Taken};
+ghost use Rattle.c_handle.specs.Mirror.{Pulled, Pushed};
+ghost use Rattle.c_handle.specs.Moving.{Saved};
+ghost use Rattle.c_handle.specs.NextWork.{FoundWork};
+ghost use Rattle.c_handle.specs.Outside.{Done, FailsCall, HandsCall};
+ghost use Rattle.c_handle.specs.Resetting.{Resets};
+ghost use Rattle.c_handle.specs.Rooms.{Rooms};
+ghost use Rattle.c_handle.specs.Stepped.{Stepped};
+ghost use Rattle.c_handle.specs.Unmapping.{Releases};
+ghost use Rattle.c_handle.specs.Turns.{Worked};
+ghost use Rattle.c_handle.specs.Told.{Read, Told, ToldOr, ToldSo, Written, lines_told};
+ghost use Rattle.c_handle.specs.Version.{version};
 
-mod admission;
-mod announcing;
-mod arrival;
-mod arriving;
-mod calls_out;
-mod creating;
-mod describing;
-mod devices;
-mod dropping;
-mod expecting;
-mod handle;
-mod kept;
-mod late;
-pub mod laws;
-mod lending;
-mod loan;
-mod logging;
-mod migrating;
-mod mirror;
-mod moving;
-mod outside;
-mod resetting;
-mod rooms;
-mod sectors;
-mod serving;
-mod status;
-mod stepping;
-mod syncing;
-mod turning;
-mod unmapping;
-mod working;
-mod written;
-
-use announcing::announced;
-use arriving::{feed, finish};
-use c_machine::status::{DONE, NO_MACHINE};
-pub use c_machine::{Description, DeviceShape, Expected, Pages, Setup};
-use creating::make;
-use describing::describe;
-use expecting::arrive;
-pub use handle::Handle;
-use late::mark;
-use lending::{give_back, lend};
-use mapped_disk::Image;
-pub use migrating::SendLeft;
-use migrating::{abort, begin, left as left_of, send_round, send_some, stop, take};
-use mirror::{pull, push};
-use moving::save_kept;
-pub use outside::Call;
-use outside::{answer_done, answer_failed, hand_call};
-use region::Slot;
-use resetting::reset;
-use rooms::room as room_in;
-use sectors::read_sector;
-use serving::{
-    drop_input, input, lines, read_ram, read_register, resize, write_ram, write_register,
+use c_handle::{
+    Call, Handle, SendLeft, Turn, abort, announced, answer_done, answer_failed, arrive, begin,
+    describe, drop_input, feed, finish, give_back, hand_call, hand_out, held_of, input,
+    left as left_of, lend, lines, lose_kept, make, mark, next, pull, push, read_ram, read_register,
+    read_sector, release, release_refusal, reset, resize, room as room_in, save_kept, send_round,
+    send_some, step_kept, stop, take, work, write_ram, write_register,
 };
+use c_machine::status::{DONE, NO_MACHINE};
+use c_machine::{Description, Expected, Pages, Setup};
+use mapped_disk::Image;
+use region::Slot;
 use std::alloc::Global;
-use stepping::step_kept;
-use syncing::lose_kept;
-pub use turning::Turn;
-use turning::work;
-use unmapping::{held_of, release, release_refusal};
-use working::next;
-use written::hand_out;
 
 /// Calls a function with what the handle holds, as its first argument, or after an allocator. A handle that holds nothing has no machine.
 macro_rules! on_kept {
@@ -198,7 +111,7 @@ pub extern "C" fn vmig_free(alloc: Global, machine: &mut Handle)
 /// Frees what there is, and its images go into the slots, which are of no sectors: those of its disks that lie in memory of the caller, in
 /// the order of the devices. The slots after them stay as they are.
 #[unsafe(no_mangle)]
-#[tactic(auto, using(crate::proofs::Handing::releases_none, crate::proofs::Handing::releases_not, crate::proofs::Handing::releases_done))]
+#[tactic(auto, using(crate::proofs::ByHandle::releases_none, crate::proofs::ByHandle::releases_not, crate::proofs::ByHandle::releases_done))]
 pub extern "C" fn vmig_release(alloc: Global, machine: &mut Handle, slots: &mut [Image]) -> u32
     ensures { Releases machine.old.machine slots.old slots.new result machine.new.machine }
 {
@@ -360,7 +273,7 @@ pub extern "C" fn vmig_work(machine: &mut Handle, turn: &mut Turn, buf: &mut [u8
 
 /// The disk of a device could not be brought to its file, and is lost from now on. It takes no memory.
 #[unsafe(no_mangle)]
-#[tactic(auto, using(crate::proofs::Failing::failed_none, crate::proofs::Failing::failed_some))]
+#[tactic(auto, using(crate::proofs::ByHandle::failed_none, crate::proofs::ByHandle::failed_some))]
 pub extern "C" fn vmig_sync_failed(machine: &mut Handle, dev: u8) -> u32
     ensures { Failed machine.old.machine dev result machine.new.machine }
 {
@@ -369,7 +282,7 @@ pub extern "C" fn vmig_sync_failed(machine: &mut Handle, dev: u8) -> u32
 
 /// Hands out the next call that a disk outside is to do. Of a write its bytes go to the front of the buffer. It takes no memory.
 #[unsafe(no_mangle)]
-#[tactic(auto, using(crate::proofs::HandedCalls::hands_none, crate::proofs::HandedCalls::hands_some))]
+#[tactic(auto, using(crate::proofs::ByHandle::hands_none, crate::proofs::ByHandle::hands_some))]
 pub extern "C" fn vmig_disk_call(machine: &mut Handle, call: &mut Call, buf: &mut [u8]) -> u32
     ensures { HandsCall machine.old.machine result call.new call.old buf.old buf.new machine.new.machine }
 {
@@ -378,7 +291,7 @@ pub extern "C" fn vmig_disk_call(machine: &mut Handle, call: &mut Call, buf: &mu
 
 /// A disk outside did this many sectors of a call, from its first one on: of a read with these bytes. It takes no memory.
 #[unsafe(no_mangle)]
-#[tactic(auto, using(crate::proofs::HandedCalls::answers_none, crate::proofs::HandedCalls::answers_some))]
+#[tactic(auto, using(crate::proofs::ByHandle::answers_none, crate::proofs::ByHandle::answers_some))]
 pub extern "C" fn vmig_disk_done(machine: &mut Handle, number: u64, count: u32, bytes: &[u8]) -> u32
     ensures { Done machine.old.machine number count bytes.now result machine.new.machine }
 {
@@ -387,7 +300,7 @@ pub extern "C" fn vmig_disk_done(machine: &mut Handle, number: u64, count: u32, 
 
 /// A disk outside failed at a call. It takes no memory.
 #[unsafe(no_mangle)]
-#[tactic(auto, using(crate::proofs::HandedCalls::answers_none, crate::proofs::HandedCalls::answers_some))]
+#[tactic(auto, using(crate::proofs::ByHandle::answers_none, crate::proofs::ByHandle::answers_some))]
 pub extern "C" fn vmig_disk_failed(machine: &mut Handle, number: u64) -> u32
     ensures { FailsCall machine.old.machine number result machine.new.machine }
 {
@@ -464,7 +377,7 @@ pub extern "C" fn vmig_mark(alloc: Global, machine: &mut Handle, written: &Pages
 /// Hands out the numbers of pages that steps and writes of the host wrote, ascending, as many as there is room for, and forgets these. It takes
 /// no memory.
 #[unsafe(no_mangle)]
-#[tactic(auto, using(crate::proofs::PageLogs::handed_none, crate::proofs::PageLogs::handed_some))]
+#[tactic(auto, using(crate::proofs::ByHandle::handed_none, crate::proofs::ByHandle::handed_some))]
 pub extern "C" fn vmig_written(machine: &mut Handle, pages: &mut [u32], count: &mut usize) -> u32
     ensures { HandedOut machine.old.machine result pages.old pages.new count.new count.old machine.new.machine }
 {

@@ -1,0 +1,92 @@
+-- Calls of disks outside, by cases on the state of what a handle has.
+use Rattle.std.proofs.Common.{◌≡◌, ◌+◌, ◌≤◌, ◌<◌, arith, length, ℕ, Bool, true, false, List, refl, sym, ap, ◌∙◌, subst, inl, inr, true≢false}
+use Rattle.std.specs.Prelude.{Option, Some, None, is_some}
+use Rattle.blk.specs.declared.outside.DiskCall.{DiskCall}
+use Rattle.disk_calls.specs.Calls.{AllCalls, without}
+use Rattle.disk_calls.specs.declared.calls.Place.{Place}
+use Rattle.machine.specs.Seen.{Seen, state_of}
+use Rattle.machine.specs.declared.event.DiskAnswer.{DiskAnswer}
+use Rattle.sender.specs.LiveState.{LiveSeen}
+use Rattle.c_handle.specs.DiskCalls.{HandsFrom, HandsUnless, HasHandedNone, IsOut, MeetsStill, asker_of, handing_refusal}
+use Rattle.machine.specs.State.{MachineState}
+use Rattle.c_handle.specs.Kept.{KeptSeen, State, Still, Moving, Arriving, Lent}
+use Rattle.c_handle.specs.Outside as outside
+use Rattle.c_handle.specs.Outside.{Answers, AnswersIf, AnswersKept, HandsCall, HandsKept, HasAnswered, HasNotAnswered, Meets, MeetsMoving, RefusedAnswersNothing, RefusedHandsNothing, Unfound, answer_refusal}
+use Rattle.c_handle.specs.OnHandle.{Unless}
+use Rattle.c_handle.specs.Resetting.{stop_refusal}
+use Rattle.c_handle.specs.declared.outside.Call.{Call}
+
+-- By the state.
+pub hands_still : (k : State) (m : Seen) (calls after : AllCalls) (status : ℕ) (call old_call : Call) (buf new_buf : List ℕ) → k ≡ Still m → HandsUnless None (state_of m) calls status call old_call buf new_buf after → HandsKept k calls status call old_call buf new_buf after
+hands_still k m calls after status call old_call buf new_buf is hands = subst (λ (x : State). HandsKept x calls status call old_call buf new_buf after) (sym is) hands
+
+pub hands_moving : (k : State) (l : LiveSeen) (calls after : AllCalls) (stopped : Option ℕ) (status : ℕ) (call old_call : Call) (buf new_buf : List ℕ) → k ≡ Moving l → stopped ≡ stop_refusal l.phase
+    → HandsUnless stopped (state_of l.machine) calls status call old_call buf new_buf after → HandsKept k calls status call old_call buf new_buf after
+hands_moving k l calls after stopped status call old_call buf new_buf is why hands =
+    subst (λ (x : State). HandsKept x calls status call old_call buf new_buf after) (sym is) (subst (λ (o : Option ℕ). HandsUnless o (state_of l.machine) calls status call old_call buf new_buf after) why hands)
+
+pub meets_still : (place : Place) (answer : DiskAnswer) (k : State) (m next : Seen) (log new_log : Option (List Bool)) (found : Option ℕ) → k ≡ Still m → found ≡ asker_of (state_of m) place → MeetsStill found answer m log place.dev next new_log
+    → Meets place answer k log (Still next) new_log
+meets_still place answer k m next log new_log found is asks meets =
+    subst (λ (x : State). Meets place answer x log (Still next) new_log) (sym is) (subst (λ (o : Option ℕ). MeetsStill o answer m log place.dev next new_log) asks meets)
+
+pub meets_moving : (place : Place) (answer : DiskAnswer) (k : State) (l next : LiveSeen) (log new_log : Option (List Bool)) (found : Option ℕ) → k ≡ Moving l → found ≡ asker_of (state_of l.machine) place → MeetsMoving found answer l log place.dev next new_log
+    → Meets place answer k log (Moving next) new_log
+meets_moving place answer k l next log new_log found is asks meets =
+    subst (λ (x : State). Meets place answer x log (Moving next) new_log) (sym is) (subst (λ (o : Option ℕ). MeetsMoving o answer l log place.dev next new_log) asks meets)
+
+-- By whether the call is out, and the answer is one to it.
+pub answered : (k : KeptSeen) (number : ℕ) (fits : DiskCall → Bool) (answer : DiskCall → DiskAnswer) (place : Place) (next : State) (log : Option (List Bool)) (calls : AllCalls) → answer_refusal k.state ≡ None → IsOut k.calls number place → fits place.call ≡ true
+    → Meets place (answer place.call) k.state k.written next log → calls ≡ without k.calls place.dev place.i → AnswersKept k number fits answer 0 next log calls
+answered k number fits answer place next log calls none out fit meets are =
+    rw none (inl (record { place = place; is_out = out; answered = rw fit (record { status_is = refl; meets = meets; calls_are = are }) }))
+
+pub misfit : (k : KeptSeen) (number : ℕ) (fits : DiskCall → Bool) (answer : DiskCall → DiskAnswer) (place : Place) → answer_refusal k.state ≡ None → IsOut k.calls number place → fits place.call ≡ false → AnswersKept k number fits answer 3 k.state k.written k.calls
+misfit k number fits answer place none out fit =
+    rw none (inl (record { place = place; is_out = out; answered = rw fit (record { status_is = refl; state_same = refl; log_same = refl; calls_same = refl }) }))
+
+unfound_by : (refusal : Option ℕ) (k : KeptSeen) (number : ℕ) (fits : DiskCall → Bool) (answer : DiskCall → DiskAnswer) (status : ℕ) → Unfound refusal k.calls number status
+    → Unless refusal (HasNotAnswered k status k.state k.written k.calls) (AnswersIf k number fits answer status k.state k.written k.calls)
+unfound_by (Some reason) k number fits answer status why = record { status_is = why; state_same = refl; log_same = refl; calls_same = refl }
+unfound_by None k number fits answer status why = inr (why.1, record { status_is = why.0; state_same = refl; log_same = refl; calls_same = refl })
+
+pub unfound : (k : KeptSeen) (number : ℕ) (fits : DiskCall → Bool) (answer : DiskCall → DiskAnswer) (status : ℕ) → Unfound (answer_refusal k.state) k.calls number status → AnswersKept k number fits answer status k.state k.written k.calls
+unfound k number fits answer status why = unfound_by (answer_refusal k.state) k number fits answer status why
+
+-- Why it is not found.
+pub refused_by : (refusal found : Option ℕ) (calls : AllCalls) (number status : ℕ) → found ≡ refusal → found ≡ Some status → Unfound refusal calls number status
+refused_by (Some reason) found calls number status is why = cc
+refused_by None found calls number status is why = cc
+
+-- What is refused changes nothing.
+same_none : (calls after : AllCalls) (status reason : ℕ) (call old_call : Call) (buf new_buf : List ℕ) → HasHandedNone calls status call old_call buf new_buf after reason → (after ≡ calls) × (call ≡ old_call) × (new_buf ≡ buf)
+same_none calls after status reason call old_call buf new_buf h = (h.calls_same, h.call_same, h.buf_same)
+
+same_unless : (refusal : Option ℕ) (m : MachineState) (calls after : AllCalls) (status : ℕ) (call old_call : Call) (buf new_buf : List ℕ) → status < 64
+    → Unless refusal (HasHandedNone calls status call old_call buf new_buf after) (HandsFrom m calls status call old_call buf new_buf after) → (after ≡ calls) × (call ≡ old_call) × (new_buf ≡ buf)
+same_unless (Some reason) m calls after status call old_call buf new_buf few h = same_none calls after status reason call old_call buf new_buf h
+same_unless None m calls after status call old_call buf new_buf few (inl h) = absurd (omega (arith, h.status_is, few))
+same_unless None m calls after status call old_call buf new_buf few (inr h) = same_none calls after status 65 call old_call buf new_buf h.1
+
+pub refused_hands_nothing : RefusedHandsNothing
+refused_hands_nothing (Still m) calls after status call old_call buf new_buf h some few = same_unless (handing_refusal None (length buf)) (state_of m) calls after status call old_call buf new_buf few h
+refused_hands_nothing (Moving l) calls after status call old_call buf new_buf h some few = same_unless (handing_refusal (stop_refusal l.phase) (length buf)) (state_of l.machine) calls after status call old_call buf new_buf few h
+refused_hands_nothing (Arriving r) calls after status call old_call buf new_buf h some few = same_none calls after status 8 call old_call buf new_buf h
+refused_hands_nothing (Lent x) calls after status call old_call buf new_buf h some few = same_none calls after status 23 call old_call buf new_buf h
+
+same_not : (k : KeptSeen) (status reason : ℕ) (next : State) (log : Option (List Bool)) (calls : AllCalls) → HasNotAnswered k status next log calls reason → (next ≡ k.state) × (log ≡ k.written) × (calls ≡ k.calls)
+same_not k status reason next log calls h = (h.state_same, h.log_same, h.calls_same)
+
+same_misfit : (refusal : Option ℕ) (k : KeptSeen) (place : Place) (answer : DiskAnswer) (status : ℕ) (next : State) (log : Option (List Bool)) (calls : AllCalls) → 1 ≤ status
+    → Unless refusal (HasNotAnswered k status next log calls) (HasAnswered k place answer status next log calls) → (next ≡ k.state) × (log ≡ k.written) × (calls ≡ k.calls)
+same_misfit (Some reason) k place answer status next log calls some h = same_not k status reason next log calls h
+same_misfit None k place answer status next log calls some h = absurd (omega (arith, h.status_is, some))
+
+same_answers : (refusal : Option ℕ) (k : KeptSeen) (number : ℕ) (fits : DiskCall → Bool) (answer : DiskCall → DiskAnswer) (status : ℕ) (next : State) (log : Option (List Bool)) (calls : AllCalls) → 1 ≤ status
+    → Unless refusal (HasNotAnswered k status next log calls) (AnswersIf k number fits answer status next log calls) → (next ≡ k.state) × (log ≡ k.written) × (calls ≡ k.calls)
+same_answers (Some reason) k number fits answer status next log calls some h = same_not k status reason next log calls h
+same_answers None k number fits answer status next log calls some (inl h) = same_misfit (outside.misfit (fits h.place.call)) k h.place (answer h.place.call) status next log calls some h.answered
+same_answers None k number fits answer status next log calls some (inr h) = same_not k status 28 next log calls h.1
+
+pub refused_answers_nothing : RefusedAnswersNothing
+refused_answers_nothing k number fits answer status next log calls h some = same_answers (answer_refusal k.state) k number fits answer status next log calls some h

@@ -1,0 +1,8 @@
+use Rattle.c_handle.proofs.PageLogs.{served_fits, none_served}
+use Rattle.c_handle.proofs.logging.live_stepped.Goals as goal
+
+pub returns-in-None-clause-logged : goal.returns-in-None-clause-logged
+returns-in-None-clause-logged g c = none_served _ _ _ _ _ c.in-None.is c.step_into.ensures.served
+
+pub returns-clause-fits : goal.returns-clause-fits
+returns-clause-fits g c = served_fits _ _ _ _ _ _ c.requires.fits c.step_into_logged.ensures.served

@@ -1,0 +1,117 @@
+-- The migration of a machine out of a handle, from its first call on: its history, and the bytes that C has taken. What C has
+-- taken, followed by what waits, is all that a machine that is being migrated has written. So after a stop it is the whole
+-- stream of the machine, and what is made of it on the other side is the machine.
+use Rattle.std.specs.Prelude.{◌≡◌, ◌≢◌, ◌++◌, ℕ, List, [], Some, false, length, map, take}
+use Rattle.region.specs.Address.{address}
+use Rattle.region.specs.declared.region.Region.{Region}
+use Rattle.guestmem.specs.Lent.{AreBelow, given_back}
+use Rattle.guestmem.specs.Memory.{IsMemory}
+use Rattle.machine.specs.Effect.{Effect}
+use Rattle.machine.specs.Seen.{AreHonest, Seen, state_of}
+use Rattle.machine.specs.Sound.{IsSound}
+use Rattle.machine.specs.State.{MachineState, base_of}
+use Rattle.machine.specs.declared.event.Event.{Event}
+use Rattle.machine.specs.declared.event.Event.TheVariants.{Step}
+use Rattle.machine.specs.declared.reply.Reply.TheVariants.{DiskFailed}
+use Rattle.sender.specs.Calls.{Serves}
+use Rattle.sender.specs.History.{History, guest_events, has_fault, nothing, phase_of, text, then_came}
+use Rattle.sender.specs.LiveState.{HasPlaces, LiveSeen, now}
+use Rattle.sender.specs.Marks.{AreAmong, IsBehind, MayCall, live_marked, still_behind}
+use Rattle.sender.specs.Parked.{KeepsWord, LiveParkedSeen, live_back, live_base, page_writes}
+use Rattle.sender.specs.ParkedCalls.{ServesParked}
+use Rattle.sender.specs.Taking.{untaken}
+use Rattle.sender.specs.Unsynced.{FailsLiveFlush}
+use Rattle.sender.specs.declared.event.LiveEvent.{LiveEvent}
+use Rattle.sender.specs.declared.event.LiveEvent.TheVariants.{Guest}
+use Rattle.sender.specs.declared.event.LiveReply.{LiveReply}
+use Rattle.sender.specs.declared.event.LiveReply.TheVariants as r
+use Rattle.sender.specs.declared.phase.Phase.TheVariants as phases
+use Rattle.wire.specs.Sinks.{over_writer}
+use Rattle.wire.specs.Stream.{IsStream}
+use Rattle.c_handle.specs.ArrivalSeen.{ArrivalSeen}
+use Rattle.c_handle.specs.Awaited.{HasArrived, HasCome, awaited_base}
+use Rattle.c_handle.specs.Lent.{IsLiveLoan}
+use Rattle.c_handle.specs.Migrated.{HasTaken, HasTakenLent, IsFresh}
+use Rattle.c_handle.specs.Mirror.{is_closed}
+
+-- This happened to the machine since its migration began, these bytes were taken, and no pages but these were written and are still to be
+-- named.
+abbrev pub IsSent : MachineState → History → List ℕ → List ℕ → LiveSeen → Type 0
+IsSent m h taken pages l = IsBehind m h (over_writer (Some []) 0 false) pages (untaken taken l)
+
+-- This holds at first, with an empty history and nothing taken.
+abbrev pub FirstIsSent : Type 0
+FirstIsSent = (m : Seen) (l : LiveSeen) → AreHonest m → IsFresh m l → IsSent (state_of m) nothing [] [] l
+
+-- So it stays: each call that answers adds to the history, where a round is ended, and a stop made, once no page is to be named,
+pub record StaysSent (m : MachineState) (h : History) (taken pages : List ℕ) (e : LiveEvent) (reply : LiveReply) (next : LiveSeen) : Type 0 where
+  pub effect : Effect
+  pub is_sent : IsSent m (then_came h e reply effect) taken pages next
+
+abbrev pub CallsStaySent : Type 0
+CallsStaySent = (m : MachineState) (h : History) (taken pages : List ℕ) (e : LiveEvent) (reply : LiveReply) (l next : LiveSeen) → IsSent m h taken pages l → HasPlaces l → MayCall pages e → Serves l e reply next
+    → StaysSent m h taken (still_behind reply pages) e reply next
+
+-- and so does a flush that fails in place of its step, with the reply that the disk failed,
+abbrev pub FailuresStaySent : Type 0
+FailuresStaySent = (m : MachineState) (h : History) (taken pages : List ℕ) (dev pick : ℕ) (l next : LiveSeen) → IsSent m h taken pages l → HasPlaces l → l.phase ≢ phases.Stopped → FailsLiveFlush l dev pick next
+    → StaysSent m h taken pages (Guest (Step dev pick)) (r.Guest DiskFailed) next
+
+-- and each taking, while there was memory for what waits, adds to what was taken.
+abbrev pub TakingsStaySent : Type 0
+TakingsStaySent = (m : MachineState) (h : History) (taken pages buf new_buf : List ℕ) (status got : ℕ) (l next : LiveSeen) → IsSent m h taken pages l → has_fault h ≡ false → HasTaken l status got buf new_buf next
+    → IsSent m h (taken ++ take got new_buf) pages next
+
+-- While RAM is lent: all this happened before or meanwhile, and so these bytes were taken, before the caller wrote anything.
+pub record IsSentLent (m : MachineState) (h : History) (taken pages : List ℕ) (before : Region) (p : LiveParkedSeen) : Type 0 where
+  pub lender : LiveSeen
+  pub is_sent : IsSent m h taken pages lender
+  pub loan : IsLiveLoan lender before p
+  pub goes : is_closed lender.phase ≡ false
+
+-- Each call that touches no byte of RAM adds to the history then too,
+pub record StaysSentLent (m : MachineState) (h : History) (taken pages : List ℕ) (e : LiveEvent) (reply : LiveReply) (before : Region) (next : LiveParkedSeen) : Type 0 where
+  pub effect : Effect
+  pub is_sent : IsSentLent m (then_came h e reply effect) taken pages before next
+
+abbrev pub LentCallsStaySent : Type 0
+LentCallsStaySent = (m : MachineState) (h : History) (taken pages : List ℕ) (e : Event) (reply : LiveReply) (before : Region) (p next : LiveParkedSeen) → IsSentLent m h taken pages before p → ServesParked p e reply next
+    → StaysSentLent m h taken (still_behind reply pages) (Guest e) reply before next
+
+-- and what is taken adds to what was taken.
+abbrev pub LentTakingsStaySent : Type 0
+LentTakingsStaySent = (m : MachineState) (h : History) (taken pages buf new_buf : List ℕ) (status got : ℕ) (before : Region) (p next : LiveParkedSeen) → IsSentLent m h taken pages before p → has_fault h ≡ false
+    → HasTakenLent p status got buf new_buf next → IsSentLent m h (taken ++ take got new_buf) pages before next
+
+-- These events of the guest are added to the history, nothing is written meanwhile, and no pages but these are still to be named.
+pub record GoesOnSent (m : MachineState) (h : History) (taken : List ℕ) (events : List Event) (pages : List ℕ) (next : LiveSeen) : Type 0 where
+  pub history : History
+  pub is_sent : IsSent m history taken pages next
+  pub came : guest_events history ≡ guest_events h ++ events
+  pub text_is : text m history ≡ text m h
+
+-- The address at which RAM begins, while it is lent.
+abbrev pub lent_base : LiveParkedSeen → ℕ
+lent_base p = base_of (map (λ d. d.state) p.parked.devices)
+
+-- RAM that is given back by a caller that wrote into no page but these is as if the guest had written them by calls of the machine: so
+-- these writes are added to the history. What the caller names is still to be named no longer.
+abbrev pub LentComesBackSent : Type 0
+LentComesBackSent = (m : MachineState) (h : History) (taken pages : List ℕ) (before after : Region) (written named rest : List ℕ) (p : LiveParkedSeen) → IsSentLent m h taken pages before p → KeepsWord before after (length p.parked.versions) written
+    → AreAmong named written → AreAmong (pages ++ written) (named ++ rest)
+    → GoesOnSent m h taken (page_writes (lent_base p) written after.content) rest (live_back p (given_back after.content (address after) p.parked.versions named) named)
+
+-- So is a mark: it adds writes of the pages that it names with the bytes that lie there.
+abbrev pub MarksStaySent : Type 0
+MarksStaySent = (m : MachineState) (h : History) (taken pages marks rest : List ℕ) (l : LiveSeen) → IsSent m h taken pages l → HasPlaces l → IsMemory l.machine.memory → l.phase ≢ phases.Stopped → AreBelow (length l.machine.memory.versions) marks
+    → AreAmong pages (marks ++ rest) → GoesOnSent m h taken (page_writes (live_base l) marks l.machine.memory.bytes) rest (live_marked l marks)
+
+-- After a stop, what was taken, followed by what waits, is the stream of the machine.
+abbrev pub StoppedIsWhole : Type 0
+StoppedIsWhole = (m : MachineState) (h : History) (taken : List ℕ) (l : LiveSeen) → IsSent m h taken [] l → IsSound m → phase_of h ≡ phases.Stopped → IsStream (taken ++ l.out.held) (now l)
+
+-- What arrives of these bytes is the machine, where its RAM was to begin at the address where the machine's begins: a stream does not
+-- say where RAM begins.
+abbrev pub ArrivedIsSent : Type 0
+ArrivedIsSent = (m : MachineState) (h : History) (taken : List ℕ) (l : LiveSeen) (r : ArrivalSeen) (arrived : Seen) → IsSent m h taken [] l → IsSound m → phase_of h ≡ phases.Stopped → HasCome r (taken ++ l.out.held) → awaited_base r ≡ live_base l → HasArrived r arrived
+    → state_of arrived ≡ now l

@@ -1,0 +1,76 @@
+//! Pages that are named later than they were written, without a loan between.
+//!
+//! A host that reads a log of dirty pages once a round gives RAM back many times before, and names nothing then. What is named here is
+//! written whole, with the bytes that lie there: for a machine that is being sent it is dirty, and its version rises.
+
+ghost use Rattle.std.specs.Prelude.{◌≡◌, false, length, true};
+ghost use Rattle.c_machine.specs.Named.{are_pages};
+ghost use Rattle.c_handle.specs.Late.{IsMarked, MarksKept, mark_refusal};
+ghost use Rattle.c_handle.specs.Mirror.{is_away, memory_in};
+
+use crate::kept::{Kept, by_state};
+use crate::mirror::{is_stopped, page_count, pages_in, ram_of};
+use c_machine::Pages;
+use c_machine::status::{DONE, NO_MEMORY, NOT_KNOWN, STOPPED};
+use guestmem::NoLog;
+use std::alloc::Global;
+use std::mem;
+
+/// Names pages that were written. For a list it takes no memory, and time for its pages alone.
+#[tactic(auto, using(crate::proofs::LatePages::marked_list, crate::proofs::LatePages::marked_named, crate::proofs::LatePages::mark_fit, crate::proofs::LatePages::not_marked, crate::proofs::LatePages::listed_pages, crate::proofs::LatePages::named_pages_are, crate::proofs::LatePages::mark_full, crate::proofs::LatePages::mark_here))]
+pub fn mark(alloc: Global, kept: &mut Kept, pages: &Pages) -> u32
+    ensures marks { MarksKept kept.old.state pages.now result kept.new.state }
+    ensures kind { kept.new ≡ record kept.old { state = kept.new.state } }
+{
+    if let Some(status) = mark_refusal(kept, pages) {
+        return status;
+    }
+    if !pages.needs_list() {
+        mark_listed(kept, pages.list);
+        return DONE;
+    }
+    let count = pages_in(kept);
+    let mut named = mem::replace(&mut kept.named, Vec::new(alloc));
+    let status = match pages.collect(count, &mut named) {
+        Ok(()) => {
+            mark_listed(kept, named.as_slice());
+            DONE
+        }
+        Err(_) => NO_MEMORY,
+    };
+    kept.named = named;
+    status
+}
+
+/// Names the pages with these numbers.
+#[tactic(auto, using(crate::proofs::LatePages::pages_below_still, crate::proofs::LatePages::pages_below_moving, crate::proofs::LatePages::marked_still, crate::proofs::LatePages::marked_moving, crate::proofs::SamePages::marked, crate::proofs::SamePages::marked_moving))]
+fn mark_listed(kept: &mut Kept, pages: &[u32])
+    requires here { is_away kept.old.state ≡ false }
+    requires are { are_pages (length (memory_in kept.old.state).versions) pages.now ≡ true }
+    ensures marked { IsMarked kept.old.state pages.now kept.new.state }
+    ensures kind { kept.new ≡ record kept.old { state = kept.new.state } }
+{
+    by_state!(&mut kept.held;
+        still(machine) => machine.mark(pages, &mut NoLog),
+        moving(live) => live.mark(pages),
+        lent(_) => unreachable!(),
+        arriving(_) => unreachable!(),
+    )
+}
+
+/// Why no page is named, if none is.
+fn mark_refusal(kept: &Kept, pages: &Pages) -> Option<u32>
+    ensures { result ≡ mark_refusal kept.now.state pages.now }
+{
+    let memory = match ram_of(kept) {
+        Ok(memory) => memory,
+        Err(status) => return Some(status),
+    };
+    if is_stopped(kept) {
+        return Some(STOPPED);
+    }
+    if !pages.is_known() {
+        return Some(NOT_KNOWN);
+    }
+    pages.refusal(page_count(memory) as usize)
+}

@@ -1,0 +1,158 @@
+//! Laws over the definitions alone. These functions do nothing: their contracts are the laws.
+
+ghost use Rattle.c_handle.specs.ArrivedLogs.{ArrivedHasPlaces};
+ghost use Rattle.c_handle.specs.Durable.{FailedIsLost, FailedMirrors, FailedStaysPlain, RefusedFailsNothing};
+ghost use Rattle.c_handle.specs.Mirror.{AppliedMirrors, PulledMirrors, PushedMirrors, UnseenMirrors};
+ghost use Rattle.c_machine.specs.Plain.{PlainStays, RefusedChangesNothing};
+ghost use Rattle.c_handle.specs.Outside.{RefusedAnswersNothing, RefusedHandsNothing};
+ghost use Rattle.c_handle.specs.Refused.{RefusedTellsNothing, RefusedWritesNothing};
+ghost use Rattle.c_handle.specs.Stepped.{RefusedStepsNothing};
+ghost use Rattle.c_handle.specs.Turns.{RefusedTurnsNothing, TurnsStaySent};
+ghost use Rattle.c_handle.specs.Sent.{ArrivedIsSent, CallsStaySent, FailuresStaySent, FirstIsSent, LentCallsStaySent, LentComesBackSent, LentTakingsStaySent, MarksStaySent, StoppedIsWhole, TakingsStaySent};
+
+/// A machine over disks in memory stays one.
+pub fn plain_stays()
+    ensures { PlainStays }
+{}
+
+/// An event whose status is from 1 to 63 changes nothing.
+pub fn refused_changes_nothing()
+    ensures { RefusedChangesNothing }
+{}
+
+/// The same for all contents of a handle, and no number is returned.
+pub fn refused_tells_nothing()
+    ensures { RefusedTellsNothing }
+{}
+
+/// The same for writes of RAM, and no page is logged.
+pub fn refused_writes_nothing()
+    ensures { RefusedWritesNothing }
+{
+    machine::laws::refused_changes_nothing();
+}
+
+/// The same for steps, also of a device whose disk is lost: no byte is sent, and no page is logged.
+pub fn refused_steps_nothing()
+    ensures { RefusedStepsNothing }
+{
+    machine::laws::refused_changes_nothing();
+}
+
+/// The same for turns of the devices.
+pub fn refused_turns_nothing()
+    ensures { RefusedTurnsNothing }
+{
+    machine::laws::refused_changes_nothing();
+}
+
+/// A failed sync that is refused, by a status from 1 to 63, changes nothing.
+pub fn refused_fails_nothing()
+    ensures { RefusedFailsNothing }
+{}
+
+/// Where no call of a disk outside is handed out, by a status from 1 to 63, nothing changed.
+pub fn refused_hands_nothing()
+    ensures { RefusedHandsNothing }
+{}
+
+/// An answer of a disk outside that is refused changes nothing: the call is still out.
+pub fn refused_answers_nothing()
+    ensures { RefusedAnswersNothing }
+{}
+
+/// After one that was not refused the disk is lost.
+pub fn failed_is_lost()
+    ensures { FailedIsLost }
+{}
+
+/// A machine over disks in memory stays one also if a flush fails in place of its step.
+pub fn failed_stays_plain()
+    ensures { FailedStaysPlain }
+{}
+
+/// A machine whose migration has just begun has no history, and nothing of its stream was taken.
+pub fn first_is_sent()
+    ensures { FirstIsSent }
+{}
+
+/// Each call of a machine that is being migrated adds its answer to the history, whatever was taken before. A round is ended, and a stop
+/// made, once no page is still to be named.
+pub fn calls_stay_sent()
+    ensures { CallsStaySent }
+{}
+
+/// A turn of the devices adds its steps, each with its answer.
+pub fn turns_stay_sent()
+    ensures { TurnsStaySent }
+{}
+
+/// A flush that fails in place of its step adds that step to the history, as one whose disk failed.
+pub fn failures_stay_sent()
+    ensures { FailuresStaySent }
+{}
+
+/// What is taken follows what was taken before, and the history stays.
+pub fn takings_stay_sent()
+    ensures { TakingsStaySent }
+{}
+
+/// So it is of a call that is made while RAM is lent.
+pub fn lent_calls_stay_sent()
+    ensures { LentCallsStaySent }
+{}
+
+/// So it is of what is taken while RAM is lent.
+pub fn lent_takings_stay_sent()
+    ensures { LentTakingsStaySent }
+{}
+
+/// RAM that is given back adds the writes of the pages that were written to the history. Those that it does not name are still to be named.
+pub fn lent_comes_back_sent()
+    ensures { LentComesBackSent }
+{}
+
+/// A mark of pages adds writes of them with the bytes that lie there, and they are still to be named no longer.
+pub fn marks_stay_sent()
+    ensures { MarksStaySent }
+{}
+
+/// After a stop that was done, what was taken and what still waits are the stream of the machine.
+pub fn stopped_is_whole()
+    ensures { StoppedIsWhole }
+{}
+
+/// The machine that arrives from these bytes, fed in any pieces, is the one that was stopped.
+pub fn arrived_is_sent()
+    ensures { ArrivedIsSent }
+{}
+
+/// No machine that was let in is refused at its end for want of places in its log.
+pub fn arrived_has_places()
+    ensures { ArrivedHasPlaces }
+{}
+
+/// The memory of a caller that has seen no page is a mirror.
+pub fn unseen_mirrors()
+    ensures { UnseenMirrors }
+{}
+
+/// A mirror of a machine's RAM stays one, whatever is applied to the machine.
+pub fn applied_mirrors()
+    ensures { AppliedMirrors }
+{}
+
+/// So does a flush that fails in place of its step.
+pub fn failed_mirrors()
+    ensures { FailedMirrors }
+{}
+
+/// After a pull into a mirror, its RAM is the machine's.
+pub fn pulled_mirrors()
+    ensures { PulledMirrors }
+{}
+
+/// Pages that were pushed are mirrored, and so are all others that were mirrored before.
+pub fn pushed_mirrors()
+    ensures { PushedMirrors }
+{}

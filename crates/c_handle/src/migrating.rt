@@ -1,0 +1,327 @@
+//! The calls of a migration, applied to the contents of a handle.
+
+ghost use Rattle.std.specs.Prelude.{◌≡◌, ◌++◌, IfErr, IfOk, drop, length, min, take};
+ghost use Rattle.disk_calls.specs.Calls.{is_any_out};
+ghost use Rattle.c_handle.specs.Migrated.{AbortsKept, AreTold, BeginsKept, EndsKept, HasBegun, HasEnded, HasStopped, HasTaken, IsAnswered, IsLeft, IsLeftLent, LeavesKept, SendsKept, SendsSome, SendsUpTo, StopsKept, StopsUnless, TakesKept, send_refusal};
+ghost use Rattle.c_handle.specs.Kept.{are_mapped, held_state, state_in};
+
+use crate::arrival::Arrival;
+use crate::kept::{Contents, Held, Kept, Moving, by_state, turned};
+use crate::loan::MovingLent;
+use crate::status::mig_status;
+use c_machine::status::{
+    CALLS_OUT, DONE, LENT, NO_MEMORY, NOT_SENDING, ROUND_DONE, ROUND_OPEN, SEND_FAILED, STOPPED,
+};
+use machine::{Disk, Machine};
+use sender::{End, Left, LiveWaiting, Phase, Stopped};
+use std::alloc::Global;
+use std::mem;
+use wire::Waiting;
+
+/// What is still to be sent.
+#[derive(Clone, Copy)]
+#[repr(C)]
+pub struct SendLeft {
+    /// How many pages are due in this round.
+    pub due_pages: u64,
+
+    /// How many sectors are due in this round.
+    pub due_sectors: u64,
+
+    /// How many pages were written since they were sent, or since the round began.
+    pub dirty_pages: u64,
+
+    /// How many sectors were.
+    pub dirty_sectors: u64,
+
+    /// The most bytes that a stop would write.
+    pub stop_bytes: u64,
+
+    /// Zeros, reserved for later versions.
+    pub reserved: [u64; 3],
+}
+
+/// Begins the migration of a machine that is not being migrated.
+#[tactic(auto, using(crate::proofs::SamePages::begun))]
+pub fn begin(alloc: Global, kept: &mut Kept) -> u32
+    ensures begins { BeginsKept kept.old.state result kept.new.state }
+    ensures kind { kept.new ≡ record kept.old { state = kept.new.state } }
+{
+    let (next, status) = begun(alloc, taken_out(&mut kept.held));
+    drop(mem::replace(&mut kept.held, next));
+    status
+}
+
+/// Takes what is held out while it is turned into something else. The stand-in takes no memory.
+pub(crate) fn taken_out(held: &mut Held) -> Held
+    ensures { result ≡ held.old }
+{
+    mem::replace(held, Held::Arriving(Arrival::failed()))
+}
+
+fn begun(alloc: Global, old: Held) -> (Held, u32)
+    ensures begins { BeginsKept (held_state old) result.1 (held_state result.0) }
+    ensures kind { are_mapped result.0 ≡ are_mapped old }
+{
+    turned!(old; contents => begun_in(alloc, contents))
+}
+
+fn begun_in<D: Disk>(alloc: Global, old: Contents<D>) -> (Contents<D>, u32)
+    ensures { BeginsKept (state_in old) result.1 (state_in result.0) }
+{
+    match old {
+        Contents::Still(machine) => match begun_of(alloc, machine) {
+            Ok(live) => (Contents::Moving(live), DONE),
+            Err(machine) => (Contents::Still(machine), NO_MEMORY),
+        },
+        Contents::Moving(live) => {
+            let (live, status) = begun_again(live);
+            (Contents::Moving(live), status)
+        }
+        Contents::Lent(loan) => (Contents::Lent(loan), LENT),
+    }
+}
+
+/// Begins the migration of a machine. If memory is refused, gives the machine back as it was.
+#[tactic(auto, using(crate::proofs::Migration::not_begun))]
+fn begun_of<D: Disk>(alloc: Global, machine: Machine<D>) -> Result<Moving<D>, Machine<D>>
+    ensures begun { IfOk result (λ live. HasBegun machine 0 live) }
+    ensures same { IfErr result (λ left. left ≡ machine) }
+{
+    match LiveWaiting::new(alloc, machine, Waiting::new(alloc)) {
+        Ok(live) => {
+            let mut live = live;
+            live.recall();
+            match live.begin() {
+                Ok(_) => Ok(live),
+                Err(_) => Err(live.abort()),
+            }
+        }
+        Err((_, machine, _waiting)) => Err(machine),
+    }
+}
+
+/// A call to begin for a machine that is already being migrated.
+#[tactic(auto, using(crate::proofs::Migration::begun_again))]
+fn begun_again<D: Disk>(live: Moving<D>) -> (Moving<D>, u32)
+    ensures { IsAnswered live result.1 result.0 }
+{
+    let mut live = live;
+    live.recall();
+    match live.begin() {
+        Ok(_) => (live, DONE),
+        Err(error) => (live, mig_status(error)),
+    }
+}
+
+/// Sends at most `most` items that are due.
+#[tactic(auto, using(crate::proofs::ByState::by_still, crate::proofs::ByState::by_moving, crate::proofs::SamePages::sent))]
+pub fn send_some(kept: &mut Kept, most: u32) -> u32
+    ensures sends { SendsKept kept.old.state most result kept.new.state }
+    ensures kind { kept.new ≡ record kept.old { state = kept.new.state } }
+{
+    by_state!(&mut kept.held;
+        still(_) => NOT_SENDING,
+        moving(live) => some_status(live, most),
+    )
+}
+
+/// Sends the least due item, at most `most` times, while there is one.
+#[tactic(auto, using(crate::proofs::Migration::some_refused, crate::proofs::Migration::some_sent))]
+fn some_status<D: Disk>(live: &mut Moving<D>, most: u32) -> u32
+    ensures { SendsSome live.old most result live.new }
+{
+    if let Some(status) = send_refusal(live.phase()) {
+        return status;
+    }
+    send_up_to(live, most)
+}
+
+#[tactic(auto, using(crate::proofs::Migration::none_left, crate::proofs::Migration::one_sent, crate::proofs::Migration::one_refused, crate::proofs::Migration::all_sent, crate::proofs::Migration::none_at_end))]
+fn send_up_to<D: Disk>(live: &mut Moving<D>, most: u32) -> u32
+    ensures { SendsUpTo most live.old result live.new }
+{
+    let mut left = most;
+    while left > 0 {
+        if live.remaining().due == 0 {
+            return ROUND_DONE;
+        }
+        live.recall();
+        if let Err(error) = live.copy() {
+            return mig_status(error);
+        }
+        left -= 1;
+    }
+    if live.remaining().due == 0 {
+        return ROUND_DONE;
+    }
+    DONE
+}
+
+/// Why nothing is sent in this phase, if so.
+fn send_refusal(phase: Phase) -> Option<u32>
+    ensures { result ≡ send_refusal phase }
+{
+    match phase {
+        Phase::Open(_) => None,
+        Phase::Fresh => Some(NOT_SENDING),
+        Phase::Stopped => Some(STOPPED),
+        Phase::Failed => Some(SEND_FAILED),
+    }
+}
+
+/// Ends a round.
+#[tactic(auto, using(crate::proofs::ByState::by_still, crate::proofs::ByState::by_moving, crate::proofs::SamePages::ended))]
+pub fn send_round(kept: &mut Kept) -> u32
+    ensures ends { EndsKept kept.old.state result kept.new.state }
+    ensures kind { kept.new ≡ record kept.old { state = kept.new.state } }
+{
+    by_state!(&mut kept.held;
+        still(_) => NOT_SENDING,
+        moving(live) => round_status(live),
+    )
+}
+
+#[tactic(auto, using(crate::proofs::Migration::ended))]
+fn round_status<D: Disk>(live: &mut Moving<D>) -> u32
+    ensures { HasEnded live.old result live.new }
+{
+    live.recall();
+    match live.end_round() {
+        Ok(End::Begun(_)) => DONE,
+        Ok(End::RoundOpen) => ROUND_OPEN,
+        Err(error) => mig_status(error),
+    }
+}
+
+/// Sends what is left, and closes the stream, unless a call of a disk outside is out: a write of this host's storage would come after one of the
+/// target's.
+#[tactic(auto, using(crate::proofs::ByState::by_still, crate::proofs::ByState::by_moving, crate::proofs::SamePages::stopped))]
+pub fn stop(kept: &mut Kept, pages: &mut u64, sectors: &mut u64) -> u32
+    ensures stops { StopsKept (is_any_out kept.old.calls) kept.old.state result pages.new pages.old sectors.new sectors.old kept.new.state }
+    ensures kind { kept.new ≡ record kept.old { state = kept.new.state } }
+{
+    let out = kept.calls.is_any_out();
+    by_state!(&mut kept.held;
+        still(_) => NOT_SENDING,
+        moving(live) => stop_unless(out, live, pages, sectors),
+    )
+}
+
+fn stop_unless<D: Disk>(out: bool, live: &mut Moving<D>, pages: &mut u64, sectors: &mut u64) -> u32
+    ensures { StopsUnless out live.old result pages.new pages.old sectors.new sectors.old live.new }
+{
+    if out {
+        return CALLS_OUT;
+    }
+    stop_status(live, pages, sectors)
+}
+
+#[tactic(auto, using(crate::proofs::Migration::stopped))]
+fn stop_status<D: Disk>(live: &mut Moving<D>, pages: &mut u64, sectors: &mut u64) -> u32
+    ensures { HasStopped live.old result pages.new pages.old sectors.new sectors.old live.new }
+{
+    live.recall();
+    match live.stop() {
+        Ok(
+            Stopped {
+                pages: sent,
+                sectors: also,
+            },
+        ) => {
+            *pages = sent;
+            *sectors = also;
+            DONE
+        }
+        Err(error) => mig_status(error),
+    }
+}
+
+/// Ends the migration of a machine.
+#[tactic(auto, using(crate::proofs::SamePages::aborted))]
+pub fn abort(kept: &mut Kept) -> u32
+    ensures aborts { AbortsKept kept.old.state result kept.new.state }
+    ensures kind { kept.new ≡ record kept.old { state = kept.new.state } }
+{
+    let (next, status) = aborted(taken_out(&mut kept.held));
+    drop(mem::replace(&mut kept.held, next));
+    status
+}
+
+fn aborted(old: Held) -> (Held, u32)
+    ensures aborts { AbortsKept (held_state old) result.1 (held_state result.0) }
+    ensures kind { are_mapped result.0 ≡ are_mapped old }
+{
+    turned!(old; contents => aborted_in(contents))
+}
+
+fn aborted_in<D: Disk>(old: Contents<D>) -> (Contents<D>, u32)
+    ensures { AbortsKept (state_in old) result.1 (state_in result.0) }
+{
+    match old {
+        Contents::Still(machine) => (Contents::Still(machine), NOT_SENDING),
+        Contents::Moving(live) => (Contents::Still(live.abort()), DONE),
+        Contents::Lent(loan) => (Contents::Lent(loan), LENT),
+    }
+}
+
+/// What is still to be sent.
+pub fn left(kept: &Kept, left: &mut SendLeft) -> u32
+    ensures { LeavesKept kept.now.state result left.new left.old }
+{
+    by_state!(&kept.held;
+        still(_) => NOT_SENDING,
+        moving(live) => tell_left(live, left),
+        still_lent(_) => NOT_SENDING,
+        moving_lent(live) => tell_left_lent(live, left),
+    )
+}
+
+fn tell_left<D: Disk>(live: &Moving<D>, left: &mut SendLeft) -> u32
+    ensures { IsLeft live.now result left.new }
+{
+    let items = live.left();
+    left_status(items, live.most_by_stop(), left)
+}
+
+fn tell_left_lent<D: Disk>(live: &MovingLent<D>, left: &mut SendLeft) -> u32
+    ensures { IsLeftLent live.now result left.new }
+{
+    let items = live.left();
+    left_status(items, live.most_by_stop(), left)
+}
+
+/// The struct of these counts, and of the most bytes that a stop would write.
+fn left_status(items: Left, stop_bytes: u64, left: &mut SendLeft) -> u32
+    ensures { AreTold items stop_bytes result left.new }
+{
+    *left = SendLeft {
+        due_pages: items.due_pages,
+        due_sectors: items.due_sectors,
+        dirty_pages: items.dirty_pages,
+        dirty_sectors: items.dirty_sectors,
+        stop_bytes,
+        reserved: [0; 3],
+    };
+    DONE
+}
+
+/// Takes the first of the bytes that wait into the front of the buffer.
+#[tactic(auto, using(crate::proofs::Migration::still_takes, crate::proofs::Migration::moving_takes, crate::proofs::SamePages::taken, crate::proofs::SamePages::taken_lent))]
+pub fn take(kept: &mut Kept, buf: &mut [u8], got: &mut usize) -> u32
+    ensures takes { TakesKept kept.old.state result got.new got.old buf.old buf.new kept.new.state }
+    ensures kind { kept.new ≡ record kept.old { state = kept.new.state } }
+{
+    by_state!(&mut kept.held;
+        still(_) => NOT_SENDING,
+        moving(live) => take_status(live, buf, got),
+        lent(loan) => loan.take(buf, got),
+    )
+}
+
+fn take_status<D: Disk>(live: &mut Moving<D>, buf: &mut [u8], got: &mut usize) -> u32
+    ensures { HasTaken live.old result got.new buf.old buf.new live.new }
+{
+    *got = live.take(buf);
+    DONE
+}

@@ -1,0 +1,371 @@
+//! Calls of disks outside, handed out to C and answered by it.
+//!
+//! The library calls nobody, so C asks, does what it gets in its own time, and answers by a number. What is out lies beside the machine
+//! (`calls_out`). An answer is the machine's event, at the pick of the request that asked; the bytes of a read are taken from the caller's slice.
+
+ghost use Rattle.std.specs.Prelude.{◌≡◌, ◌≤◌, ◌<◌, ◌*◌, ◌/◌, ◌^◌, ◌-◌, ℕ, None, IfErr, IfOk, length, min, true};
+ghost use Rattle.disk_calls.specs.Calls.{without};
+ghost use Rattle.machine.specs.Seen.{state_of};
+ghost use Rattle.machine.specs.declared.event.DiskAnswer.TheVariants as answers;
+ghost use Rattle.machine.specs.declared.machine.TheConstants.{DEVICES_MAX};
+ghost use Rattle.c_handle.specs.DiskCalls.{HandsFrom, HandsUnless, IsAllowed, IsAskedFor, IsOut, MeetsStill, answer_in, answers_call, asker_of, counted, done_as, done_with, filled_with, fits_done, is_durable, is_part, told_call, what_of};
+ghost use Rattle.c_handle.specs.Kept.{FitsLog};
+ghost use Rattle.c_handle.specs.Outside.{AnswersKept, HandsKept, Meets, MeetsMoving, Unfound, answer_refusal};
+
+use crate::calls_out::CallsOut;
+use crate::kept::{Kept, Moving, by_state};
+use crate::logging::{gave, live_gave};
+use crate::resetting::stop_refusal;
+use blk::{DiskCall, SECTOR_SIZE, What};
+use c_machine::status::{CALL, DONE, IDLE, LENT, NO_MACHINE, NOT_OUT, TOO_LONG, TOO_SMALL};
+use disk_calls::{Handed, Place};
+use machine::{Disk, Machine, OutsideCall, PageLog};
+
+/// A call of a disk outside: what its host is to do. It names no memory.
+#[derive(Clone, Copy)]
+#[repr(C)]
+pub struct Call {
+    /// It names the call until it is answered. No other call of this handle's machine has it.
+    pub number: u64,
+
+    /// The first sector; 0 of a flush.
+    pub first: u64,
+
+    /// How many sectors, of 512 bytes each; 0 of a flush.
+    pub count: u32,
+
+    /// The device.
+    pub dev: u8,
+
+    /// 1 to read, 2 to write, 3 to clear, 4 to flush.
+    pub what: u8,
+
+    /// Of a write, or a clearing, whether it has to be durable before it is answered, 1 or 0.
+    pub durable: u8,
+
+    /// Zero, reserved for later versions.
+    pub zero: u8,
+
+    /// Zeros, reserved for later versions.
+    pub reserved: [u64; 2],
+}
+
+/// Hands out the next call. Of a write its bytes go to the front of the buffer. It takes no memory.
+#[tactic(auto, using(crate::proofs::HandedCalls::hands_still, crate::proofs::HandedCalls::hands_moving))]
+pub fn hand_call(kept: &mut Kept, call: &mut Call, buf: &mut [u8]) -> u32
+    ensures hands { HandsKept kept.old.state kept.old.calls result call.new call.old buf.old buf.new kept.new.calls }
+    ensures kind { kept.new ≡ record kept.old { calls = kept.new.calls } }
+{
+    by_state!(&kept.held;
+        still(machine) => hand_unless(None, machine, &mut kept.calls, call, buf),
+        moving(live) => {
+            let stopped = stop_refusal(live.phase());
+            hand_unless(stopped, live.machine(), &mut kept.calls, call, buf)
+        },
+    )
+}
+
+/// As above, of a machine, unless it was stopped.
+fn hand_unless<D: Disk>(
+    stopped: Option<u32>,
+    machine: &Machine<D>,
+    calls: &mut CallsOut,
+    call: &mut Call,
+    buf: &mut [u8],
+) -> u32
+    ensures { HandsUnless stopped (state_of machine.now) calls.old result call.new call.old buf.old buf.new calls.new }
+{
+    if let Some(status) = stopped {
+        return status;
+    }
+    if buf.len() < SECTOR_SIZE {
+        return TOO_SMALL;
+    }
+    hand_from(machine, calls, call, buf)
+}
+
+fn hand_from<D: Disk>(
+    machine: &Machine<D>,
+    calls: &mut CallsOut,
+    call: &mut Call,
+    buf: &mut [u8],
+) -> u32
+    requires { 512 ≤ length buf.old }
+    ensures { HandsFrom (state_of machine.now) calls.old result call.new call.old buf.old buf.new calls.new }
+{
+    let Some(handed) = calls.next(machine, most_for(buf.len())) else {
+        return IDLE;
+    };
+    *call = tell_call(machine, handed, buf);
+    CALL
+}
+
+/// How many sectors a buffer of this size has room for.
+fn most_for(len: usize) -> u32
+    ensures { result ≡ min (len / 512) (2 ^ 32 - 1) }
+{
+    (len / SECTOR_SIZE).min(u32::MAX as usize) as u32
+}
+
+/// The call as C gets it. Its bytes, if it writes some, are put into the buffer.
+fn tell_call<D: Disk>(machine: &Machine<D>, handed: Handed, buf: &mut [u8]) -> Call
+    requires there { handed.dev < DEVICES_MAX }
+    requires asked { IsAskedFor (state_of machine.now) handed }
+    requires room { 512 * handed.call.count ≤ length buf.old }
+    ensures call { result ≡ told_call (state_of machine.now) handed }
+    ensures buf { buf.new ≡ filled_with (state_of machine.now) handed buf.old }
+    ensures allowed { IsAllowed (state_of machine.now) handed }
+{
+    let Handed {
+        number,
+        dev,
+        k,
+        call,
+    } = handed;
+    let _shapes = machine.shapes();
+    let (dev, pick) = (dev as u8, k as u8 + 1);
+    let bytes = SECTOR_SIZE * call.count as usize;
+    let _written = machine.written_bytes(dev, pick, &mut buf[..bytes]);
+    let asked = machine.disk_call(dev, pick);
+    Call {
+        number,
+        first: call.first,
+        count: counted(call),
+        dev,
+        what: what_of(call.what),
+        durable: is_durable(asked),
+        zero: 0,
+        reserved: [0; 2],
+    }
+}
+
+/// How many sectors C is told that a call has: none of a flush.
+fn counted(call: DiskCall) -> u32
+    ensures { result ≡ counted call.what call.count }
+{
+    match call.what {
+        What::Read | What::Write | What::Clear => call.count,
+        What::Flush => 0,
+    }
+}
+
+/// The number of what a call asks for.
+fn what_of(what: What) -> u8
+    ensures { result ≡ what_of what }
+{
+    match what {
+        What::Read => 1,
+        What::Write => 2,
+        What::Clear => 3,
+        What::Flush => 4,
+    }
+}
+
+/// Whether what a request asks for has to be durable before it is answered.
+fn is_durable(asked: Option<OutsideCall>) -> u8
+    ensures { result ≡ is_durable asked }
+{
+    match asked {
+        Some(asked) => asked.durable as u8,
+        None => 0,
+    }
+}
+
+/// The answer of a host's disk.
+#[derive(Clone, Copy)]
+pub(crate) enum Given<'a> {
+    /// These bytes.
+    Bytes(&'a [u8]),
+
+    /// That it did this many sectors, or one flush.
+    Units(u32),
+
+    /// That it failed.
+    Nothing,
+}
+
+/// The host's disk did this many sectors of a call, and gave these bytes of them. It takes no memory.
+#[tactic(auto, using(crate::proofs::HandedCalls::answered, crate::proofs::HandedCalls::misfit, crate::proofs::HandedCalls::unfound))]
+pub fn answer_done(kept: &mut Kept, number: u64, count: u32, bytes: &[u8]) -> u32
+    ensures answers { AnswersKept kept.old number (fits_done count bytes.now) (done_with count bytes.now) result kept.new.state kept.new.written kept.new.calls }
+    ensures kind { kept.new ≡ record kept.old { state = kept.new.state; written = kept.new.written; calls = kept.new.calls } }
+{
+    let place = match place_of(kept, number) {
+        Ok(place) => place,
+        Err(status) => return status,
+    };
+    let DiskCall {
+        what,
+        count: all,
+        ..
+    } = place.call;
+    if !answers_call(what, all, count, bytes.len()) {
+        return TOO_LONG;
+    }
+    hand_in(kept, place, done_as(what, count, bytes));
+    DONE
+}
+
+/// The host's disk failed at a call. It takes no memory.
+#[tactic(auto, using(crate::proofs::HandedCalls::answered, crate::proofs::HandedCalls::unfound))]
+pub fn answer_failed(kept: &mut Kept, number: u64) -> u32
+    ensures answers { AnswersKept kept.old number (λ call. true) (λ call. answers.Failed) result kept.new.state kept.new.written kept.new.calls }
+    ensures kind { kept.new ≡ record kept.old { state = kept.new.state; written = kept.new.written; calls = kept.new.calls } }
+{
+    let place = match place_of(kept, number) {
+        Ok(place) => place,
+        Err(status) => return status,
+    };
+    hand_in(kept, place, Given::Nothing);
+    DONE
+}
+
+/// Where the call with this number is, or the status that says why it is not answered.
+#[tactic(auto, using(crate::proofs::HandedCalls::refused_by))]
+fn place_of(kept: &Kept, number: u64) -> Result<Place, u32>
+    ensures found { IfOk result (λ place. (answer_refusal kept.now.state ≡ None) × IsOut kept.now.calls number place × (place.dev < DEVICES_MAX)) }
+    ensures refused { IfErr result (λ status. Unfound (answer_refusal kept.now.state) kept.now.calls number status) }
+{
+    if let Some(status) = answer_refusal(kept) {
+        return Err(status);
+    }
+    match kept.calls.find(number) {
+        Some(place) => Ok(place),
+        None => Err(NOT_OUT),
+    }
+}
+
+/// Why no call is answered, whatever its number, if so.
+fn answer_refusal(kept: &Kept) -> Option<u32>
+    ensures { result ≡ answer_refusal kept.now.state }
+{
+    by_state!(&kept.held;
+        still(_) => None,
+        moving(live) => stop_refusal(live.phase()),
+        lent(_) => Some(LENT),
+        arriving(_) => Some(NO_MACHINE),
+    )
+}
+
+/// Whether this many sectors and bytes are an answer to a call of `all` sectors.
+fn answers_call(what: What, all: u32, count: u32, bytes: usize) -> bool
+    ensures { result ≡ answers_call what all count bytes }
+{
+    match what {
+        What::Read => is_part(count, all) && bytes == SECTOR_SIZE * count as usize,
+        What::Write | What::Clear => is_part(count, all) && bytes == 0,
+        What::Flush => count == 0 && bytes == 0,
+    }
+}
+
+fn is_part(count: u32, all: u32) -> bool
+    ensures { result ≡ is_part count all }
+{
+    count > 0 && count <= all
+}
+
+/// The answer that this much of a call was done. A flush is one unit.
+fn done_as(what: What, count: u32, bytes: &[u8]) -> Given<'_>
+    ensures { answer_in result ≡ done_as what count bytes.now }
+{
+    match what {
+        What::Read => Given::Bytes(bytes),
+        What::Write | What::Clear => Given::Units(count),
+        What::Flush => Given::Units(1),
+    }
+}
+
+/// Hands the answer of a call to the request that asked for it, if it still waits, and takes the call out.
+#[tactic(auto, using(crate::proofs::HandedCalls::meets_still, crate::proofs::HandedCalls::meets_moving))]
+fn hand_in(kept: &mut Kept, place: Place, given: Given<'_>)
+    requires goes { answer_refusal kept.old.state ≡ None }
+    requires out { (number : ℕ) × IsOut kept.old.calls number place }
+    requires there { place.dev < DEVICES_MAX }
+    ensures meets { Meets place (answer_in given.entry) kept.old.state kept.old.written kept.new.state kept.new.written }
+    ensures calls { kept.new.calls ≡ without kept.old.calls place.dev place.i }
+    ensures kind { kept.new ≡ record kept.old { state = kept.new.state; written = kept.new.written; calls = kept.new.calls } }
+{
+    let Kept {
+        held,
+        calls,
+        output,
+        ..
+    } = kept;
+    by_state!(held;
+        still(machine) => {
+            let asker = calls.asker(&*machine, place);
+            meet_still(machine, place, asker, given, &mut output.written)
+        },
+        moving(live) => {
+            let asker = calls.asker(live.machine(), place);
+            meet_moving(live, place, asker, given, &mut output.written)
+        },
+        lent(_) => unreachable!(),
+        arriving(_) => unreachable!(),
+    );
+    calls.remove(place);
+}
+
+/// Hands an answer to a request, by its place from 0, if there is one.
+fn meet_still<D: Disk>(
+    machine: &mut Machine<D>,
+    place: Place,
+    asker: Option<usize>,
+    given: Given<'_>,
+    log: &mut Option<PageLog>,
+)
+    requires fits { FitsLog log.old (length machine.old.memory.bytes) }
+    requires there { place.dev < DEVICES_MAX }
+    requires asked { asker ≡ asker_of (state_of machine.old) place }
+    ensures meets { MeetsStill asker (answer_in given.entry) machine.old log.old place.dev machine.new log.new }
+    ensures fits { FitsLog log.new (length machine.new.memory.bytes) }
+{
+    let Some(k) = asker else {
+        return;
+    };
+    let _shapes = machine.shapes();
+    let (dev, pick) = (place.dev as u8, k as u8 + 1);
+    match given {
+        Given::Bytes(bytes) => {
+            let _gave = gave(machine, dev, pick, bytes, log);
+        }
+        Given::Units(count) => {
+            let _did = machine.disk_did(dev, pick, count);
+        }
+        Given::Nothing => {
+            let _failed = machine.disk_failed(dev, pick);
+        }
+    }
+}
+
+/// As above, for a machine that is being migrated.
+fn meet_moving<D: Disk>(
+    live: &mut Moving<D>,
+    place: Place,
+    asker: Option<usize>,
+    given: Given<'_>,
+    log: &mut Option<PageLog>,
+)
+    requires fits { FitsLog log.old (length live.old.machine.memory.bytes) }
+    requires there { place.dev < DEVICES_MAX }
+    requires asked { asker ≡ asker_of (state_of live.old.machine) place }
+    ensures meets { MeetsMoving asker (answer_in given.entry) live.old log.old place.dev live.new log.new }
+    ensures fits { FitsLog log.new (length live.new.machine.memory.bytes) }
+{
+    let Some(k) = asker else {
+        return;
+    };
+    live.recall();
+    let (dev, pick) = (place.dev as u8, k as u8 + 1);
+    match given {
+        Given::Bytes(bytes) => {
+            let _gave = live_gave(live, dev, pick, bytes, log);
+        }
+        Given::Units(count) => {
+            let _did = live.disk_did(dev, pick, count);
+        }
+        Given::Nothing => {
+            let _failed = live.disk_failed(dev, pick);
+        }
+    }
+}

@@ -1,5 +1,0 @@
-use Rattle.vmig_c.proofs.HandedCalls.{refused_hands_nothing as proved}
-use Rattle.vmig_c.proofs.laws.refused_hands_nothing.Goals as goal
-
-pub returns : goal.returns
-returns c = proved

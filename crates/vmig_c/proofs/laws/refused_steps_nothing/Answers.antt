@@ -1,5 +1,0 @@
-use Rattle.vmig_c.proofs.Owing.{refused_steps_nothing as proved}
-use Rattle.vmig_c.proofs.laws.refused_steps_nothing.Goals as goal
-
-pub returns : goal.returns
-returns c = proved c.refused_changes_nothing.ensures

@@ -1,5 +1,0 @@
-use Rattle.vmig_c.proofs.TurnSteps.{refused_turns_nothing as proved}
-use Rattle.vmig_c.proofs.laws.refused_turns_nothing.Goals as goal
-
-pub returns : goal.returns
-returns c = proved c.refused_changes_nothing.ensures

@@ -1,8 +1,0 @@
-use Rattle.vmig_c.proofs.Migration.{IsOnWay}
-use Rattle.vmig_c.proofs.migrating.send_up_to.Given as goal
-
-abbrev pub invariant-loop-left : goal.invariant-loop-left
-invariant-loop-left g l = IsOnWay l.most l.fn.live l.left l.live
-
-abbrev pub decreases-loop-left : goal.decreases-loop-left
-decreases-loop-left g l = l.left

@@ -1,6 +1,0 @@
-use Rattle.std.proofs.Common.{◌≡◌, false}
-use Rattle.vmig_c.specs.Resetting.{drops_below}
-use Rattle.vmig_c.proofs.resetting.drops_any.Given as goal
-
-abbrev pub invariant-loop-dev : goal.invariant-loop-dev
-invariant-loop-dev l = drops_below l.dev l.kept ≡ false
