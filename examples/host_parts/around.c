@@ -138,13 +138,15 @@ void hand_on(struct host *h, unsigned device, const uint8_t *bytes, size_t lengt
     enter_library(h);
 }
 
-int wait_for_word(void)
+int ask_operator(const char *question)
 {
     struct pollfd terminal = {.events = POLLIN};
     uint8_t bytes[TYPED_MAX];
 
-    terminal_take();
+    /* An answer may come as soon as it is asked. */
     operator_words.continues = 0;
+    say("%s", question);
+    terminal_take();
     while (!operator_words.continues && !operator_words.ends) {
         terminal.fd = terminal_is_taken() && !terminal_has_ended() ? 0 : -1;
         if (poll(&terminal, 1, WAIT_MS_MAX) > 0) terminal_read(bytes, sizeof bytes);

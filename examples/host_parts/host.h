@@ -148,8 +148,8 @@ void fill_pool(struct host *h);
 void announce(struct host *h);
 /* A message that a device sent. */
 void hand_on(struct host *h, unsigned device, const uint8_t *bytes, size_t length);
-/* The operator's word: to continue a guest that was kept. False where the program is to end. */
-int wait_for_word(void);
+/* Asks the operator this, and waits for the word to continue. False where the program is to end. */
+int ask_operator(const char *question);
 
 /* source.c: a part of a move, which takes RAM back where it needs to. False where the guest does not run here any more. */
 int move_further(struct host *h);

@@ -277,8 +277,8 @@ static int take_back(struct host *h)
     const char *why;
 
     while ((why = devices_take_over(&h->devices)) != NULL) {
-        say("move: a disk cannot be opened again: %s: SIGUSR2 or Ctrl-A c tries it again; else end this program", why);
-        if (!wait_for_word()) return 0;
+        say("move: a disk cannot be opened again: %s", why);
+        if (!ask_operator("move: SIGUSR2 or Ctrl-A c tries it again; else end this program")) return 0;
     }
     return 1;
 }
@@ -296,8 +296,7 @@ static int continue_here(struct host *h, const char *why)
 static int keep(struct host *h)
 {
     say("move: the line broke after the last word was sent: the guest is paused here, and perhaps runs at %s", h->options.connect);
-    say("move: if it does not run there, SIGUSR2 or Ctrl-A c continues it here; else end this program");
-    h->move.is_on = wait_for_word() && take_back(h);
+    h->move.is_on = ask_operator("move: if it does not run there, SIGUSR2 or Ctrl-A c continues it here; else end this program") && take_back(h);
     if (!h->move.is_on) return 0;
     open_wire(h);
     announce(h);
@@ -314,14 +313,17 @@ static int come_back(struct host *h)
     return h->move.is_on && continue_here(h, why);
 }
 
-/* The guest is paused, and the rest of it is sent. Once all is there it is let go. */
+/* The guest is paused, and the rest of it is sent. Once all is there it is let go. Where storage hangs that waits, for as long as the target does. */
 static int finish_move(struct host *h)
 {
     struct line *l = &h->move.line;
     uint64_t paused = clock_nanoseconds();
     const char *why;
 
-    if (!storage_drain(h)) return 1;
+    while (storage_waits(h)) {
+        if (operator_words.ends) return 1;
+        if (h->move.is_broken || line_has_come(l)) return give_up(h, what_came(l));
+    }
     stop_clock(h);
     end_carrier(h);
     why = send_rest(h);

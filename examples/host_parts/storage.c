@@ -40,10 +40,9 @@ static int is_tried_again(struct host *h, const struct slot *s)
     int is_meant;
 
     if (!h->options.stops_on_error || s->disk->is_lost) return 0;
-    say("the guest stops: SIGUSR2 or Ctrl-A c tries it again; else end this program");
     leave_library(h);
     stop_clock(h);
-    is_meant = wait_for_word();
+    is_meant = ask_operator("the guest stops: SIGUSR2 or Ctrl-A c tries it again; else end this program");
     start_clock(h);
     enter_library(h);
     return is_meant;
@@ -115,18 +114,23 @@ static uint32_t count_out(struct host *h)
     return found.calls_out;
 }
 
+int storage_waits(struct host *h)
+{
+    if (count_out(h) == 0) return 0;
+    if (storage_answer(h)) {
+        h->steps_wait = 1;
+        return 1;
+    }
+    take_ram(h);
+    leave_library(h);
+    pool_wait(&h->pool);
+    enter_library(h);
+    return 1;
+}
+
 int storage_drain(struct host *h)
 {
-    while (count_out(h) > 0) {
+    while (storage_waits(h))
         if (operator_words.ends) return 0;
-        if (storage_answer(h)) {
-            h->steps_wait = 1;
-            continue;
-        }
-        take_ram(h);
-        leave_library(h);
-        pool_wait(&h->pool);
-        enter_library(h);
-    }
     return 1;
 }

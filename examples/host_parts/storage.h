@@ -17,8 +17,9 @@ int storage_answer(struct host *h);
 /* Takes all calls that the library has, and that there is room for, with RAM taken back. */
 void storage_ask(struct host *h);
 
-/* Answers all that is out, and takes RAM back: before a reset of a device, a reset of the machine, and a stop. False where the operator ends the
- * program meanwhile. The lock is free while it waits. */
+/* Answers what is done of all that is out, or waits a moment for it with the lock free, and takes RAM back. False once nothing is out. */
+int storage_waits(struct host *h);
+/* The same until nothing is out: before a reset of a device, and a reset of the machine. False where the operator ends the program meanwhile. */
 int storage_drain(struct host *h);
 
 #endif

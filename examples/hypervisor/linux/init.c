@@ -121,32 +121,63 @@ static void show_space(void)
     printf("/disk: %lu KiB, of which %lu are free\n", facts.blocks * facts.block / KIB, facts.free * facts.block / KIB);
 }
 
-/* Writes a file of one MiB, of this seed, to the disk itself. */
-static void fill(const char *name, unsigned seed)
+/* Writes a MiB of this seed. Returns how many of its 256 pieces the file did not take. */
+static unsigned write_mib(int file, unsigned seed)
 {
-    int file = open(name, O_WRONLY | O_CREAT, 0644);
+    unsigned lost = 0;
 
     for (unsigned i = 0; i < 256; i++) {
         draw(bytes, seed * 256 + i);
-        write(file, bytes, PIECE);
+        if (write(file, bytes, PIECE) != PIECE) lost++;
     }
-    my_syscall1(__NR_fsync, file);
-    my_syscall4(__NR_fadvise64, file, 0, 0, DO_NOT_NEED);
-    close(file);
+    return lost;
 }
 
-/* Reads it from the disk. Returns how many of its 256 pieces are not as they were written. */
-static unsigned compare(const char *name, unsigned seed)
+/* Reads it. Returns how many of its pieces are not as they were written. */
+static unsigned compare_mib(int file, unsigned seed)
 {
-    int file = open(name, O_RDONLY, 0);
     unsigned wrong = 0;
 
     for (unsigned i = 0; i < 256; i++) {
         draw(others, seed * 256 + i);
         if (read(file, bytes, PIECE) != PIECE || memcmp(bytes, others, PIECE) != 0) wrong++;
     }
+    return wrong;
+}
+
+/* Writes a file of this many MiB, of seeds from one on, to the disk itself. Returns how many pieces it did not take, and one more where the disk failed. */
+static unsigned fill(const char *name, unsigned seed, unsigned mib)
+{
+    int file = open(name, O_WRONLY | O_CREAT, 0644);
+    unsigned lost = 0;
+
+    for (unsigned i = 0; i < mib; i++) lost += write_mib(file, seed + i);
+    if (my_syscall1(__NR_fsync, file) < 0) lost++;
+    my_syscall4(__NR_fadvise64, file, 0, 0, DO_NOT_NEED);
+    close(file);
+    return lost;
+}
+
+/* Reads it from the disk. Returns how many pieces are not as they were written. */
+static unsigned compare(const char *name, unsigned seed, unsigned mib)
+{
+    int file = open(name, O_RDONLY, 0);
+    unsigned wrong = 0;
+
+    for (unsigned i = 0; i < mib; i++) wrong += compare_mib(file, seed + i);
     close(file);
     return wrong;
+}
+
+/* A file of this many MiB is written, and read. */
+static void fill_and_compare(const char *name, unsigned mib)
+{
+    long began = milliseconds(), written;
+    unsigned lost = fill(name, 0, mib), wrong;
+
+    written = milliseconds();
+    wrong = compare(name, 0, mib);
+    printf("fill: %u MiB, %u pieces lost in %lu ms, %u wrong in %lu ms\n", mib, lost, written - began, wrong, milliseconds() - written);
 }
 
 static unsigned read_random(unsigned count)
@@ -229,8 +260,8 @@ static void work(unsigned rounds, const char *host)
 
         name[10] = (char)('0' + i % WORK_FILES / 10);
         name[11] = (char)('0' + i % WORK_FILES % 10);
-        fill(name, i);
-        bad = compare(name, i);
+        fill(name, i, 1);
+        bad = compare(name, i, 1);
         wrong += bad;
         printf("work %u: %u pieces of 256 wrong, %u random bytes, %u of 16 datagrams\n", i, bad, random, back);
     }
@@ -246,7 +277,7 @@ static void check(unsigned rounds)
     for (unsigned i = first; i < rounds; i++) {
         name[10] = (char)('0' + i % WORK_FILES / 10);
         name[11] = (char)('0' + i % WORK_FILES % 10);
-        wrong += compare(name, i);
+        wrong += compare(name, i, 1);
     }
     printf("check: %u files, %u pieces wrong\n", rounds - first, wrong);
 }
@@ -269,8 +300,8 @@ static void leave(int how)
 
 static void help(void)
 {
-    printf("ls FOLDER, cat FILE, sum FILE, dd FROM TO KIB, df, random BYTES, net ADDRESS, serve, talk ADDRESS COUNT,\n"
-           "work ROUNDS [ADDRESS], check ROUNDS, reboot, off; with & at the end a word is done beside the others\n");
+    printf("ls FOLDER, cat FILE, sum FILE, dd FROM TO KIB, fill FILE MIB, df, random BYTES, net ADDRESS, serve,\n"
+           "talk ADDRESS COUNT, work ROUNDS [ADDRESS], check ROUNDS, reboot, off; with & at the end a word is done beside the others\n");
 }
 
 static void do_words(char **words)
@@ -281,6 +312,7 @@ static void do_words(char **words)
     else if (strcmp(word, "cat") == 0 && words[1]) show(words[1]);
     else if (strcmp(word, "sum") == 0 && words[1]) sum_of_file(words[1]);
     else if (strcmp(word, "dd") == 0 && words[2]) copy(words[1], words[2], number_of(words[3]));
+    else if (strcmp(word, "fill") == 0 && words[2]) fill_and_compare(words[1], number_of(words[2]));
     else if (strcmp(word, "df") == 0) show_space();
     else if (strcmp(word, "random") == 0) show_random(number_of(words[1]));
     else if (strcmp(word, "net") == 0 && words[1]) set_network(words[1]);

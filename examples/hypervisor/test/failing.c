@@ -1,6 +1,6 @@
 /* Linked into a program, or loaded before one, it fails calls of the system. SYNC_FAILS=n: the n-th that brings a file to the storage, by fdatasync or
  * msync; all others succeed, as they do on Linux after one that failed. SYNC_FAILS_ONCE=FILE: the first one once this file says that all is here.
- * WRITE_FAILS=n: the n-th pwrite, since nothing is left. At the end it writes how many syncs there were to descriptor 9, where that is open and there
+ * WRITE_FAILS=n: the n-th pwrite, since nothing is left. HANGS=FILE: as long as this file is there each pwrite waits, which it says. At the end it writes how many syncs there were to descriptor 9, where that is open and there
  * were any. */
 #define _GNU_SOURCE
 #include <errno.h>
@@ -52,8 +52,18 @@ int msync(void *at, size_t length, int flags)
     return sync_fails() ? -1 : (int)syscall(SYS_msync, at, length, flags);
 }
 
+static void hang(void)
+{
+    const char *name = getenv("HANGS");
+
+    if (name == NULL || access(name, F_OK) != 0) return;
+    fprintf(stderr, "a write hangs\n");
+    while (access(name, F_OK) == 0) usleep(10000);
+}
+
 ssize_t pwrite(int file, const void *bytes, size_t length, off_t at)
 {
+    hang();
     if (!is_number("WRITE_FAILS", ++writes)) return syscall(SYS_pwrite64, file, bytes, length, at);
     errno = ENOSPC;
     return -1;
