@@ -1,7 +1,7 @@
 /* Linked into a program, or loaded before one, it fails calls of the system. SYNC_FAILS=n: the n-th that brings a file to the storage, by fdatasync or
  * msync; all others succeed, as they do on Linux after one that failed. SYNC_FAILS_ONCE=FILE: the first one once this file says that all is here.
- * WRITE_FAILS=n: the n-th pwrite, since nothing is left. HANGS=FILE: as long as this file is there each pwrite waits, which it says. At the end it writes how many syncs there were to descriptor 9, where that is open and there
- * were any. */
+ * WRITE_FAILS=n: the n-th pwrite, since nothing is left. HANGS=FILE: as long as this file is there each pwrite waits, and says so. At the end it writes
+ * how many syncs there were to descriptor 9, where that is open and there were any. */
 #define _GNU_SOURCE
 #include <errno.h>
 #include <stdatomic.h>
