@@ -28,6 +28,3 @@ mod scan;
 pub use bit_set::BitSet;
 pub use scan::{bit_from, first_nonzero};
 pub use std::alloc::AllocError as NoMemory;
-
-#[cfg(test)]
-mod tests;

@@ -39,6 +39,3 @@ pub use device_calls::{CALLS_MAX, DeviceCalls, Wanted};
 pub use laws::{answering_is_a_turn, calls_are_met, handing_is_a_turn, machines_meet_calls};
 pub use lookup::asker;
 pub use out::Out;
-
-#[cfg(test)]
-mod tests;

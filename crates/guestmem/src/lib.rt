@@ -91,6 +91,3 @@ pub use ram::{Ram, recall_bytes};
 pub use std::alloc::AllocError as NoMemory;
 pub use touched::Touched;
 pub use zero_page::is_zero;
-
-#[cfg(test)]
-mod tests;

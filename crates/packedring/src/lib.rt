@@ -26,6 +26,3 @@ mod table;
 mod walk;
 
 pub use ring::PackedRing;
-
-#[cfg(test)]
-mod tests;

@@ -24,6 +24,3 @@ mod table;
 mod walk;
 
 pub use ring::SplitRing;
-
-#[cfg(test)]
-mod tests;

@@ -2,11 +2,11 @@
 
 ghost use Rattle.std.specs.Prelude.{◌≤◌};
 
-use crate::SplitRing;
 use chains::laws::fits_later;
 use chains::{Next, Positions, Ring};
 use guestmem::{NoMemory, Ram};
 use mmio::Queue;
+use splitring::SplitRing;
 use std::alloc::Global;
 use std::marker::Model;
 use std::test::Fail;

@@ -1,6 +1,6 @@
 //! Versions near the greatest one, and pages that come, into new memory and into a RAM that is given.
 
-use crate::{ArrivingRam, Ram, Touched};
+use guestmem::{ArrivingRam, Ram, Touched};
 use std::process::Abort;
 use std::test::Fail;
 

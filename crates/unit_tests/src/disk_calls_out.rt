@@ -3,9 +3,9 @@
 ghost use Rattle.std.specs.Prelude.{◌+◌, ◌<◌, ◌^◌, ◌∷◌, []};
 ghost use Rattle.disk_calls.specs.Calls.{AreWithin};
 
-use super::{Asks, Calls, Handed, asker};
 use blk::{DiskCall, Kind, Request, Verdict, What};
 use chains::Segs;
+use disk_calls::{Asks, Calls, Handed, asker};
 use std::alloc::Global;
 use std::test::Fail;
 

@@ -1,5 +1,5 @@
 use Rattle.std.proofs.Common.{◌≡◌, length}
-use Rattle.disk_calls.proofs.tests.calls_are_handed_out_by_the_rule.Given as goal
+use Rattle.unit_tests.proofs.disk_calls_out.calls_are_handed_out_by_the_rule.Given as goal
 
 abbrev pub invariant-loop-turn : goal.invariant-loop-turn
 invariant-loop-turn g l = length l.calls.devices ≡ 2

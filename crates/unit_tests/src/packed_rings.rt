@@ -2,11 +2,11 @@
 
 ghost use Rattle.std.specs.Prelude.{◌≤◌};
 
-use crate::PackedRing;
 use chains::laws::fits_later;
 use chains::{Next, Positions, Ring};
 use guestmem::{NoMemory, Ram};
 use mmio::Queue;
+use packedring::PackedRing;
 use std::alloc::Global;
 use std::marker::Model;
 use std::test::Fail;

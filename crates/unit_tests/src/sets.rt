@@ -1,6 +1,6 @@
 //! Sets beside plain lists of truth values, and the words that a search looks at.
 
-use crate::BitSet;
+use dirtylog::BitSet;
 use std::alloc::Global;
 use std::process::Abort;
 use std::test::Fail;
