@@ -8,7 +8,7 @@
 //! disks is reported at the header's end, by the receiver (36). That no sector is written before is tested, and no clause says it: of a piece
 //! that is refused `feed` promises the sizes and the marks of the disks, and nothing of their sectors.
 
-ghost use Rattle.std.specs.Prelude.{◌≡◌, ◌++◌, ◌≤◌, [], IfErr, IfOk, false, length};
+ghost use Rattle.std.specs.Prelude.{◌≡◌, ◌++◌, IfErr, IfOk, false, length};
 ghost use Rattle.machine.specs.Shapes.{disk_sizes};
 ghost use Rattle.receiver.specs.Opened.{told_by};
 ghost use Rattle.receiver.specs.Receiving.{place_aside};

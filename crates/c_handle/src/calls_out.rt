@@ -5,7 +5,6 @@
 
 ghost use Rattle.std.specs.Prelude.{◌≡◌, ◌<◌, ◌≤◌, [], slice_index_or};
 ghost use Rattle.blk.specs.declared.request.Request.{Request};
-ghost use Rattle.disk_calls.specs.Calls.{AreWithin};
 ghost use Rattle.machine.specs.declared.machine.TheConstants.{DEVICES_MAX};
 ghost use Rattle.c_handle.specs.CallsOut.{of_each};
 

@@ -4,7 +4,7 @@
 //! arrival, and the call of a piece has no slots: images have one way in and one way out, `vmig_release`, in each state, also on the way and
 //! after a refusal. Without images the disks are made in memory of the library, as soon as the header says their sizes.
 
-ghost use Rattle.std.specs.Prelude.{◌≡◌, [], IfErr, IfOk, None};
+ghost use Rattle.std.specs.Prelude.{◌≡◌, IfErr, IfOk, None};
 ghost use Rattle.c_handle.specs.Expected.{Expects, IsArrivalOf, IsGiven, IsNoneOrRam, allowed_of, limits_in, terms_in};
 ghost use Rattle.c_machine.specs.Expected.{IsUntaken, arrival_refusal_of, has_ram};
 ghost use Rattle.c_machine.specs.Made.{has_bytes, ram_left};

@@ -11,7 +11,6 @@ ghost use Rattle.std.specs.Prelude.{◌≡◌, ◌≤◌, ◌*◌, ℕ, [], None
 ghost use Rattle.guestmem.specs.Memory.{IsMemory};
 ghost use Rattle.machine.specs.Parked.{IsParked};
 ghost use Rattle.guestmem.specs.declared.limits.TheConstants.{PAGE_SIZE, PAGES_GREATEST};
-ghost use Rattle.region.specs.Empty.{empty_slot};
 ghost use Rattle.region.specs.Slot.{region_of};
 ghost use Rattle.c_handle.specs.Kept.{are_mapped, held_state, loan_of, parked_in, ram_in, state_in};
 ghost use Rattle.c_handle.specs.declared.kept.Contents.TheVariants as contents;

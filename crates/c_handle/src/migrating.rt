@@ -1,6 +1,6 @@
 //! The calls of a migration, applied to the contents of a handle.
 
-ghost use Rattle.std.specs.Prelude.{◌≡◌, ◌++◌, IfErr, IfOk, drop, length, min, take};
+ghost use Rattle.std.specs.Prelude.{◌≡◌, IfErr, IfOk, drop, take};
 ghost use Rattle.disk_calls.specs.Calls.{is_any_out};
 ghost use Rattle.c_handle.specs.Migrated.{AbortsKept, AreTold, BeginsKept, EndsKept, HasBegun, HasEnded, HasStopped, HasTaken, IsAnswered, IsLeft, IsLeftLent, LeavesKept, SendsKept, SendsSome, SendsUpTo, StopsKept, StopsUnless, TakesKept, send_refusal};
 ghost use Rattle.c_handle.specs.Kept.{are_mapped, held_state, state_in};

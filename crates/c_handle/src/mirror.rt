@@ -6,7 +6,7 @@
 //! event raises the version of a page that it does not write into: so of the pages that the caller noted, below the greatest
 //! version, a pull overwrites only those that a step wrote.
 
-ghost use Rattle.std.specs.Prelude.{◌≡◌, ◌*◌, ◌<◌, ◌≤◌, length, slice_set, slice_index, if◌then◌else◌, IfErr, IfOk, None, false, true};
+ghost use Rattle.std.specs.Prelude.{◌≡◌, ◌*◌, ◌<◌, ◌≤◌, length, slice_set, slice_index, if◌then◌else◌, IfErr, IfOk, false, true};
 ghost use Rattle.guestmem.specs.Memory.{IsMemory};
 ghost use Rattle.guestmem.specs.Page.{page_of};
 ghost use Rattle.guestmem.specs.Write.{put_at};

@@ -3,8 +3,7 @@
 //! A step that may send more than the caller's buffer holds is not done: a message of the guest would be lost otherwise. The
 //! bound is of the device's kind, and not of the message at hand, which is not looked at twice.
 
-ghost use Rattle.std.specs.Prelude.{◌≡◌, ◌≤◌, ◌++◌, ℕ, List, IfOk, length, drop, nat_lt};
-ghost use Rattle.machine.specs.Seen.{state_of};
+ghost use Rattle.std.specs.Prelude.{◌≡◌, ◌≤◌, ◌++◌, IfOk, length, drop, nat_lt};
 ghost use Rattle.machine.specs.Stepped.{reply_in};
 ghost use Rattle.sender.specs.Calls.{guest_reply};
 ghost use Rattle.c_handle.specs.Durable.{owed_lost};
@@ -21,8 +20,8 @@ use crate::mirror::has_stopped;
 use crate::status::mig_status;
 use crate::syncing::{fail_kept, owed_lost};
 use blk::SyncOwed;
-use c_machine::status::{DONE, DROPPED, IDLE, STOPPED, TOO_SMALL, refused, status_of, step_status};
-use c_machine::{FRAME_MAX, SENT_MAX};
+use c_machine::SENT_MAX;
+use c_machine::status::{IDLE, STOPPED, TOO_SMALL, status_of, step_status};
 use machine::{Disk, Kind, Machine, Reply, Stepped};
 use sender::MigError;
 

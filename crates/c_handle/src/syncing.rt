@@ -8,7 +8,7 @@
 //!
 //! The call answers alike for disks in memory of the library: a host that keeps such a disk elsewhere too can use it.
 
-ghost use Rattle.std.specs.Prelude.{◌≡◌, None, slice_get};
+ghost use Rattle.std.specs.Prelude.{◌≡◌, None};
 ghost use Rattle.machine.specs.Seen.{state_of};
 ghost use Rattle.c_handle.specs.Durable.{FailsKept, FailsSync, FailsUnless, Loses, disk_refusal_unless, kind_refusal, loss_refusal, owed_lost, owed_of, owed_unless};
 ghost use Rattle.c_handle.specs.Mirror.{is_closed};

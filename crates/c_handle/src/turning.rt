@@ -1,6 +1,6 @@
 //! A turn of the devices in one call: the steps that `vmig_next` names, as `vmig_step` makes them.
 
-ghost use Rattle.std.specs.Prelude.{◌≡◌, ◌<◌, ◌≤◌, ◌-◌, ◌==◌, ◌&&◌, ◌||◌, if◌then◌else◌, Some, None, false, true, length, not, slice_get};
+ghost use Rattle.std.specs.Prelude.{◌≡◌, ◌<◌, ◌≤◌, ◌-◌, ◌==◌, ◌&&◌, ◌||◌, Some, None, false, slice_get};
 ghost use Rattle.machine.specs.Turn.{is_entropy};
 ghost use Rattle.c_handle.specs.Turns.{EndsTurn, Once, TurnsKept, counted, devices_in, goes_on, is_known_turn, is_refused, message_in, more_or_none, turn_refusal};
 
@@ -9,9 +9,7 @@ use crate::kept::{Kept, by_state};
 use crate::mirror::{is_stopped, ram_of};
 use crate::stepping::step_kept;
 use crate::working::next;
-use c_machine::status::{
-    COMPLETED, IDLE, MOVED, NOT_KNOWN, SENT, STOPPED, SYNC, TAKEN, TOO_SMALL, WORK,
-};
+use c_machine::status::{COMPLETED, IDLE, MOVED, NOT_KNOWN, STOPPED, SYNC, TAKEN, TOO_SMALL, WORK};
 use c_machine::{are_zeros, message_of};
 use machine::Kind;
 

@@ -2,7 +2,7 @@
 //!
 //! The disks have the sizes that the header gives, so a check asks for as much memory as they have.
 
-ghost use Rattle.std.specs.Prelude.{◌≡◌, ◌≤◌, ◌∷◌, ◌++◌, [], drop, take, IfOk, IfErr, IfSome, MatchOption, OnOk, OnErr, length};
+ghost use Rattle.std.specs.Prelude.{◌≡◌, ◌≤◌, ◌∷◌, ◌++◌, [], drop, IfOk, IfErr, IfSome, MatchOption, OnOk, OnErr, length};
 ghost use Rattle.std.specs.Io.KnownBytes.{Appends};
 ghost use Rattle.machine.specs.Limits.{AreWithin};
 ghost use Rattle.machine.specs.Seen.{state_of};

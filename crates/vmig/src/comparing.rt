@@ -5,11 +5,11 @@
 //! and `vmig: memory` is reported after them. Equal is what an embedder can see: replies, lines, RAM and every sector. That all
 //! else is equal too is in the contract of `rehearsal::rehearse`.
 
-ghost use Rattle.std.specs.Prelude.{◌≡◌, ◌<◌, ◌++◌, ◌↔◌, List, length, map, slice_get, IfErr, IfOk, IsTrue, None, OnErr, OnOk, flat_map};
+ghost use Rattle.std.specs.Prelude.{◌≡◌, ◌<◌, ◌++◌, ◌↔◌, List, length, map, IfErr, IfOk, IsTrue, None, OnErr, OnOk, flat_map};
 ghost use Rattle.std.specs.Io.KnownBytes.{Appends};
 ghost use Rattle.guestmem.specs.Item.{sector};
 ghost use Rattle.machine.specs.EffectLaws.{HasItem, sector_on, sectors_on};
-ghost use Rattle.machine.specs.Seen.{Marks, all_marks, marks_at, state_of};
+ghost use Rattle.machine.specs.Seen.{all_marks, state_of};
 ghost use Rattle.sender.specs.declared.event.LiveReply.TheVariants.{Guest};
 ghost use Rattle.traces.specs.Replies.{AppendsBeginning, live_reply_line};
 ghost use Rattle.traces.specs.Trace.{Contents, contents_of};

@@ -3,7 +3,7 @@
 //! A stream is never made over what is read: where the new file is the image or the trace, also by a link or another path,
 //! nothing is made. Two names are those of one file where the system says so (device and inode).
 
-ghost use Rattle.std.specs.Prelude.{IfErr, IfOk, OnOk, OnErr, flat_map};
+ghost use Rattle.std.specs.Prelude.{IfErr, OnOk, OnErr, flat_map};
 ghost use Rattle.std.specs.Io.KnownBytes.{Appends, Keeps};
 ghost use Rattle.traces.specs.Replies.{AppendsBeginning, live_reply_line, reply_line};
 ghost use Rattle.vmig.specs.Faults.{TellsOfFile};
