@@ -1,4 +1,4 @@
-use Rattle.std.proofs.Common.{◌≡◌, ◌∙◌, length, refl, sym, Some}
+use Rattle.std.proofs.Common.{◌≡◌, ◌∙◌, length, refl, sym, true, false, Some}
 use Rattle.guestmem.proofs.RisesLaws.{touches_none}
 use Rattle.machine.specs.Seen.{calls_of, marks_of, sectors_of}
 use Rattle.machine.specs.Shapes.{made_as, sector_count}
@@ -72,3 +72,53 @@ returns-then-is_outside-clause-calls g c =
     let i = c.self.inside in
     rw (← c.self.view_is)
     (outside_uncalled i.state c.args.work.pick _ g.D.Disk.called (calls_of i.disk) (sym c.is_outside.ensures ∙ c.if-is_outside.true))
+
+pub returns-in-Split-clause-step : goal.returns-in-Split-clause-step
+returns-in-Split-clause-step g c =
+    let i = c.self.inside in
+    rw (← c.self.view_is) (c.look.ensures.step c.args.work.dev (marks_of i.disk).honest (sectors_of i.disk) (rw (← c.self.view_is) at c.requires.whole))
+
+pub returns-in-Split-clause-marks : goal.returns-in-Split-clause-marks
+returns-in-Split-clause-marks g c = rw (← c.self.view_is, c.look.ensures.fine) refl
+
+pub returns-in-Split-clause-unsteady : goal.returns-in-Split-clause-unsteady
+returns-in-Split-clause-unsteady g c = λ failed.
+    let both : false ≡ true = sym c.look.ensures.fine ∙ failed in
+    cc
+
+pub returns-in-Split-clause-capacity : goal.returns-in-Split-clause-capacity
+returns-in-Split-clause-capacity g c = rw (← c.self.view_is) refl
+
+pub returns-in-Split-clause-whole : goal.returns-in-Split-clause-whole
+returns-in-Split-clause-whole g c = rw (← c.self.view_is) at c.requires.whole
+
+pub returns-in-Split-clause-later : goal.returns-in-Split-clause-later
+returns-in-Split-clause-later g c = c.look.ensures.later
+
+pub returns-in-Split-clause-fits : goal.returns-in-Split-clause-fits
+returns-in-Split-clause-fits g c = c.look.ensures.fits
+
+pub returns-in-Packed-clause-step : goal.returns-in-Packed-clause-step
+returns-in-Packed-clause-step g c =
+    let i = c.self.inside in
+    rw (← c.self.view_is) (c.look-in-Packed.ensures.step c.args.work.dev (marks_of i.disk).honest (sectors_of i.disk) (rw (← c.self.view_is) at c.requires.whole))
+
+pub returns-in-Packed-clause-marks : goal.returns-in-Packed-clause-marks
+returns-in-Packed-clause-marks g c = rw (← c.self.view_is, c.look-in-Packed.ensures.fine) refl
+
+pub returns-in-Packed-clause-unsteady : goal.returns-in-Packed-clause-unsteady
+returns-in-Packed-clause-unsteady g c = λ failed.
+    let both : false ≡ true = sym c.look-in-Packed.ensures.fine ∙ failed in
+    cc
+
+pub returns-in-Packed-clause-capacity : goal.returns-in-Packed-clause-capacity
+returns-in-Packed-clause-capacity g c = rw (← c.self.view_is) refl
+
+pub returns-in-Packed-clause-whole : goal.returns-in-Packed-clause-whole
+returns-in-Packed-clause-whole g c = rw (← c.self.view_is) at c.requires.whole
+
+pub returns-in-Packed-clause-later : goal.returns-in-Packed-clause-later
+returns-in-Packed-clause-later g c = c.look-in-Packed.ensures.later
+
+pub returns-in-Packed-clause-fits : goal.returns-in-Packed-clause-fits
+returns-in-Packed-clause-fits g c = c.look-in-Packed.ensures.fits
