@@ -82,3 +82,19 @@ restore_in-requires-clause-devices g c = rw c.in-Ok.ensures.room refl
 
 pub restore_in-requires-clause-disks : goal.restore_in-requires-clause-disks
 restore_in-requires-clause-disks g c = rw c.in-Ok.ensures.room (omega arith)
+
+pub returns-in_default-first_parts-clause-refused : goal.returns-in_default-first_parts-clause-refused
+returns-in_default-first_parts-clause-refused g c =
+    let none : make_refusal c.args.board.limits c.args.board.base (ram_size c.args.board.ram) c.args.board.shapes.now (map (λ d. length (g.D.Disk.state d).sectors) c.args.board.disks.items) ≡ None = sym (rw (c.len.ensures, c.as_slice.ensures.value) at c.refusal.ensures) ∙ c.in_default.is in
+    rw none tt
+
+pub returns-in-Err-clause-refused : goal.returns-in-Err-clause-refused
+returns-in-Err-clause-refused g c =
+    let none : make_refusal c.args.board.limits c.args.board.base (ram_size c.args.board.ram) c.args.board.shapes.now (map (λ d. length (g.D.Disk.state d).sectors) c.args.board.disks.items) ≡ None = sym (rw (c.len.ensures, c.as_slice.ensures.value) at c.refusal.ensures) ∙ c.in_default.is in
+    rw none tt
+
+pub returns-in_default-first_parts-clause-memory : goal.returns-in_default-first_parts-clause-memory
+returns-in_default-first_parts-clause-memory g c = λ none. refl
+
+pub returns-in-Err-clause-memory : goal.returns-in-Err-clause-memory
+returns-in-Err-clause-memory g c = λ none. refl

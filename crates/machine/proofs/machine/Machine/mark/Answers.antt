@@ -1,4 +1,5 @@
 use Rattle.std.proofs.Common.{length, refl, sym, subst}
+use Rattle.guestmem.specs.Item.{MayPages}
 use Rattle.guestmem.specs.Lent.{AreBelow, marked}
 use Rattle.guestmem.proofs.GivenBack.{later_marked}
 use Rattle.machine.specs.Seen.{Seen}
@@ -19,3 +20,9 @@ returns-clause-log g c = c.mark.ensures.log
 
 pub returns-clause-may : goal.returns-clause-may
 returns-clause-may g c = c.mark.ensures.may
+
+pub mark-requires-clause-below : goal.mark-requires-clause-below
+mark-requires-clause-below g c = subst (λ (m : Seen). AreBelow (length m.memory.versions) c.args.pages.now) (sym c.self.view_is) c.requires.below
+
+pub mark-requires-clause-may : goal.mark-requires-clause-may
+mark-requires-clause-may g c = subst (λ (m : Seen). MayPages g.L.TouchLog.may c.args.log.now (length m.memory.bytes)) (sym c.self.view_is) c.requires.may
