@@ -30,6 +30,7 @@ pub mod Disks
 pub mod Dealing
 mod Dealt
 mod Reading
+mod Missing
 pub mod Numbering
 mod Outstanding
 pub mod Fresh

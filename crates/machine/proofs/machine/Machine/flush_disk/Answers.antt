@@ -2,6 +2,7 @@ use Rattle.std.proofs.Common.{arith, true}
 use Rattle.machine.proofs.At.{IsAt}
 use Rattle.machine.proofs.Flushing.{flushes_disk}
 use Rattle.machine.proofs.Keeping.{rings_stay}
+use Rattle.machine.proofs.Missing.{missing_calls, missing_flush}
 use Rattle.machine.proofs.Reading.{held_so}
 use Rattle.machine.proofs.Calling.{calls_disk}
 use Rattle.machine.proofs.machine.Machine.flush_disk.Goals as goal
@@ -27,3 +28,9 @@ returns-clause-calls g c =
     let i = c.self.inside in
     let at : IsAt i.devices.items c.args.dev c.index_mut.result.now = record { below = omega arith; is = c.index_mut.ensures.value } in
     rw (← c.self.view_is) (calls_disk g.D.Disk.called true i.ram i.ram i.devices.items c.args.dev c.index_mut.result.now c.flush.new.self at c.flush.ensures.calls)
+
+pub returns-then-dev-len-clause-flushed : goal.returns-then-dev-len-clause-flushed
+returns-then-dev-len-clause-flushed g c = rw (← c.self.view_is) (missing_flush c.self.inside.ram c.self.inside.devices.items c.args.dev tt (omega arith))
+
+pub returns-then-dev-len-clause-calls : goal.returns-then-dev-len-clause-calls
+returns-then-dev-len-clause-calls g c = rw (← c.self.view_is) (missing_calls g.D.Disk.called c.self.inside.ram c.self.inside.devices.items c.args.dev (omega arith))

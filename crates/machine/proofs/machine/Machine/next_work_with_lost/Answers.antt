@@ -2,7 +2,7 @@ use Rattle.std.proofs.Common.{◌∙◌, length, map, sym}
 use Rattle.machine.specs.NextWork.{can_work_at, in_turn_after}
 use Rattle.machine.specs.Seen.{DeviceSeen}
 use Rattle.machine.proofs.NextWork.{found_has, none_can}
-use Rattle.machine.proofs.Parking.{sound_held}
+use Rattle.machine.proofs.Parking.{few_held, some_held, sound_held}
 use Rattle.machine.proofs.machine.Machine.next_work_with_lost.Goals as goal
 
 pub next_in_turn-requires-clause-sound : goal.next_in_turn-requires-clause-sound
@@ -19,3 +19,12 @@ returns-clause-none g c = λ none.
     let states = map (λ (d : DeviceSeen). d.state) c.self.inside.devices.items in
     let is = rw c.as_slice.ensures.value at c.next_in_turn.ensures in
     rw (← c.self.view_is) (none_can states c.args.lost.now c.args.last (sym is ∙ none))
+
+pub next_in_turn-requires-clause-some : goal.next_in_turn-requires-clause-some
+next_in_turn-requires-clause-some g c = rw c.as_slice.ensures.value (some_held c.self.inside.shapes.items _ c.self.invariant.0)
+
+pub next_in_turn-requires-clause-few : goal.next_in_turn-requires-clause-few
+next_in_turn-requires-clause-few g c = rw c.as_slice.ensures.value (few_held c.self.inside.shapes.items _ c.self.invariant.0)
+
+pub returns-clause-next : goal.returns-clause-next
+returns-clause-next g c = rw (← c.self.view_is) (rw c.as_slice.ensures.value at c.next_in_turn.ensures)

@@ -1,7 +1,8 @@
+use Rattle.std.proofs.Common.{arith}
 use Rattle.blk.specs.Sectors.{is_asked}
 use Rattle.machine.proofs.Keeping.{rings_stay}
 use Rattle.machine.proofs.At.{IsAt}
-use Rattle.machine.proofs.Reading.{IsRead, Tells, device_there, held_so, reads}
+use Rattle.machine.proofs.Reading.{IsRead, Tells, device_there, held_so, reads, sector_there}
 use Rattle.machine.proofs.Calling.{calls_disk, read_called}
 use Rattle.machine.proofs.machine.Machine.read_sector.Goals as goal
 use Rattle.machine.proofs.machine.Machine.read_sector.Goals.{in-Read, in-Bad, in-Failed}
@@ -45,3 +46,12 @@ returns-clause-calls g c =
     ] in
     rw (← c.self.view_is, read_called c.read_sector.result c.match-read_sector.result told)
     (calls_disk g.D.Disk.called (is_asked c.read_sector.result) i.ram i.ram i.devices.items c.args.dev c.index_mut.result.now c.read_sector.new.self at c.read_sector.ensures.calls)
+
+pub index_mut-requires : goal.index_mut-requires
+index_mut-requires g c = omega (arith, device_there c.self.inside.ram c.self.inside.devices.items c.args.dev c.args.n (rw (← c.self.view_is) at c.requires))
+
+pub read_sector-requires : goal.read_sector-requires
+read_sector-requires g c =
+    let i = c.self.inside in
+    let has = rw (← c.self.view_is) at c.requires in
+    sector_there i.ram i.devices.items c.args.dev c.args.n c.index_mut.result.now (record { below = device_there i.ram i.devices.items c.args.dev c.args.n has; is = c.index_mut.ensures.value }) has

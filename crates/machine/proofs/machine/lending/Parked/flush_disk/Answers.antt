@@ -4,6 +4,7 @@ use Rattle.machine.proofs.At.{IsAt}
 use Rattle.machine.proofs.Calling.{calls_disk}
 use Rattle.machine.proofs.Flushing.{IsCalled}
 use Rattle.machine.proofs.ParkedCalls.{parked_flushed, rings_new}
+use Rattle.machine.proofs.Missing.{missing_calls, missing_flush}
 use Rattle.machine.proofs.Reading.{held_so}
 use Rattle.machine.proofs.machine.lending.Parked.flush_disk.Goals as goal
 
@@ -28,3 +29,9 @@ returns-clause-calls g c = λ m.
     let i = c.self.inside in
     let at : IsAt i.devices.items c.args.dev c.index_mut.result.now = record { below = omega arith; is = c.index_mut.ensures.value } in
     rw (← c.self.view_is) (calls_disk g.D.Disk.called true m m i.devices.items c.args.dev c.index_mut.result.now c.flush.new.self at c.flush.ensures.calls)
+
+pub returns-then-dev-len-clause-flushed : goal.returns-then-dev-len-clause-flushed
+returns-then-dev-len-clause-flushed g c = rw (← c.self.view_is) (record { versions = refl; flushes = λ m. missing_flush m c.self.inside.devices.items c.args.dev tt (omega arith) })
+
+pub returns-then-dev-len-clause-calls : goal.returns-then-dev-len-clause-calls
+returns-then-dev-len-clause-calls g c = λ m. rw (← c.self.view_is) (missing_calls g.D.Disk.called m c.self.inside.devices.items c.args.dev (omega arith))

@@ -18,3 +18,9 @@ pub returns-clause-may : goal.returns-clause-may
 returns-clause-may g c =
     let bytes : c.give_back-ram.result.bytes ≡ c.args.region.content = ap (λ (x : Memory). x.bytes) c.give_back-ram.ensures.ram in
     rw bytes at c.give_back-ram.ensures.may
+
+pub returns-clause-machine : goal.returns-clause-machine
+returns-clause-machine g c = rw (← c.self.view_is, c.give_back-ram.ensures.ram) refl
+
+pub returns-clause-log : goal.returns-clause-log
+returns-clause-log g c = c.give_back-ram.ensures.log
