@@ -44,25 +44,25 @@ returns-clause-sound g c = λ q limits base sound.
     rw (c.copy_in_with_base.ensures.after.later.bytes, c.do_more.ensures, same) after
 
 pub returns-then-not-awaits_bytes-clause-taken : goal.returns-then-not-awaits_bytes-clause-taken
-returns-then-not-awaits_bytes-clause-taken g c = 
+returns-then-not-awaits_bytes-clause-taken g c =
     let kept : awaits_at c.args.self.now.requests c.args.k (Gave c.args.bytes.now) ≡ false = rw (← c.self.view_is) (sym c.awaits_bytes.ensures ∙ c.if-not-awaits_bytes.true) in
     let is = refused c.args.base c.args.self.now.requests c.args.k (Gave c.args.bytes.now) kept in
     ap (λ (a : Answering). a.taken) (sym is)
 
 pub returns-then-not-awaits_bytes-clause-block : goal.returns-then-not-awaits_bytes-clause-block
-returns-then-not-awaits_bytes-clause-block g c = 
+returns-then-not-awaits_bytes-clause-block g c =
     let kept : awaits_at c.args.self.now.requests c.args.k (Gave c.args.bytes.now) ≡ false = rw (← c.self.view_is) (sym c.awaits_bytes.ensures ∙ c.if-not-awaits_bytes.true) in
     let is = refused c.args.base c.args.self.now.requests c.args.k (Gave c.args.bytes.now) kept in
     ap (λ (a : Answering). with_requests c.args.self.now a.requests) (sym is)
 
 pub returns-then-not-awaits_bytes-clause-ram : goal.returns-then-not-awaits_bytes-clause-ram
-returns-then-not-awaits_bytes-clause-ram g c = 
+returns-then-not-awaits_bytes-clause-ram g c =
     let kept : awaits_at c.args.self.now.requests c.args.k (Gave c.args.bytes.now) ≡ false = rw (← c.self.view_is) (sym c.awaits_bytes.ensures ∙ c.if-not-awaits_bytes.true) in
     let is = refused c.args.base c.args.self.now.requests c.args.k (Gave c.args.bytes.now) kept in
     ap (λ (a : Answering). set_all c.args.ram.now.bytes a.writes) (sym is)
 
 pub returns-then-not-awaits_bytes-clause-touches : goal.returns-then-not-awaits_bytes-clause-touches
-returns-then-not-awaits_bytes-clause-touches g c = 
+returns-then-not-awaits_bytes-clause-touches g c =
     let kept : awaits_at c.args.self.now.requests c.args.k (Gave c.args.bytes.now) ≡ false = rw (← c.self.view_is) (sym c.awaits_bytes.ensures ∙ c.if-not-awaits_bytes.true) in
     let is = refused c.args.base c.args.self.now.requests c.args.k (Gave c.args.bytes.now) kept in
     subst (λ (a : Answering). Touches g.L.TouchLog.after c.args.log.now c.args.log.now c.args.ram.now c.args.ram.now (touched a.writes)) (sym is)
@@ -72,13 +72,13 @@ pub returns-then-not-awaits_bytes-clause-sound : goal.returns-then-not-awaits_by
 returns-then-not-awaits_bytes-clause-sound g c = λ q limits base sound. sound
 
 pub returns-clause-taken : goal.returns-clause-taken
-returns-clause-taken g c = 
+returns-clause-taken g c =
     let items = c.self.inside.0.1.1.1.0.list.items in
     let by = taken_by items c.args.k (Gave c.args.bytes.now) (sym c.awaits_bytes.ensures ∙ c.if-not-awaits_bytes.false) in
     rw (← c.self.view_is, by.1, by.2) refl
 
 pub returns-clause-block : goal.returns-clause-block
-returns-clause-block g c = 
+returns-clause-block g c =
     let items = c.self.inside.0.1.1.1.0.list.items in
     let by = taken_by items c.args.k (Gave c.args.bytes.now) (sym c.awaits_bytes.ensures ∙ c.if-not-awaits_bytes.false) in
     let same : c.index_mut-request.result.now ≡ by.0 = c.index_mut-request.ensures.value ∙ get_or_from_slice_get items c.args.k by.0 c.index_mut-request.result.now by.1 in
