@@ -1,9 +1,12 @@
 use Rattle.std.proofs.Common.{◌≡◌, ◌<◌, ◌≤◌, ◌∙◌, sym, ap, true, false, Some, None, slice_get, length, arith, refl}
 use Rattle.std.proofs.lemmas.Option.{slice_get_read, slice_get_past, get_or_from_slice_get}
+use Rattle.guestmem.proofs.LaterLaws.{later_same}
 use Rattle.guestmem.proofs.RisesLaws.{touches_none}
 use Rattle.blk.specs.Block.{with_requests}
+use Rattle.blk.specs.Move.{is_disk_failed}
 use Rattle.blk.specs.Request.{is_open}
 use Rattle.blk.specs.Sound.{IsSoundRequest}
+use Rattle.blk.specs.declared.request.Request.{Request}
 use Rattle.blk.proofs.Units.{goes_on}
 use Rattle.blk.proofs.Ending.{ended, stayed, went_on, all_left}
 use Rattle.blk.proofs.block.Block.advance.Goals as goal
@@ -78,3 +81,60 @@ returns-clause-sound g c = λ limits sound.
     let q = g.R.Ring.state c.args.ring.now in
     let P = IsSoundRequest q.base (length c.args.ram.now.bytes) q.is_packed q.size limits in
     rw (c.complete-completed.ensures.after.later.bytes, c.complete-completed.ensures.ring, c.remove.ensures) (all_left P c.args.self.now.requests c.args.job.k sound)
+
+pub returns-then-job-len-clause-kept : goal.returns-then-job-len-clause-kept
+returns-then-job-len-clause-kept g c = record { count = refl; honest = refl; steady = refl; size = refl; never_fails = λ _. refl }
+
+pub returns-then-job-len-clause-flushed : goal.returns-then-job-len-clause-flushed
+returns-then-job-len-clause-flushed g c = λ r found flush moved. absurd (cc)
+
+pub returns-then-job-len-clause-whole : goal.returns-then-job-len-clause-whole
+returns-then-job-len-clause-whole g c = c.recall.ensures.whole
+
+pub returns-then-job-len-clause-sound : goal.returns-then-job-len-clause-sound
+returns-then-job-len-clause-sound g c = λ limits sound. sound
+
+pub returns-then-job-len-clause-after : goal.returns-then-job-len-clause-after
+returns-then-job-len-clause-after g c = record { later = later_same c.args.ram.now; pages = c.requires.ready.pages }
+
+pub returns-then-job-len-clause-decoder : goal.returns-then-job-len-clause-decoder
+returns-then-job-len-clause-decoder g c = refl
+
+pub returns-then-is_open-clause-kept : goal.returns-then-is_open-clause-kept
+returns-then-is_open-clause-kept g c = c.move_unit-moved.ensures.kept
+
+pub returns-then-is_open-clause-flushed : goal.returns-then-is_open-clause-flushed
+returns-then-is_open-clause-flushed g c = λ r found flush moved.
+    let given = c.index_mut-request.result.now in
+    let items = c.self.inside.0.1.1.1.0.list.items in
+    let below : c.args.job.k < length items = omega (arith, c.if-job-len.false, c.len.ensures) in
+    let at : slice_get items c.args.job.k ≡ Some given = slice_get_read items (length items) c.args.job.k given refl below c.index_mut-request.ensures.value in
+    let here : slice_get c.args.self.now.requests c.args.job.k ≡ Some given = rw (← c.self.view_is) at in
+    let same : given ≡ r = cc in
+    c.move_unit-moved.ensures.flushed (ap (λ (x : Request). x.kind) same ∙ flush) moved
+
+pub returns-then-is_open-clause-whole : goal.returns-then-is_open-clause-whole
+returns-then-is_open-clause-whole g c = c.recall-then-is_open.ensures.whole
+
+pub returns-then-is_open-clause-after : goal.returns-then-is_open-clause-after
+returns-then-is_open-clause-after g c = c.move_unit-moved.ensures.after
+
+pub returns-then-is_open-clause-decoder : goal.returns-then-is_open-clause-decoder
+returns-then-is_open-clause-decoder g c = refl
+
+pub returns-clause-kept : goal.returns-clause-kept
+returns-clause-kept g c =
+    let fine : is_disk_failed c.complete-completed.result ≡ false = ap is_disk_failed c.complete-completed.ensures.answer in
+    rw fine (record { count = refl; honest = refl; steady = refl; size = refl; never_fails = λ _. refl })
+
+pub returns-clause-flushed : goal.returns-clause-flushed
+returns-clause-flushed g c = λ r found flush moved. absurd (cc (c.complete-completed.ensures.answer))
+
+pub returns-clause-whole : goal.returns-clause-whole
+returns-clause-whole g c = c.recall.ensures.whole
+
+pub returns-clause-after : goal.returns-clause-after
+returns-clause-after g c = c.complete-completed.ensures.after
+
+pub returns-clause-decoder : goal.returns-clause-decoder
+returns-clause-decoder g c = c.complete-completed.ensures.decoder

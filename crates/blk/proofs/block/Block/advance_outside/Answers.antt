@@ -1,6 +1,9 @@
-use Rattle.std.proofs.Common.{◌≡◌, ◌<◌, ◌∙◌, ap, refl, sym, false, true, Some, slice_get, length, arith}
-use Rattle.std.proofs.lemmas.Option.{slice_get_read, get_or_from_slice_get}
+use Rattle.std.proofs.Common.{◌≤◌, None, ◌≡◌, ◌<◌, ◌∙◌, ap, refl, sym, false, true, Some, slice_get, length, arith}
+use Rattle.std.proofs.lemmas.Option.{slice_get_past, slice_get_read, get_or_from_slice_get}
+use Rattle.guestmem.proofs.LaterLaws.{later_same}
+use Rattle.guestmem.proofs.RisesLaws.{touches_none}
 use Rattle.blk.specs.Block.{with_requests}
+use Rattle.blk.specs.Move.{is_disk_failed}
 use Rattle.blk.specs.Request.{is_open}
 use Rattle.blk.specs.Sound.{IsSoundRequest}
 use Rattle.blk.specs.declared.advancing.Advanced.TheVariants.{Moved}
@@ -38,3 +41,46 @@ returns-clause-sound g c = λ limits sound.
     let q = g.R.Ring.state c.args.ring.now in
     let P = IsSoundRequest q.base (length c.args.ram.now.bytes) q.is_packed q.size limits in
     rw (c.complete-completed.ensures.after.later.bytes, c.complete-completed.ensures.ring, c.remove.ensures) (all_left P c.args.self.now.requests c.args.job.k sound)
+
+pub returns-then-k-len-clause-changes : goal.returns-then-k-len-clause-changes
+returns-then-k-len-clause-changes g c =
+    let items = c.self.inside.0.1.1.1.0.list.items in
+    let past : length items ≤ c.args.job.k = omega (arith, c.if-k-len.true, c.len.ensures) in
+    let none : slice_get c.args.self.now.requests c.args.job.k ≡ None = rw (← c.self.view_is) (slice_get_past items c.args.job.k past) in
+    rw none (record {
+      answer_is = refl;
+      ram_is = refl;
+      ring_is = refl;
+      block_is = refl;
+      items_are = touches_none g.L.TouchLog.after c.args.log.now c.args.log.now c.args.ram.now c.args.ram.now refl refl;
+    })
+
+pub returns-then-k-len-clause-fine : goal.returns-then-k-len-clause-fine
+returns-then-k-len-clause-fine g c = refl
+
+pub returns-then-k-len-clause-sound : goal.returns-then-k-len-clause-sound
+returns-then-k-len-clause-sound g c = λ limits sound. sound
+
+pub returns-then-k-len-clause-after : goal.returns-then-k-len-clause-after
+returns-then-k-len-clause-after g c = record { later = later_same c.args.ram.now; pages = c.requires.ready.pages }
+
+pub returns-then-k-len-clause-decoder : goal.returns-then-k-len-clause-decoder
+returns-then-k-len-clause-decoder g c = refl
+
+pub returns-then-is_open-clause-fine : goal.returns-then-is_open-clause-fine
+returns-then-is_open-clause-fine g c = refl
+
+pub returns-then-is_open-clause-after : goal.returns-then-is_open-clause-after
+returns-then-is_open-clause-after g c = c.give_id.ensures.after
+
+pub returns-then-is_open-clause-decoder : goal.returns-then-is_open-clause-decoder
+returns-then-is_open-clause-decoder g c = refl
+
+pub returns-clause-fine : goal.returns-clause-fine
+returns-clause-fine g c = ap is_disk_failed c.complete-completed.ensures.answer
+
+pub returns-clause-after : goal.returns-clause-after
+returns-clause-after g c = c.complete-completed.ensures.after
+
+pub returns-clause-decoder : goal.returns-clause-decoder
+returns-clause-decoder g c = c.complete-completed.ensures.decoder

@@ -1,3 +1,4 @@
+use Rattle.std.proofs.lemmas.List.{length-map}
 use Rattle.std.proofs.Common.{◌∙◌, List, sym, subst}
 use Rattle.blk.specs.declared.request.Request.{Request}
 use Rattle.machine.specs.Parked.{parked_states}
@@ -15,3 +16,6 @@ returns-clause-within g c =
     let there = lent c.args.self.now.devices c.devices.result.now c.args.dev c.index-devices-dev.result c.state.result.now c.devices.ensures c.state.ensures c.requires c.index-devices-dev.is in
     let within = parked_within c.args.self.now c.args.dev c.state.result.now there c.recall.ensures.some c.recall.ensures.few c.recall.ensures.sound in
     subst (λ (requests : List Request). AreWithin requests) (sym c.asking_requests.ensures) within
+
+pub bounds-devices-dev : goal.bounds-devices-dev
+bounds-devices-dev g c = let below = c.requires in let there = simp length-map at below in rw c.devices.ensures there
