@@ -1,5 +1,4 @@
-use Rattle.std.proofs.Common.{◌∙◌, ◌+◌, length, take, drop, nat_lt, arith, rules, length-append}
-use Rattle.guestmem.proofs.LaterLaws.{later_trans}
+use Rattle.std.proofs.Common.{◌+◌, length, take, drop, nat_lt, arith, rules, length-append}
 use Rattle.chains.specs.Places.{places, place_writes}
 use Rattle.chains.specs.Publish.{published, after_take}
 use Rattle.chains.proofs.Filling.{parts_then, set_three, told_three, rises_three}
@@ -24,25 +23,3 @@ returns-clause-filled g c =
         rises = rw (length-append front back, parts) (rises_three us vs last c.args.ram.now c.copy_in_with_base.new.ram c.copy_in_with_base-2.new.ram c.publish.new.ram (search rules) (search rules) (search rules));
       };
     }
-
-pub returns-then-is_empty-clause-after : goal.returns-then-is_empty-clause-after
-returns-then-is_empty-clause-after g c = c.fill.ensures.after
-
-pub returns-then-is_empty-clause-decoder : goal.returns-then-is_empty-clause-decoder
-returns-then-is_empty-clause-decoder g c = c.fill.ensures.decoder
-
-pub fill-requires : goal.fill-requires
-fill-requires g c = record { base = c.requires.base; ready = c.requires.ready; bounded = c.requires.bounded; room = omega arith }
-
-pub take-requires : goal.take-requires
-take-requires g c = record { slots = c.requires.bounded.slots }
-
-pub returns-clause-decoder : goal.returns-clause-decoder
-returns-clause-decoder g c = c.publish.ensures.decoder ∙ c.take.ensures.decoder
-
-pub returns-clause-after : goal.returns-clause-after
-returns-clause-after g c =
-    let one = c.copy_in_with_base.ensures.after in
-    let two = c.copy_in_with_base-2.ensures.after in
-    let three = c.publish.ensures.after in
-    record { later = later_trans _ _ _ one.later (later_trans _ _ _ two.later three.later); pages = three.pages }

@@ -1,4 +1,4 @@
-use Rattle.std.proofs.Common.{true}
+use Rattle.std.proofs.Common.{true, arith}
 use Rattle.machine.proofs.At.{IsAt}
 use Rattle.machine.proofs.Keeping.{rings_stay}
 use Rattle.machine.proofs.Reading.{IsReadGood, device_there, good_there, held_so, not_bad, reads_good}
@@ -41,3 +41,8 @@ returns-clause-calls g c =
     let there = good_there i.ram i.devices.items c.args.dev c.args.n (rw (← c.self.view_is) at c.requires) in
     let at : IsAt i.devices.items c.args.dev c.index_mut.result.now = record { below = device_there i.ram i.devices.items c.args.dev c.args.n there; is = c.index_mut.ensures.value } in
     rw (← c.self.view_is) (calls_disk g.D.Disk.called true i.ram i.ram i.devices.items c.args.dev c.index_mut.result.now c.read_good.new.self at c.read_good.ensures.calls)
+
+pub index_mut-requires : goal.index_mut-requires
+index_mut-requires g c =
+    let i = c.self.inside in
+    omega (arith, device_there i.ram i.devices.items c.args.dev c.args.n (good_there i.ram i.devices.items c.args.dev c.args.n (rw (← c.self.view_is) at c.requires)))

@@ -68,6 +68,3 @@ invariant_of-self g c =
       held_worked _ i.shapes.items i.ram c.step-stepped.new.ram i.devices.items c.args.dev c.args.pick d c.step-stepped.new.self (reply_in c.step-stepped.result c.step-stepped.new.sent.items) c.self.invariant.0 at c.step-stepped.ensures.step c.step-stepped.ensures.later.bytes c.recall.ensures.bytes c.step-stepped.ensures.whole c.step-stepped.ensures.capacity,
       rings_stepped c.self.inside.rings.items c.self.inside.ram c.step-stepped.new.ram c.self.inside.devices.items c.args.dev c.step-stepped.new.self c.ring_of.result c.step-stepped.new.ring c.self.invariant.1 c.step-stepped.ensures.later c.step-stepped.ensures.fits,
     )
-
-pub index_mut-device-requires : goal.index_mut-device-requires
-index_mut-device-requires g c = omega (arith, c.len.ensures, c.if-number-len.false)

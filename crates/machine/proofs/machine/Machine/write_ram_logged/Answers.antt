@@ -36,9 +36,3 @@ returns-clause-applied g c =
     rw (← c.self.view_is)
     (applied_logged g.L.TouchLog.after i.shapes.items (record { memory = i.ram; devices = i.devices.items }) _ c.args.log.now c.put.new.log (events.MemWrite c.args.addr c.args.bytes.now) replies.Done c.self.invariant.0 (c.ranges.addr.fits, c.recall_bytes.ensures)
     step c.put.ensures.later refl tt tt)
-
-pub returns-in-Some-clause-calls : goal.returns-in-Some-clause-calls
-returns-in-Some-clause-calls g c = refl
-
-pub returns-clause-calls : goal.returns-clause-calls
-returns-clause-calls g c = rw (← c.self.view_is) refl

@@ -40,6 +40,3 @@ returns-clause-step g c = λ sent honest content whole.
 
 pub returns-clause-fits : goal.returns-clause-fits
 returns-clause-fits g c = fits_on _ _ _ _ c.requires.fits c.advance_outside-advanced.ensures.after.later c.advance_outside-advanced.ensures.decoder
-
-pub returns-clause-later : goal.returns-clause-later
-returns-clause-later g c = c.advance_outside-advanced.ensures.after.later
