@@ -3,7 +3,7 @@
 use crate::own_disk::{Called, OwnDisk};
 use anyhow::{Result, bail, ensure};
 use std::alloc::Global;
-use vmig::{Event, LiveEvent, Machine, Reply, SyncOwed, parse};
+use vmig::{Event, LiveEvent, Machine, Reply, Shape, SyncOwed, parse};
 
 /// A driver that accepts VERSION_1 alone writes sector 3 of a disk of 8. Its status byte is at 0x900, and begins as 9.
 const WRITE: &str = "ram 1
@@ -36,10 +36,9 @@ pub fn ends_after_its_flush(alloc: Global) -> Result<()> {
 
 /// Fails unless the write leaves this status byte, and these were the calls of its disk.
 fn leaves(alloc: Global, flush_fails: bool, status: u8, called: &[Called]) -> Result<()> {
-    let mut machine = machine_with(alloc, flush_fails)?;
-    drive(alloc, &mut machine)?;
-    has_status(&machine, status)?;
-    let calls = calls_of(machine)?;
+    let trace = parse(alloc, WRITE.as_bytes())?;
+    let machine = machine_with(alloc, trace.shapes.as_slice(), flush_fails)?;
+    let calls = calls_after(machine, trace.events.as_slice(), status)?;
     ensure!(
         calls.as_slice() == called,
         "the calls of a disk whose flush fails: {flush_fails}"
@@ -47,18 +46,27 @@ fn leaves(alloc: Global, flush_fails: bool, status: u8, called: &[Called]) -> Re
     Ok(())
 }
 
-/// The machine of the trace, over a disk that keeps its calls.
-fn machine_with(alloc: Global, flush_fails: bool) -> Result<Machine<OwnDisk>> {
-    let trace = parse(alloc, WRITE.as_bytes())?;
+/// A machine over a disk that keeps its calls.
+fn machine_with(alloc: Global, shapes: &[Shape], flush_fails: bool) -> Result<Machine<OwnDisk>> {
     let mut disks = Vec::new(alloc);
     disks.push(OwnDisk::new(alloc, 8, flush_fails)?)?;
-    Ok(Machine::new(alloc, 1, trace.shapes.as_slice(), disks)?)
+    Ok(Machine::new(alloc, 1, shapes, disks)?)
+}
+
+/// The calls of its disk after these events, which leave this status byte.
+fn calls_after(
+    mut machine: Machine<OwnDisk>,
+    events: &[LiveEvent],
+    status: u8,
+) -> Result<Vec<Called>> {
+    drive(&mut machine, events)?;
+    has_status(&machine, status)?;
+    calls_of(machine)
 }
 
 /// Applies the events of the trace.
-fn drive(alloc: Global, machine: &mut Machine<OwnDisk>) -> Result<()> {
-    let trace = parse(alloc, WRITE.as_bytes())?;
-    for event in trace.events.as_slice() {
+fn drive(machine: &mut Machine<OwnDisk>, events: &[LiveEvent]) -> Result<()> {
+    for event in events {
         serve(machine, event)?;
     }
     Ok(())
@@ -75,15 +83,17 @@ fn has_status(machine: &Machine<OwnDisk>, expected: u8) -> Result<()> {
     Ok(())
 }
 
-/// The calls that were made of the disk.
+/// The calls that were made of the disk, which is that of the last device.
 fn calls_of(machine: Machine<OwnDisk>) -> Result<Vec<Called>> {
-    for device in machine.into_devices() {
-        if let Some(sectors) = device.into_sectors() {
-            let (disk, _bad) = sectors.into_parts();
-            return Ok(disk.calls);
-        }
-    }
-    bail!("no disk")
+    let mut devices = machine.into_devices();
+    let Some(device) = devices.pop() else {
+        bail!("no device");
+    };
+    let Some(sectors) = device.into_sectors() else {
+        bail!("no disk");
+    };
+    let (disk, _bad) = sectors.into_parts();
+    Ok(disk.calls)
 }
 
 /// Applies an event. Before the end of a write that its driver takes for durable the disk is flushed; where that fails the step is not made.

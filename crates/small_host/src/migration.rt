@@ -29,22 +29,31 @@ pub fn migrate(
     let Ok(live) = Live::new(rt.alloc(), host.into_guest(), sink) else {
         bail!("no memory to send the machine");
     };
-    let mut host = Host::of(live);
+    let stream = sent(rt, Host::of(live), exits)?;
+    arrive(rt, stream.as_slice())
+}
+
+/// Sends the machine, and gives its stream. From then on this machine must not continue: the other one does.
+fn sent(rt: &HostRuntime, mut host: Host<Moving>, exits: &[Exit]) -> Result<Vec<u8>> {
+    send(rt, &mut host, exits)?;
+    let (_stopped_machine, sink) = host.into_guest().into_parts();
+    Ok(sink.into_inner())
+}
+
+/// Sends the machine while its guest comes to these exits, until few items are left, and stops it for the rest.
+fn send(rt: &HostRuntime, host: &mut Host<Moving>, exits: &[Exit]) -> Result<()> {
     host.guest().begin()?;
     for exit in exits {
         host.run(rt, &[*exit])?;
         let _sent = host.guest().copy()?;
     }
-    let mut live = host.into_guest();
-    send_rounds(&mut live)?;
-    let stopped = live.stop()?;
+    send_rounds(host.guest())?;
+    let stopped = host.guest().stop()?;
     println!(rt;
         "host: paused the guest, and sent {} pages and {} sectors then",
         stopped.pages, stopped.sectors
     )?;
-    // From here on this machine must not continue: the other one does.
-    let (_stopped_machine, sink) = live.into_parts();
-    arrive(rt, sink.into_inner().as_slice())
+    Ok(())
 }
 
 /// Sends round after round, until few items are dirty.
@@ -69,19 +78,30 @@ fn send_due(live: &mut Moving) -> Result<()> {
     Ok(())
 }
 
-/// Receives the machine of a stream, fed in pieces, over disks of the same sizes. What arrived is made durable before it runs here: its guest
-/// may have been told of a flush long ago.
+/// Receives the machine of a stream over disks of the same sizes. What arrived is made durable before it runs here: its guest may have been
+/// told of a flush long ago.
 fn arrive(rt: &HostRuntime, stream: &[u8]) -> Result<Machine<MemDisk>> {
     let mut receiver = Receiver::new(rt.alloc(), disks(rt)?);
+    feed(&mut receiver, stream)?;
+    let mut machine = receiver.finish()?;
+    make_durable(&mut machine)?;
+    Ok(machine)
+}
+
+/// Feeds a stream in pieces.
+fn feed(receiver: &mut Receiver<MemDisk>, stream: &[u8]) -> Result<()> {
     for piece in stream.chunks(PIECE) {
         receiver.feed(piece)?;
     }
     if !receiver.is_whole() {
         bail!("the stream is cut off");
     }
-    let mut machine = receiver.finish()?;
+    Ok(())
+}
+
+fn make_durable(machine: &mut Machine<MemDisk>) -> Result<()> {
     if machine.flush_disk(DISK).is_err() {
         bail!("what arrived did not reach its disk: the machine continues where it came from");
     }
-    Ok(machine)
+    Ok(())
 }
