@@ -1,4 +1,4 @@
-use Rattle.std.proofs.Common.{◌≡◌, ◌∙◌, length, map, None, Some, refl, sym, ap, subst, arith}
+use Rattle.std.proofs.Common.{◌≡◌, ◌∙◌, length, map, None, Some, sym, ap, subst, arith}
 use Rattle.machine.specs.Board.{ram_size}
 use Rattle.machine.specs.First.{made_machine, make_refusal}
 use Rattle.machine.specs.Limits.{IsWithinLimits}
@@ -53,48 +53,3 @@ pub returns-in-Ok-into_ram-clause-refused : goal.returns-in-Ok-into_ram-clause-r
 returns-in-Ok-into_ram-clause-refused g c =
     let none : make_refusal c.args.board.limits c.args.board.base (ram_size c.args.board.ram) c.args.board.shapes.now (map (λ d. length (g.D.Disk.state d).sectors) c.args.board.disks.items) ≡ None = sym (rw (c.len.ensures, c.as_slice.ensures.value) at c.refusal.ensures) ∙ c.in_default.is in
     rw none tt
-
-pub returns-in-Some-clause-refused : goal.returns-in-Some-clause-refused
-returns-in-Some-clause-refused g c =
-    let refused : make_refusal c.args.board.limits c.args.board.base (ram_size c.args.board.ram) c.args.board.shapes.now (map (λ d. length (g.D.Disk.state d).sectors) c.args.board.disks.items) ≡ Some c.in-Some.error = sym (rw (c.len.ensures, c.as_slice.ensures.value) at c.refusal.ensures) ∙ c.in-Some.is in
-    rw refused refl
-
-pub returns-in-Some-clause-disks : goal.returns-in-Some-clause-disks
-returns-in-Some-clause-disks g c = refl
-
-pub returns-in-Ok-into_ram-clause-marks : goal.returns-in-Ok-into_ram-clause-marks
-returns-in-Ok-into_ram-clause-marks g c = rw c.in-Ok.ensures.shapes at c.restore_in.ensures.marks
-
-pub returns-in-Ok-into_ram-clause-calls : goal.returns-in-Ok-into_ram-clause-calls
-returns-in-Ok-into_ram-clause-calls g c = rw c.in-Ok.ensures.shapes at c.restore_in.ensures.calls
-
-pub returns-in-Ok-into_ram-clause-place : goal.returns-in-Ok-into_ram-clause-place
-returns-in-Ok-into_ram-clause-place g c = c.restore_in.ensures.place ∙ c.in-Ok-into_ram.ensures.place
-
-pub returns-in-Ok-into_ram-clause-sound : goal.returns-in-Ok-into_ram-clause-sound
-returns-in-Ok-into_ram-clause-sound g c = c.restore_in.ensures.sound
-
-pub returns-in-Ok-into_ram-clause-memory : goal.returns-in-Ok-into_ram-clause-memory
-returns-in-Ok-into_ram-clause-memory g c = λ none. tt
-
-pub restore_in-requires-clause-devices : goal.restore_in-requires-clause-devices
-restore_in-requires-clause-devices g c = rw c.in-Ok.ensures.room refl
-
-pub restore_in-requires-clause-disks : goal.restore_in-requires-clause-disks
-restore_in-requires-clause-disks g c = rw c.in-Ok.ensures.room (omega arith)
-
-pub returns-in_default-first_parts-clause-refused : goal.returns-in_default-first_parts-clause-refused
-returns-in_default-first_parts-clause-refused g c =
-    let none : make_refusal c.args.board.limits c.args.board.base (ram_size c.args.board.ram) c.args.board.shapes.now (map (λ d. length (g.D.Disk.state d).sectors) c.args.board.disks.items) ≡ None = sym (rw (c.len.ensures, c.as_slice.ensures.value) at c.refusal.ensures) ∙ c.in_default.is in
-    rw none tt
-
-pub returns-in-Err-clause-refused : goal.returns-in-Err-clause-refused
-returns-in-Err-clause-refused g c =
-    let none : make_refusal c.args.board.limits c.args.board.base (ram_size c.args.board.ram) c.args.board.shapes.now (map (λ d. length (g.D.Disk.state d).sectors) c.args.board.disks.items) ≡ None = sym (rw (c.len.ensures, c.as_slice.ensures.value) at c.refusal.ensures) ∙ c.in_default.is in
-    rw none tt
-
-pub returns-in_default-first_parts-clause-memory : goal.returns-in_default-first_parts-clause-memory
-returns-in_default-first_parts-clause-memory g c = λ none. refl
-
-pub returns-in-Err-clause-memory : goal.returns-in-Err-clause-memory
-returns-in-Err-clause-memory g c = λ none. refl
