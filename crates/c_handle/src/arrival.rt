@@ -128,7 +128,7 @@ impl Arrival {
             Progress::Body(receiver) => match receiver.feed(piece) {
                 Ok(()) => Ok(()),
                 Err(error) => {
-                    self.progress = Progress::Failed;
+                    drop(mem::replace(&mut self.progress, Progress::Failed));
                     Err(error)
                 }
             },
@@ -152,7 +152,7 @@ impl Arrival {
         };
         match take_head(alloc, terms, ram, held, piece) {
             Ok(progress) => {
-                self.progress = progress;
+                drop(mem::replace(&mut self.progress, progress));
                 Ok(())
             }
             Err(error) => Err(error),
@@ -250,7 +250,10 @@ impl Arrival {
         let Arrival { progress } = self;
         match progress {
             Progress::Over(receiver) => Some(receiver.into_disks()),
-            _ => None,
+            other => {
+                drop(other);
+                None
+            }
         }
     }
 }

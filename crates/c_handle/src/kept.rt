@@ -27,6 +27,7 @@ use mapped_disk::MappedDisk;
 use sender::LiveWaiting;
 use std::alloc::Global;
 use std::marker::Model;
+use std::mem;
 
 /// A machine that is being migrated, and the bytes written for it and not taken yet.
 pub(crate) type Moving<D> = LiveWaiting<D>;
@@ -272,9 +273,9 @@ impl Kept {
         requires { FitsLog written (ram_in asked.places (held_state held)) }
         ensures { self.new ≡ record (kept_with held (admission_of admission) self.old.fed self.old.lost) { calls = self.old.calls; written = written; large = asked.large; places = asked.places } }
     {
-        self.held = held;
-        self.admission = admission;
-        self.output.written = written;
+        drop(mem::replace(&mut self.held, held));
+        drop(mem::replace(&mut self.admission, admission));
+        drop(mem::replace(&mut self.output.written, written));
         self.asked = asked;
     }
 

@@ -18,7 +18,7 @@ returns-in-Err-clause-refused c =
     let view : awaited_by c.self.inside.progress ≡ c.args.self.now = c.self.view_is in
     let steady : AreSteady c.in-Body.receiver = rw c.in-Body.is at coming in
     let seen : AtBody c.in-Body.receiver ≡ c.args.self.now = sym (ap awaited_by c.in-Body.is) ∙ view in
-    subst (λ (a : ArrivalSeen). TellsOf a c.args.piece.now c.in-Err.error × IsClosed a Refused) seen (more_refused c.in-Body.receiver c.feed.new.self.marks c.args.piece.now c.in-Err.error steady c.in-Err.ensures.marks c.in-Err.ensures.told, refl)
+    rw c.replace.ensures.after (subst (λ (a : ArrivalSeen). TellsOf a c.args.piece.now c.in-Err.error × IsClosed a Refused) seen (more_refused c.in-Body.receiver c.feed.new.self.marks c.args.piece.now c.in-Err.error steady c.in-Err.ensures.marks c.in-Err.ensures.told, refl))
 
 pub invariant_of-self-in-Over : goal.invariant_of-self-in-Over
 invariant_of-self-in-Over c =
