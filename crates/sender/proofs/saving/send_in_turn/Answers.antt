@@ -6,6 +6,16 @@ use Rattle.sender.proofs.SectorReads.{bad_now, failed_alike, good_now, next_on, 
 use Rattle.sender.proofs.Sending.{sends_alike}
 use Rattle.sender.proofs.saving.send_in_turn.Goals as goal
 
+pub returns-in_err-encode_sector-clause-calls : goal.returns-in_err-encode_sector-clause-calls
+returns-in_err-encode_sector-clause-calls g c =
+    let same : c.args.next_bad ≡ Some c.args.number = search rules in
+    unread_bad g.D.Disk.called c.args.machine.now c.args.dev c.args.number (bad_now (state_of c.args.machine.now) c.args.dev c.args.number c.args.next_bad c.requires.next same)
+
+pub returns-then-eq-clause-calls : goal.returns-then-eq-clause-calls
+returns-then-eq-clause-calls g c =
+    let same : c.args.next_bad ≡ Some c.args.number = search rules in
+    unread_bad g.D.Disk.called c.args.machine.now c.args.dev c.args.number (bad_now (state_of c.args.machine.now) c.args.dev c.args.number c.args.next_bad c.requires.next same)
+
 pub send_good-requires : goal.send_good-requires
 send_good-requires g c =
     let other : c.args.next_bad ≢ Some c.args.number = search rules in
@@ -50,26 +60,13 @@ returns-in_err-encode_sector-clause-taken g c = rw (err_from_is_err_and c.from_r
 pub returns-in_err-encode_sector-clause-next : goal.returns-in_err-encode_sector-clause-next
 returns-in_err-encode_sector-clause-next g c = rw (err_from_is_err_and c.from_residual.result c.from_residual.ensures.1).1 tt
 
-pub returns-in_err-encode_sector-clause-calls : goal.returns-in_err-encode_sector-clause-calls
-returns-in_err-encode_sector-clause-calls g c =
-    let same : c.args.next_bad ≡ Some c.args.number = search rules in
-    unread_bad g.D.Disk.called c.args.machine.now c.args.dev c.args.number (bad_now (state_of c.args.machine.now) c.args.dev c.args.number c.args.next_bad c.requires.next same)
-
 pub returns-then-eq-clause-sent : goal.returns-then-eq-clause-sent
 returns-then-eq-clause-sent g c =
     let same : c.args.next_bad ≡ Some c.args.number = search rules in
-    sent_bad c.args.machine.now c.args.dev c.args.number (g.S.Sink.state c.args.out.now) (g.S.Sink.state c.encode_sector.new.out) c.in_ok-encode_sector.field-0 c.next_bad.result (bad_now (state_of c.args.machine.now) c.args.dev c.args.number c.args.next_bad c.requires.next same)
+    sent_bad c.args.machine.now c.args.dev c.args.number (g.S.Sink.state c.args.out.now) (g.S.Sink.state c.encode_sector.new.out) c.in_ok-encode_sector.field-0 _ (bad_now (state_of c.args.machine.now) c.args.dev c.args.number c.args.next_bad c.requires.next same)
     c.in_ok-encode_sector.ensures.out
 
 pub returns-then-eq-clause-taken : goal.returns-then-eq-clause-taken
 returns-then-eq-clause-taken g c =
     let same : c.args.next_bad ≡ Some c.args.number = search rules in
     λ disks. taken_bad (state_of c.args.machine.now) c.args.dev c.args.number (prompt c.args.sum.now.taken) (prompt c.encode_sector-then-eq.new.out.taken) (bad_now (state_of c.args.machine.now) c.args.dev c.args.number c.args.next_bad c.requires.next same) c.in-Ok.ensures.taken
-
-pub returns-then-eq-clause-next : goal.returns-then-eq-clause-next
-returns-then-eq-clause-next g c = c.next_bad.ensures
-
-pub returns-then-eq-clause-calls : goal.returns-then-eq-clause-calls
-returns-then-eq-clause-calls g c =
-    let same : c.args.next_bad ≡ Some c.args.number = search rules in
-    unread_bad g.D.Disk.called c.args.machine.now c.args.dev c.args.number (bad_now (state_of c.args.machine.now) c.args.dev c.args.number c.args.next_bad c.requires.next same)
