@@ -174,8 +174,8 @@ impl<D: Disk + Drop> Reader<D> {
         };
         let (header, _) = bytes.split_at(len);
         self.digest.update(header);
-        self.room = Some(room);
-        self.stage = Stage::Records(intake);
+        drop(mem::replace(&mut self.room, Some(room)));
+        drop(mem::replace(&mut self.stage, Stage::Records(intake)));
         Ok(len)
     }
 

@@ -202,7 +202,10 @@ impl<D: Disk + Drop> Receiver<D> {
     {
         match self.finish_or_back() {
             Ok(machine) => Ok(machine),
-            Err((error, _receiver)) => Err(error),
+            Err((error, receiver)) => {
+                drop(receiver);
+                Err(error)
+            }
         }
     }
 
@@ -212,9 +215,10 @@ impl<D: Disk + Drop> Receiver<D> {
     {
         let Receiver {
             reader,
-            held: _,
+            held,
             lacking: _,
         } = self;
+        drop(held);
         let Reader {
             alloc,
             ram: terms,
@@ -292,19 +296,22 @@ impl<D: Disk + Drop> Receiver<D> {
     {
         let Receiver {
             mut reader,
-            held: _,
+            held,
             lacking: _,
         } = self;
+        drop(held);
         reader.fail();
         let Reader {
             alloc: _,
             ram: _,
             disks,
             aside,
-            room: _,
+            room,
             digest: _,
-            stage: _,
+            stage,
         } = reader;
+        drop(room);
+        drop(stage);
         match aside {
             Some(ram) => (disks, Some(ram.into_ram())),
             None => (disks, None),

@@ -47,6 +47,7 @@ pub fn receive_with<D: Disk + Drop>(
 {
     let mut receiver = Receiver::with_terms(alloc, disks, None, terms);
     if let Err(error) = receiver.feed(bytes) {
+        drop(receiver);
         return Err(error);
     }
     let rounds = receiver.rounds();

@@ -66,7 +66,7 @@ other_by false false again e fault is other told why = absurd (other why)
 error_is : {M : Type 0} {e x : NewError} → (◌≡◌ {A = Result M NewError} (Err e) (Err x)) → e ≡ x
 error_is same = cc
 
-why_not : {M : Type 0} (o : Option NewError) (r : Result M NewError) (e : NewError) → r ≡ Err e → IfSome o (λ x. r ≡ Err x) → (o ≡ None → IfErr r (λ x. x ≡ NoMemory)) → MatchOption o (e ≡ NoMemory) (λ x. e ≡ x)
+pub why_not : {M : Type 0} (o : Option NewError) (r : Result M NewError) (e : NewError) → r ≡ Err e → IfSome o (λ x. r ≡ Err x) → (o ≡ None → IfErr r (λ x. x ≡ NoMemory)) → MatchOption o (e ≡ NoMemory) (λ x. e ≡ x)
 why_not None r e is refused memory = rw is at (memory refl)
 why_not (Some x) r e is refused memory = error_is (sym is ∙ refused)
 
@@ -83,7 +83,7 @@ told_first pages shapes sizes r e fault none is refused memory other told =
     (subst P none (why_not (trace_refusal pages shapes sizes) r e is refused memory))
 
 -- What one with disks tells.
-told_by : (o : Option NewError) (e : NewError) (fault : Fault) → MatchOption o (e ≡ NoMemory) (λ x. e ≡ x) → fault ≡ shape_fault e → MatchOption o (fault ≡ faults.NoMemory) (λ refusal. fault ≡ shape_fault refusal)
+pub told_by : (o : Option NewError) (e : NewError) (fault : Fault) → MatchOption o (e ≡ NoMemory) (λ x. e ≡ x) → fault ≡ shape_fault e → MatchOption o (fault ≡ faults.NoMemory) (λ refusal. fault ≡ shape_fault refusal)
 told_by None e fault why told = told ∙ ap shape_fault why
 told_by (Some x) e fault why told = told ∙ ap shape_fault why
 

@@ -66,7 +66,7 @@ pub invariant_of-self-2 : goal.invariant_of-self-2
 invariant_of-self-2 g c =
     let i = c.self.inside in
     let fits = rw c.deref.ensures.value at c.in_default-check_fit.ensures.fits in
-    (c.in-Ok-new_intake.ensures.sized, fits ∙ ap disk_sizes (sym c.in-Ok-new_intake.ensures.shapes), ap Some (room_of c.in-Ok.room _ _ _ _ c.in-Ok.ensures (omega (arith, c.len.ensures, ap length c.in-Ok-new_intake.ensures.shapes)) (omega (arith, c.len-2.ensures, length-map i.disks.items g.D.Disk.state))))
+    rw (c.replace.ensures.after, c.replace-2.ensures.after) (c.in-Ok-new_intake.ensures.sized, fits ∙ ap disk_sizes (sym c.in-Ok-new_intake.ensures.shapes), ap Some (room_of c.in-Ok.room _ _ _ _ c.in-Ok.ensures (omega (arith, c.len.ensures, ap length c.in-Ok-new_intake.ensures.shapes)) (omega (arith, c.len-2.ensures, length-map i.disks.items g.D.Disk.state))))
 
 pub returns : goal.returns
 returns g c =
@@ -77,7 +77,7 @@ returns g c =
     let len = c.in-Some.heading.len in
     let front = head_taken c.args.bytes.now (opened i.ram (said c.in-Some.heading)) len b.0 b.1 in
     let read = (rw c.deref-2.ensures.value at c.in-Ok-new_intake.ensures.read) c.args.bytes.now (drop len c.args.bytes.now) b.1 in
-    rw (← c.self.view_is) (record {
+    rw (c.replace.ensures.after, c.replace-2.ensures.after, ← c.self.view_is) (record {
       ram = refl;
       disks = refl;
       within = b.0;

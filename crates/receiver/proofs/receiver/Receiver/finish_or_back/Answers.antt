@@ -40,8 +40,8 @@ restore_in-requires g c =
       disks = omega (arith, marks_count _ c.in-Records.intake.bad.items marks, ap (λ (r : RoomSeen). r.disks) room);
     }
 
-pub returns-in-Records : goal.returns-in-Records
-returns-in-Records g c =
+pub returns-else-not-intake : goal.returns-else-not-intake
+returns-else-not-intake g c =
     let r = c.reader.inside in
     let s = seen_of r.ram (map g.D.Disk.state r.disks.items) r.aside r.room r.digest r.stage in
     let h = (has_come s c.self.inside.held.items _ _ c.in-Records.intake (rw (← c.reader.view_is) at c.self.invariant) c.in-Records.is (not-false _ c.if-not-intake.false)).1 in
@@ -101,8 +101,8 @@ returns-in-Failed g c =
     rw (← c.self.view_is, ← c.reader.view_is)
     (ends_again s held c.given_up-in-Failed.result (ap has_failed c.in-Failed.is) (given_back_as s held c.given_up-in-Failed.result new.failed new.ram new.disks new.sizes new.marks (new.place ∙ sym (ap (place_in s.aside) c.in-Failed.is))))
 
-pub returns : goal.returns
-returns g c =
+pub returns-in-Head : goal.returns-in-Head
+returns-in-Head g c =
     let r = c.reader.inside in
     let s = seen_of r.ram (map g.D.Disk.state r.disks.items) r.aside r.room r.digest r.stage in
     let held = c.self.inside.held.items in
