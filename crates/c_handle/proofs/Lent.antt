@@ -3,6 +3,7 @@ use Rattle.std.proofs.Common.{◌≡◌, ◌<◌, ◌*◌, ◌==◌, ℕ, Bool, 
 use Prim.Native.Nat.{zero, suc}
 use Rattle.std.specs.Prelude.{All, Option, Some, None, not, if◌then◌else◌}
 use Rattle.region.specs.declared.slot.Slot.{Slot}
+use Rattle.machine.specs.Seen.{Seen}
 use Rattle.sender.specs.LiveState.{LiveSeen}
 use Rattle.c_handle.specs.Kept.{LoanSeen, State, Still, Moving, Arriving, Lent, parked_in}
 use Rattle.c_handle.specs.Lent.{ComesBack, HasComeBack, IsReturnable, back_refusal_of, lend_refusal_of, lent_pages}
@@ -96,3 +97,8 @@ pub free_slot : (k : State) (l : LiveSeen) (bytes : List ℕ) → k ≡ Moving l
 free_slot k l bytes is none =
     let going : lend_refusal_of (Moving l) (length bytes) ≡ None = subst (λ (x : State). lend_refusal_of x (length bytes) ≡ None) is none in
     empty_of bytes (eq_of (length bytes) 0 (by_test (is_closed l.phase) (length bytes == 0) going))
+
+pub free_still : (k : State) (m : Seen) (bytes : List ℕ) → k ≡ Still m → lend_refusal_of k (length bytes) ≡ None → bytes ≡ []
+free_still k m bytes is none =
+    let going : lend_refusal_of (Still m) (length bytes) ≡ None = subst (λ (x : State). lend_refusal_of x (length bytes) ≡ None) is none in
+    empty_of bytes (eq_of (length bytes) 0 (by_test false (length bytes == 0) going))
