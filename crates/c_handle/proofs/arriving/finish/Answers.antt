@@ -1,4 +1,4 @@
-use Rattle.std.proofs.Common.{◌≡◌, ◌∙◌, ap, sym}
+use Rattle.std.proofs.Common.{◌∙◌, ap, sym}
 use Rattle.c_handle.specs.Arriving.{Ends}
 use Rattle.c_handle.specs.Kept.{admission_of, held_state}
 use Rattle.c_handle.proofs.Arrivals.{ended_badly, ended_well}
