@@ -36,14 +36,19 @@ pub fn ends_after_its_flush(alloc: Global) -> Result<()> {
 
 /// Fails unless the write leaves this status byte, and these were the calls of its disk.
 fn leaves(alloc: Global, flush_fails: bool, status: u8, called: &[Called]) -> Result<()> {
-    let trace = parse(alloc, WRITE.as_bytes())?;
-    let machine = machine_with(alloc, trace.shapes.as_slice(), flush_fails)?;
-    let calls = calls_after(machine, trace.events.as_slice(), status)?;
+    let calls = calls_of_write(alloc, flush_fails, status)?;
     ensure!(
         calls.as_slice() == called,
         "the calls of a disk whose flush fails: {flush_fails}"
     );
     Ok(())
+}
+
+/// The calls of the disk, where the write leaves this status byte.
+fn calls_of_write(alloc: Global, flush_fails: bool, status: u8) -> Result<Vec<Called>> {
+    let trace = parse(alloc, WRITE.as_bytes())?;
+    let machine = machine_with(alloc, trace.shapes.as_slice(), flush_fails)?;
+    calls_after(machine, trace.events.as_slice(), status)
 }
 
 /// A machine over a disk that keeps its calls.

@@ -1,11 +1,11 @@
 //! How large a machine may be: one that is made, and what a stream announces, under the usual limits and under those of a host.
 
-use crate::streams::machine_of;
+use crate::streams::{machine_of, written};
 use anyhow::{Context, Result, ensure};
 use std::alloc::Global;
 use vmig::{
-    Board, Limits, Machine, MemDisk, RamOf, Receiver, Shape, Terms, WriteSink, decode_header,
-    read_heading, read_heading_within, receive_with, save,
+    Board, Limits, Machine, MemDisk, RamOf, Receiver, Shape, Terms, decode_header, read_heading,
+    read_heading_within, receive_with,
 };
 
 /// The header of a machine of 16,385 pages and an entropy device.
@@ -47,15 +47,18 @@ fn limits_of(pages: u32, sectors: u32) -> Limits {
 
 /// A machine is made where it is within its board's limits, and no larger one is.
 fn machines_are_within(alloc: Global) -> Result<()> {
-    let both = limits_of(2, 3);
-    ensure!(refusal_of(alloc, both, 2, 3)? == 0, "as large as allowed");
-    ensure!(refusal_of(alloc, both, 3, 3)? == 1, "a page more");
-    ensure!(refusal_of(alloc, both, 2, 4)? == 1, "a sector more");
-    ensure!(
-        refusal_of(alloc, Limits::usual(), 16_385, 1)? == 1,
-        "a page more than the usual"
-    );
-    ensure!(refusal_of(alloc, Limits::greatest(), 0, 1)? == 1, "no page");
+    let (both, usual, greatest) = (limits_of(2, 3), Limits::usual(), Limits::greatest());
+    is_told(refusal_of(alloc, both, 2, 3)?, 0, "as large as allowed")?;
+    is_told(refusal_of(alloc, both, 3, 3)?, 1, "a page more")?;
+    is_told(refusal_of(alloc, both, 2, 4)?, 1, "a sector more")?;
+    let refusal = refusal_of(alloc, usual, 16_385, 1)?;
+    is_told(refusal, 1, "a page more than the usual")?;
+    is_told(refusal_of(alloc, greatest, 0, 1)?, 1, "no page")
+}
+
+/// Fails unless the number of a refusal, or 0, is this one.
+fn is_told(refusal: u8, expected: u8, compared: &str) -> Result<()> {
+    ensure!(refusal == expected, "{compared}");
     Ok(())
 }
 
@@ -90,12 +93,16 @@ fn headers_are_within(alloc: Global) -> Result<()> {
     is_read(alloc, limits_of(16_385, 0), &PAGES)?;
     is_read(alloc, limits_of(1, 2_097_153), &DISK)?;
     is_read(alloc, Limits::greatest(), &PAGES)?;
+    headers_are_refused(alloc)?;
+    is_unusual(alloc, &PAGES, AT_PAGES)?;
+    is_unusual(alloc, &DISK, AT_DISK)
+}
+
+fn headers_are_refused(alloc: Global) -> Result<()> {
     is_refused(alloc, limits_of(16_384, 0), &PAGES, AT_PAGES)?;
     is_refused(alloc, Limits::usual(), &PAGES, AT_PAGES)?;
     is_refused(alloc, limits_of(1, 2_097_152), &DISK, AT_DISK)?;
-    is_refused(alloc, Limits::usual(), &DISK, AT_DISK)?;
-    is_unusual(alloc, &PAGES, AT_PAGES)?;
-    is_unusual(alloc, &DISK, AT_DISK)
+    is_refused(alloc, Limits::usual(), &DISK, AT_DISK)
 }
 
 /// The number of a header's fault; 0 of a whole one, and `None` where it is not whole.
@@ -147,22 +154,27 @@ fn is_unusual(alloc: Global, header: &[u8], at: usize) -> Result<()> {
 /// A receiver refuses at the same byte, whoever says the limits, and takes the same bytes within limits that allow them.
 fn receivers_are_within(alloc: Global) -> Result<()> {
     let pages = Some((AT_PAGES, BAD_SHAPE));
-    ensure!(
-        fault_within(alloc, 16_384, 0, &PAGES) == pages,
-        "fewer pages"
-    );
-    ensure!(fault_within(alloc, 16_385, 0, &PAGES).is_none(), "as many");
-    ensure!(usual_fault(alloc, &PAGES) == pages, "the usual pages");
+    is_at(fault_within(alloc, 16_384, 0, &PAGES), pages, "fewer pages")?;
+    is_at(fault_within(alloc, 16_385, 0, &PAGES), None, "as many")?;
+    is_at(usual_fault(alloc, &PAGES), pages, "the usual pages")?;
     let disk = Some((AT_DISK, BAD_SHAPE));
-    ensure!(
-        fault_within(alloc, 1, 2_097_152, &DISK) == disk,
-        "fewer sectors"
-    );
-    ensure!(
-        fault_within(alloc, 1, 2_097_153, &DISK) == Some((AT_DISK, MISMATCH)),
-        "as many, and no such disk"
-    );
-    ensure!(usual_fault(alloc, &DISK) == disk, "the usual sectors");
+    let none = Some((AT_DISK, MISMATCH));
+    is_at(
+        fault_within(alloc, 1, 2_097_152, &DISK),
+        disk,
+        "fewer sectors",
+    )?;
+    is_at(
+        fault_within(alloc, 1, 2_097_153, &DISK),
+        none,
+        "as many, and no such disk",
+    )?;
+    is_at(usual_fault(alloc, &DISK), disk, "the usual sectors")
+}
+
+/// Fails unless a receiver's fault is this one.
+fn is_at(fault: Option<(usize, u8)>, expected: Option<(usize, u8)>, compared: &str) -> Result<()> {
+    ensure!(fault == expected, "{compared}");
     Ok(())
 }
 
@@ -192,15 +204,14 @@ fn fault_of(receiver: &mut Receiver<MemDisk>, header: &[u8]) -> Option<(usize, u
 
 /// A whole stream of a machine of one page, by which a host allows one page, and by which it allows none.
 fn slices_are_within(alloc: Global) -> Result<()> {
-    let mut sink = WriteSink::new(Vec::new(alloc));
-    save(&mut machine_of(alloc)?, &mut sink)?;
-    let stream = sink.into_inner();
-    ensure!(fault_in(alloc, 1, stream.as_slice()) == 0, "one page");
-    ensure!(
-        fault_in(alloc, 0, stream.as_slice()) == BAD_SHAPE,
-        "no page"
-    );
-    Ok(())
+    let stream = stream_of(alloc)?;
+    is_told(fault_in(alloc, 1, stream.as_slice()), 0, "one page")?;
+    is_told(fault_in(alloc, 0, stream.as_slice()), BAD_SHAPE, "no page")
+}
+
+fn stream_of(alloc: Global) -> Result<Vec<u8>> {
+    let mut machine = machine_of(alloc)?;
+    written(alloc, &mut machine)
 }
 
 /// The number of the fault of a stream, or 0.

@@ -19,10 +19,14 @@ pub fn agree(alloc: Global) -> Result<()> {
 fn events_answer(alloc: Global) -> Result<()> {
     let none: Vec<MemDisk> = Vec::new(alloc);
     let mut machine = Machine::new(alloc, 1, &[Shape::Entropy], none)?;
-    magic_is_read(&mut machine)?;
-    ram_is_written(alloc, &mut machine)?;
-    list_is_played(alloc, &mut machine)?;
-    is_as_made(&machine)
+    machine_answers(alloc, &mut machine)
+}
+
+fn machine_answers(alloc: Global, machine: &mut Machine<MemDisk>) -> Result<()> {
+    magic_is_read(machine)?;
+    ram_is_written(alloc, machine)?;
+    list_is_played(alloc, machine)?;
+    is_as_made(machine)
 }
 
 fn is_as_made(machine: &Machine<MemDisk>) -> Result<()> {
@@ -133,6 +137,11 @@ fn code_of(made: Result<Machine<MemDisk>, NewError>) -> u8 {
 
 /// A sector of a machine is one of its disk.
 fn sectors_are_read(alloc: Global) -> Result<()> {
+    let mut machine = machine_with_disk(alloc)?;
+    disk_is_read(&mut machine)
+}
+
+fn machine_with_disk(alloc: Global) -> Result<Machine<OwnDisk>> {
     let mut disks = Vec::new(alloc);
     disks.push(OwnDisk::new(alloc, 8, false)?)?;
     let block = Shape::Block {
@@ -140,8 +149,11 @@ fn sectors_are_read(alloc: Global) -> Result<()> {
         read_only: false,
         id: ID,
     };
-    let mut machine = Machine::new(alloc, 1, &[block], disks)?;
-    sector_is_read(&mut machine)?;
+    Ok(Machine::new(alloc, 1, &[block], disks)?)
+}
+
+fn disk_is_read(machine: &mut Machine<OwnDisk>) -> Result<()> {
+    sector_is_read(machine)?;
     ensure!(machine.ram().len() == 4096, "RAM");
     Ok(())
 }

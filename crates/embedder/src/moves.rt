@@ -5,8 +5,8 @@ use crate::streams::machine_of;
 use anyhow::{Result, bail, ensure};
 use std::alloc::Global;
 use vmig::{
-    CopyAnswer, End, Event, FaultWriter, Item, Left, Live, LiveEvent, LiveReply, MemDisk, MigError,
-    Rehearsal, Replay, Reply, Stopped, rehearse, replay,
+    CopyAnswer, End, Event, FaultWriter, Item, Left, Live, LiveEvent, LiveReply, Machine, MemDisk,
+    MigError, Rehearsal, Replay, Reply, Stopped, rehearse, replay,
 };
 
 /// Makes each call of a migration.
@@ -39,7 +39,10 @@ fn live_machine(alloc: Global) -> Result<Live<MemDisk, OwnSink>> {
 fn rounds_are_made(alloc: Global) -> Result<()> {
     let mut live = live_machine(alloc)?;
     rounds_are_sent(&mut live)?;
-    let machine = live.abort();
+    raises_no_line(&live.abort())
+}
+
+fn raises_no_line(machine: &Machine<MemDisk>) -> Result<()> {
     ensure!(machine.lines() == 0, "the machine");
     Ok(())
 }
@@ -160,11 +163,17 @@ fn is_whole(out: &OwnSink) -> Result<()> {
 
 /// A writer that takes the header and no more.
 fn writer_fails(alloc: Global) -> Result<()> {
+    let mut live = live_to_17_bytes(alloc)?;
+    stop_fails(&mut live)
+}
+
+fn live_to_17_bytes(alloc: Global) -> Result<Live<MemDisk, FaultWriter<OwnSink>>> {
+    let machine = machine_of(alloc)?;
     let sink = FaultWriter::new(OwnSink::new(alloc), 17, false);
-    let Ok(mut live) = Live::new(alloc, machine_of(alloc)?, sink) else {
+    let Ok(live) = Live::new(alloc, machine, sink) else {
         bail!("out of memory");
     };
-    stop_fails(&mut live)
+    Ok(live)
 }
 
 fn stop_fails(live: &mut Live<MemDisk, FaultWriter<OwnSink>>) -> Result<()> {
@@ -180,8 +189,13 @@ fn stop_fails(live: &mut Live<MemDisk, FaultWriter<OwnSink>>) -> Result<()> {
 fn move_is_rehearsed(alloc: Global) -> Result<()> {
     let events = [LiveEvent::Begin, LiveEvent::Stop, LiveEvent::Guest(event())];
     let events = Vec::from_array(alloc, events)?;
+    moves(alloc, events.as_slice())
+}
+
+fn moves(alloc: Global, events: &[LiveEvent]) -> Result<()> {
+    let machine = machine_of(alloc)?;
     let none: Vec<MemDisk> = Vec::new(alloc);
-    let moved = rehearse(alloc, machine_of(alloc)?, events.as_slice(), none, &[1, 2]);
+    let moved = rehearse(alloc, machine, events, none, &[1, 2]);
     let Rehearsal::Arrived {
         source: _,
         arrived: _,

@@ -28,6 +28,7 @@ pub fn agree(alloc: Global) -> Result<()> {
     ensure!(stream.starts_with(&FRONT), "the front of the stream");
     parts_are_read(alloc, stream.as_slice())?;
     machine_arrives(alloc, stream.as_slice())?;
+    cut_is_refused(alloc, stream.as_slice())?;
     pieces_arrive(alloc, stream.as_slice())
 }
 
@@ -39,8 +40,12 @@ pub fn machine_of(alloc: Global) -> Result<Machine<MemDisk>> {
 /// The whole stream of such a machine, by a sink of our own and by one over a writer.
 fn stream_of(alloc: Global) -> Result<Vec<u8>> {
     let mut machine = machine_of(alloc)?;
-    let stream = saved(alloc, &mut machine)?;
-    let other = written(alloc, &mut machine)?;
+    saved_twice(alloc, &mut machine)
+}
+
+fn saved_twice(alloc: Global, machine: &mut Machine<MemDisk>) -> Result<Vec<u8>> {
+    let stream = saved(alloc, machine)?;
+    let other = written(alloc, machine)?;
     ensure!(
         other.as_slice() == stream.as_slice(),
         "two streams of one machine"
@@ -60,7 +65,7 @@ fn saved(alloc: Global, machine: &mut Machine<MemDisk>) -> Result<Vec<u8>> {
 }
 
 /// The stream that a writer gets.
-fn written(alloc: Global, machine: &mut Machine<MemDisk>) -> Result<Vec<u8>> {
+pub fn written(alloc: Global, machine: &mut Machine<MemDisk>) -> Result<Vec<u8>> {
     let mut sink = WriteSink::new(Vec::new(alloc));
     save(machine, &mut sink)?;
     Ok(sink.into_inner())
@@ -158,10 +163,15 @@ fn device_is_read(alloc: Global, body: &[u8], record: &[u8]) -> Result<()> {
     Ok(())
 }
 
-/// The machine arrives; a stream without its last byte is refused.
+/// The machine arrives.
 fn machine_arrives(alloc: Global, stream: &[u8]) -> Result<()> {
     let (machine, rounds) = receive(alloc, stream, no_disks(alloc))?;
     ensure!(rounds == 0 && machine.ram().len() == 4096, "what arrived");
+    Ok(())
+}
+
+/// A stream without its last byte is refused.
+fn cut_is_refused(alloc: Global, stream: &[u8]) -> Result<()> {
     let cut = stream.get(..LEN - 1).context("no beginning")?;
     ensure!(
         refusal_of(alloc, cut) == 13,
@@ -186,6 +196,10 @@ fn refusal_of(alloc: Global, stream: &[u8]) -> u8 {
 fn pieces_arrive(alloc: Global, stream: &[u8]) -> Result<()> {
     let mut receiver = Receiver::new(alloc, no_disks(alloc));
     takes_pieces(&mut receiver, stream)?;
+    finishes(receiver)
+}
+
+fn finishes(receiver: Receiver<MemDisk>) -> Result<()> {
     let _machine = receiver.finish()?;
     Ok(())
 }

@@ -27,6 +27,14 @@ fn next_draw(draw: u32) -> u32 {
     draw.wrapping_mul(1_664_525).wrapping_add(1_013_904_223)
 }
 
+/// A machine that is moved to a sink.
+fn eager(alloc: Global) -> Result<Live<MemDisk, OwnSink>> {
+    let Ok(eager) = Live::new(alloc, machine_of(alloc)?, OwnSink::new(alloc)) else {
+        bail!("out of memory");
+    };
+    Ok(eager)
+}
+
 /// A machine that is moved to memory, which was written and taken from before.
 fn lagging(alloc: Global) -> Result<LiveWaiting<MemDisk>> {
     let Ok(lagging) = LiveWaiting::new(alloc, machine_of(alloc)?, used_memory(alloc)?) else {
@@ -54,12 +62,10 @@ struct Twins {
 impl Twins {
     /// Nothing is sent yet.
     fn new(alloc: Global) -> Result<Twins> {
-        let Ok(eager) = Live::new(alloc, machine_of(alloc)?, OwnSink::new(alloc)) else {
-            bail!("out of memory");
-        };
+        let lagging = lagging(alloc)?;
         Ok(Twins {
-            eager,
-            lagging: lagging(alloc)?,
+            eager: eager(alloc)?,
+            lagging,
             taken: Vec::new(alloc),
         })
     }
@@ -94,6 +100,17 @@ impl Twins {
         Ok(())
     }
 
+    /// The bytes that were taken, and those that were sent.
+    fn into_bytes(self) -> (Vec<u8>, Vec<u8>) {
+        let Twins {
+            eager,
+            lagging: _,
+            taken,
+        } = self;
+        let (_machine, sink) = eager.into_parts();
+        (taken, sink.bytes)
+    }
+
     /// Takes the first of the bytes that wait.
     fn take(&mut self, most: usize) -> Result<()> {
         let mut buf = [0; TAKE_MAX];
@@ -106,16 +123,20 @@ impl Twins {
 
 /// A move of which the seed draws the calls, and how many bytes are taken after each.
 fn move_agrees(alloc: Global, seed: u32) -> Result<()> {
+    let twins = moved(alloc, seed)?;
+    let (taken, sent) = twins.into_bytes();
+    is_sent_and_arrives(alloc, taken.as_slice(), sent.as_slice())
+}
+
+fn moved(alloc: Global, seed: u32) -> Result<Twins> {
     let mut twins = Twins::new(alloc)?;
     twins.move_by(seed)?;
-    let Twins {
-        eager,
-        lagging: _,
-        taken,
-    } = twins;
-    let (_machine, sink) = eager.into_parts();
-    is_same(taken.as_slice(), sink.bytes.as_slice())?;
-    machine_arrives(alloc, taken.as_slice())
+    Ok(twins)
+}
+
+fn is_sent_and_arrives(alloc: Global, taken: &[u8], sent: &[u8]) -> Result<()> {
+    is_same(taken, sent)?;
+    machine_arrives(alloc, taken)
 }
 
 fn is_same(taken: &[u8], sent: &[u8]) -> Result<()> {

@@ -11,6 +11,7 @@ const TRACE: &str = "ram 1\nentropy\nr 0 0x000 4\n";
 pub fn agree(rt: &HostRuntime) -> Result<()> {
     let alloc = rt.alloc();
     trace_is_read(alloc)?;
+    events_are_read(alloc)?;
     fault_is_told(alloc)?;
     reply_is_written(alloc)?;
     program_answers(rt)
@@ -23,6 +24,10 @@ fn trace_is_read(alloc: Global) -> Result<()> {
         "the trace"
     );
     ensure!(trace.begin_line == 0, "no line begins a migration");
+    Ok(())
+}
+
+fn events_are_read(alloc: Global) -> Result<()> {
     let events = parse_events(alloc, b"r 0 0x000 4\n")?;
     ensure!(events.len() == 1, "the events");
     Ok(())

@@ -64,8 +64,13 @@ const STEPPED_PACKED: [u32; 3] = [1, 5, 6];
 /// Makes each call of a log of pages.
 pub fn agree(alloc: Global) -> Result<()> {
     steps_are_noted(alloc)?;
-    write_is_noted(alloc, &mut asked(alloc, ASKED)?)?;
+    write_to_ram_is_noted(alloc)?;
     lives_note(alloc)
+}
+
+fn write_to_ram_is_noted(alloc: Global) -> Result<()> {
+    let mut machine = asked(alloc, ASKED)?;
+    write_is_noted(alloc, &mut machine)
 }
 
 /// The machine whose next step gives the driver its bytes.
@@ -79,21 +84,42 @@ fn asked(alloc: Global, driver: &str) -> Result<Machine<MemDisk>> {
 fn ask(alloc: Global, machine: &mut Machine<MemDisk>, driver: &str) -> Result<()> {
     let trace = parse(alloc, driver.as_bytes())?;
     for event in trace.events.as_slice() {
-        let LiveEvent::Guest(event) = event else {
-            bail!("an event of a migration");
-        };
-        let reply = machine.apply(event);
-        ensure!(!matches!(reply, Reply::Refused(_)), "an event was refused");
+        takes(machine, event)?;
     }
+    Ok(())
+}
+
+fn takes(machine: &mut Machine<MemDisk>, event: &LiveEvent) -> Result<()> {
+    let LiveEvent::Guest(event) = event else {
+        bail!("an event of a migration");
+    };
+    let reply = machine.apply(event);
+    ensure!(!matches!(reply, Reply::Refused(_)), "an event was refused");
     Ok(())
 }
 
 /// Steps, of both layouts of a ring.
 fn steps_are_noted(alloc: Global) -> Result<()> {
-    in_pieces(&mut step(alloc, &mut asked(alloc, ASKED)?)?)?;
-    let mut log = step(alloc, &mut asked(alloc, ASKED_PACKED)?)?;
-    are_noted(&mut log, &STEPPED_PACKED)?;
-    step_is_noted_twice(alloc, &mut asked(alloc, ASKED)?)
+    split_step_is_noted(alloc)?;
+    packed_step_is_noted(alloc)?;
+    let mut machine = asked(alloc, ASKED)?;
+    step_is_noted_twice(alloc, &mut machine)
+}
+
+fn split_step_is_noted(alloc: Global) -> Result<()> {
+    let mut log = log_of(alloc, ASKED)?;
+    in_pieces(&mut log)
+}
+
+fn packed_step_is_noted(alloc: Global) -> Result<()> {
+    let mut log = log_of(alloc, ASKED_PACKED)?;
+    are_noted(&mut log, &STEPPED_PACKED)
+}
+
+/// The pages that the next step of the machine writes.
+fn log_of(alloc: Global, driver: &str) -> Result<PageLog> {
+    let mut machine = asked(alloc, driver)?;
+    step(alloc, &mut machine)
 }
 
 /// The pages that the step writes.
@@ -136,7 +162,11 @@ fn step_is_noted_twice(alloc: Global, machine: &mut Machine<MemDisk>) -> Result<
     };
     let step = Event::Step { dev: 0, pick: 0 };
     let reply = machine.apply_logged(&step, &mut logs);
-    ensure!(reply == Reply::Completed(4), "the step as an event");
+    both_note(&reply, &mut logs)
+}
+
+fn both_note(reply: &Reply, logs: &mut Both<PageLog, OwnLog>) -> Result<()> {
+    ensure!(*reply == Reply::Completed(4), "the step as an event");
     ensure!(logs.second.is_touched, "a log of our own");
     are_noted(&mut logs.first, &STEPPED)
 }
@@ -161,9 +191,20 @@ fn live(alloc: Global) -> Result<Live<MemDisk, OwnSink>> {
 
 /// Machines that are being migrated, each with a log of ours beside its own.
 fn lives_note(alloc: Global) -> Result<()> {
-    live_step_is_noted(alloc, &mut live(alloc)?)?;
-    live_write_is_noted(alloc, &mut live(alloc)?)?;
-    stopped_live_notes_nothing(alloc, &mut live(alloc)?)
+    step_of_new_live_is_noted(alloc)?;
+    write_of_new_live_is_noted(alloc)?;
+    let mut live = live(alloc)?;
+    stopped_live_notes_nothing(alloc, &mut live)
+}
+
+fn step_of_new_live_is_noted(alloc: Global) -> Result<()> {
+    let mut live = live(alloc)?;
+    live_step_is_noted(alloc, &mut live)
+}
+
+fn write_of_new_live_is_noted(alloc: Global) -> Result<()> {
+    let mut live = live(alloc)?;
+    live_write_is_noted(alloc, &mut live)
 }
 
 fn live_step_is_noted(alloc: Global, live: &mut Live<MemDisk, OwnSink>) -> Result<()> {
@@ -198,6 +239,10 @@ fn live_write_is_noted(alloc: Global, live: &mut Live<MemDisk, OwnSink>) -> Resu
 /// What is refused writes nothing.
 fn stopped_live_notes_nothing(alloc: Global, live: &mut Live<MemDisk, OwnSink>) -> Result<()> {
     stops(live)?;
+    notes_nothing(alloc, live)
+}
+
+fn notes_nothing(alloc: Global, live: &mut Live<MemDisk, OwnSink>) -> Result<()> {
     ensure!(live.machine().ram().len() == RAM, "RAM");
     let mut log = Some(PageLog::new(alloc, PAGES)?);
     let step = Event::Step { dev: 0, pick: 0 };

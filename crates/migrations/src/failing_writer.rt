@@ -4,7 +4,7 @@ use crate::serving::{Served, Way, serve, serve_and_abort};
 use anyhow::{Context, Result, ensure};
 use machine::Machine;
 use scenarios::{TestDisk, are_same, arrived};
-use sender::LiveReply;
+use sender::{LiveEvent, LiveReply};
 use std::alloc::Global;
 use traces::{Trace, parse, write_reply};
 use wire::{FaultWriter, WriteSink};
@@ -43,11 +43,15 @@ const LEN: usize = 130;
 pub fn fails(alloc: Global) -> Result<()> {
     let trace = parse(alloc, TEXT)?;
     let stream = stream_of(alloc, &trace)?;
+    fails_anywhere(alloc, &trace, stream.as_slice())
+}
+
+fn fails_anywhere(alloc: Global, trace: &Trace, stream: &[u8]) -> Result<()> {
     ensure!(stream.len() == LEN, "another length");
     for take in 0..LEN {
-        fails_at(alloc, &trace, stream.as_slice(), take, false).context("a part")?;
+        fails_at(alloc, trace, stream, take, false).context("a part")?;
     }
-    fails_at(alloc, &trace, stream.as_slice(), LEN, true).context("the flush")
+    fails_at(alloc, trace, stream, LEN, true).context("the flush")
 }
 
 fn fresh_machine(alloc: Global, trace: &Trace) -> Result<Machine<TestDisk>> {
@@ -57,9 +61,9 @@ fn fresh_machine(alloc: Global, trace: &Trace) -> Result<Machine<TestDisk>> {
 
 /// The stream that the first stop closes.
 fn stream_of(alloc: Global, trace: &Trace) -> Result<Vec<u8>> {
+    let events = trace.events.as_slice().get(..4).context("no stop")?;
     let machine = fresh_machine(alloc, trace)?;
     let writer = WriteSink::new(Vec::new(alloc));
-    let events = trace.events.as_slice().get(..4).context("no stop")?;
     let (_, writer) = serve(alloc, Way::Calls, machine, events, writer)?;
     Ok(writer.into_inner())
 }
@@ -73,11 +77,29 @@ fn fails_at(
     flush_fails: bool,
 ) -> Result<()> {
     let mut place = vec![in alloc; 0; LEN]?;
-    let served = served_into(alloc, trace, place.as_mut_slice(), take, flush_fails)?;
-    are_told(alloc, served.replies.as_slice(), take)?;
+    let machine = machine_after(alloc, trace, place.as_mut_slice(), take, flush_fails)?;
+    begins_with(stream, place.as_slice(), take)?;
+    arrives_again(alloc, machine)
+}
+
+/// Fails if the writer that takes `take` bytes did not take these of the stream.
+fn begins_with(stream: &[u8], place: &[u8], take: usize) -> Result<()> {
     let taken = place.get(..take).context("no room")?;
     ensure!(stream.starts_with(taken), "other bytes after {take} bytes");
-    arrives_again(alloc, served.machine)
+    Ok(())
+}
+
+/// The machine after the events of the trace, which are answered as a writer that takes `take` bytes into this place lets them.
+fn machine_after(
+    alloc: Global,
+    trace: &Trace,
+    place: &mut [u8],
+    take: usize,
+    flush_fails: bool,
+) -> Result<Machine<TestDisk>> {
+    let served = served_into(alloc, trace, place, take, flush_fails)?;
+    are_told(alloc, served.replies.as_slice(), take)?;
+    Ok(served.machine)
 }
 
 /// The machine after the events of the trace, sent to a writer that takes `take` bytes into this place.
@@ -88,8 +110,8 @@ fn served_into(
     take: usize,
     flush_fails: bool,
 ) -> Result<Served> {
-    let writer = FaultWriter::new(WriteSink::new(place), take as u64, flush_fails);
     let machine = fresh_machine(alloc, trace)?;
+    let writer = FaultWriter::new(WriteSink::new(place), take as u64, flush_fails);
     serve_and_abort(alloc, Way::Calls, machine, trace.events.as_slice(), writer)
 }
 
@@ -122,12 +144,15 @@ fn lines_of(alloc: Global, replies: &[LiveReply]) -> Result<Vec<u8>> {
 /// A second migration of the machine, to a writer that takes all.
 fn arrives_again(alloc: Global, machine: Machine<TestDisk>) -> Result<()> {
     let trace = parse(alloc, AGAIN)?;
+    let mut served = served_again(alloc, machine, trace.events.as_slice())?;
+    arrives_as(alloc, &mut served)
+}
+
+fn served_again(alloc: Global, machine: Machine<TestDisk>, events: &[LiveEvent]) -> Result<Served> {
     let writer = WriteSink::new(Vec::new(alloc));
-    let events = trace.events.as_slice();
     let (mut served, writer) = serve(alloc, Way::Calls, machine, events, writer)?;
-    let stream = writer.into_inner();
-    is_told_again(alloc, served.replies.as_slice())?;
-    arrives_as(alloc, stream.as_slice(), &mut served.machine)
+    served.written = writer.into_inner();
+    Ok(served)
 }
 
 fn is_told_again(alloc: Global, replies: &[LiveReply]) -> Result<()> {
@@ -136,8 +161,9 @@ fn is_told_again(alloc: Global, replies: &[LiveReply]) -> Result<()> {
     Ok(())
 }
 
-/// Fails if another machine arrives.
-fn arrives_as(alloc: Global, stream: &[u8], machine: &mut Machine<TestDisk>) -> Result<()> {
-    let mut copy = arrived(alloc, stream, 0)?;
-    are_same(alloc, machine, &mut copy)
+/// Fails if the replies are others, or if another machine arrives.
+fn arrives_as(alloc: Global, served: &mut Served) -> Result<()> {
+    is_told_again(alloc, served.replies.as_slice())?;
+    let mut copy = arrived(alloc, served.written.as_slice(), 0)?;
+    are_same(alloc, &mut served.machine, &mut copy)
 }

@@ -5,7 +5,7 @@ use anyhow::{Context, Result};
 use books::{Question, Script};
 use machine::Machine;
 use scenarios::{TestDisk, answer_of_machine, disks_alone, disks_of, made};
-use sender::{LiveEvent, LiveReply, MigError};
+use sender::{LiveEvent, LiveReply, MigError, Remaining};
 use std::alloc::Global;
 use std::io::Write;
 use traces::{Trace, parse};
@@ -71,6 +71,17 @@ impl Leg {
         }
     }
 
+    /// The machine after all events.
+    pub fn machine_after(
+        &self,
+        alloc: Global,
+        way: Way,
+        machine: Machine<TestDisk>,
+    ) -> Result<Machine<TestDisk>> {
+        let served = self.play(alloc, way, machine, self.events().len())?;
+        Ok(served.machine)
+    }
+
     /// Whether anything is asked after `events` events.
     pub fn asks(&self, events: usize) -> bool {
         self.script.questions().iter().any(|q| q.0 == events)
@@ -115,14 +126,21 @@ fn play_in_room(
 
 fn answer(served: &mut Served, question: Question, out: &mut Vec<u8>) -> Result<()> {
     match question {
-        Question::Remaining => {
-            let left = served.remaining.context("not by calls")?;
-            writeln!(out, "remaining {} {}", left.due, left.dirty)?;
-        }
-        Question::Written => writeln!(out, "written {}", served.written.len())?,
-        Question::Failed => write_failed(served.replies.last(), out)?,
-        _ => answer_of_machine(&mut served.machine, question, out)?,
+        Question::Remaining => write_remaining(served.remaining, out),
+        Question::Written => write_count(served.written.len(), out),
+        Question::Failed => write_failed(served.replies.last(), out),
+        _ => answer_of_machine(&mut served.machine, question, out),
     }
+}
+
+fn write_remaining(remaining: Option<Remaining>, out: &mut Vec<u8>) -> Result<()> {
+    let left = remaining.context("not by calls")?;
+    writeln!(out, "remaining {} {}", left.due, left.dirty)?;
+    Ok(())
+}
+
+fn write_count(written: usize, out: &mut Vec<u8>) -> Result<()> {
+    writeln!(out, "written {written}")?;
     Ok(())
 }
 

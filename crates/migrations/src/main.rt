@@ -28,8 +28,12 @@ fn show_book(rt: &HostRuntime, file: &str) -> Result<()> {
     let (folder, _) = file.split_once('/').context("a book is in a folder")?;
     let text = fs::read_to_string(rt, file)?;
     let book = Book::read(rt.alloc(), text.as_str())?;
+    show_scenarios(rt, file, folder, &book)
+}
+
+fn show_scenarios(rt: &HostRuntime, file: &str, folder: &str, book: &Book) -> Result<()> {
     for scenario in book.scenarios() {
-        show(rt, folder, &book, scenario).context(scenario.name())?;
+        show(rt, folder, book, scenario).context(scenario.name())?;
         println!(rt; "{file}: {}", scenario.name())?;
     }
     Ok(())

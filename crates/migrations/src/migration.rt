@@ -32,13 +32,7 @@ pub struct Migration<'t> {
 pub fn show(alloc: Global, book: &Book, scenario: &Scenario) -> Result<()> {
     let text = book.text(alloc, scenario)?;
     let migration = Migration::read(alloc, text.as_str())?;
-    for at in 0..migration.legs.len() {
-        migration.is_answered(alloc, at)?;
-    }
-    if migration.is_counted {
-        return Ok(());
-    }
-    migration.arrives(alloc)
+    migration.goes_through(alloc)
 }
 
 impl<'t> Migration<'t> {
@@ -51,9 +45,7 @@ impl<'t> Migration<'t> {
         let (text, after) = text.split_once("then\n").unwrap_or((text, ""));
         let (text, stream) = text.split_once("sent as\n").unwrap_or((text, ""));
         let mut legs = Vec::new(alloc);
-        for lines in text.split("ABORT\n") {
-            legs.push(Leg::read(alloc, lines)?)?;
-        }
+        add_legs(alloc, &mut legs, text)?;
         Ok(Migration {
             legs,
             stream,
@@ -62,29 +54,51 @@ impl<'t> Migration<'t> {
         })
     }
 
+    /// Fails where a leg is not answered as its lines say, or if another machine arrives.
+    fn goes_through(&self, alloc: Global) -> Result<()> {
+        for at in 0..self.legs.len() {
+            self.is_answered(alloc, at)?;
+        }
+        if self.is_counted {
+            return Ok(());
+        }
+        self.arrives(alloc)
+    }
+
     fn first(&self) -> Result<&Leg> {
         self.legs.first().context("no lines")
     }
 
     /// The state after `events` events of a leg.
     fn serve(&self, alloc: Global, way: Way, at: usize, events: usize) -> Result<Served> {
+        let leg = self.legs.get(at).context("no such lines")?;
+        let machine = self.machine_before(alloc, way, at)?;
+        leg.play(alloc, way, machine, events)
+    }
+
+    /// The machine that a leg begins with.
+    fn machine_before(&self, alloc: Global, way: Way, at: usize) -> Result<Machine<TestDisk>> {
         let mut machine = self.first()?.machine(alloc)?;
         for leg in self.legs.iter().take(at) {
-            machine = leg.play(alloc, way, machine, leg.events().len())?.machine;
+            machine = leg.machine_after(alloc, way, machine)?;
         }
-        let leg = self.legs.get(at).context("no such lines")?;
-        leg.play(alloc, way, machine, events)
+        Ok(machine)
     }
 
     /// Fails where a leg is not answered as its lines say, by calls and by the list.
     fn is_answered(&self, alloc: Global, at: usize) -> Result<()> {
         let mut served = self.serve(alloc, Way::Calls, at, usize::MAX)?;
-        self.is_told(alloc, at, &mut served)?;
+        self.is_answered_as(alloc, at, &mut served)
+    }
+
+    /// Fails where a leg was not answered as its lines say, or is answered otherwise by the list.
+    fn is_answered_as(&self, alloc: Global, at: usize, served: &mut Served) -> Result<()> {
+        self.is_told(alloc, at, served)?;
         if self.is_counted {
             return Ok(());
         }
         let listed = self.serve(alloc, Way::List, at, usize::MAX)?;
-        is_as_listed(&served, &listed)
+        is_as_listed(served, &listed)
     }
 
     /// Fails where the replies to a leg, and what is asked among them, are not as its lines say.
@@ -112,8 +126,12 @@ impl<'t> Migration<'t> {
     /// Fails if another machine arrives.
     fn arrives(&self, alloc: Global) -> Result<()> {
         let mut served = self.serve(alloc, Way::Calls, self.last(), usize::MAX)?;
+        self.arrives_as(alloc, &mut served)
+    }
+
+    fn arrives_as(&self, alloc: Global, served: &mut Served) -> Result<()> {
         let mut alone = self.machine_alone(alloc)?;
-        self.agree(alloc, &mut served, &mut alone)
+        self.agree(alloc, served, &mut alone)
     }
 
     fn last(&self) -> usize {
@@ -155,13 +173,17 @@ impl<'t> Migration<'t> {
     /// The machine after the same events without the migration.
     fn machine_alone(&self, alloc: Global) -> Result<Machine<TestDisk>> {
         let mut machine = self.first()?.machine_alone(alloc)?;
+        self.play_alone(alloc, &mut machine)?;
+        Ok(machine)
+    }
+
+    /// Plays the events without the migration.
+    fn play_alone(&self, alloc: Global, machine: &mut Machine<TestDisk>) -> Result<()> {
         for (at, leg) in self.legs.iter().enumerate() {
             let served = self.serve(alloc, Way::Calls, at, usize::MAX)?;
-            for (event, reply) in leg.events().iter().zip(served.replies.iter()) {
-                answers_alike(&mut machine, event, reply)?;
-            }
+            all_answered_alike(machine, leg.events(), served.replies.as_slice())?;
         }
-        Ok(machine)
+        Ok(())
     }
 
     /// Plays the events that follow on the machine, on the one that arrived and on the one that was not migrated.
@@ -182,6 +204,14 @@ impl<'t> Migration<'t> {
     }
 }
 
+/// Adds the leg of each part of a text.
+fn add_legs(alloc: Global, legs: &mut Vec<Leg>, text: &str) -> Result<()> {
+    for lines in text.split("ABORT\n") {
+        legs.push(Leg::read(alloc, lines)?)?;
+    }
+    Ok(())
+}
+
 fn is_as_listed(served: &Served, listed: &Served) -> Result<()> {
     ensure!(listed.replies == served.replies, "other replies");
     ensure!(listed.written == served.written, "other bytes");
@@ -191,10 +221,14 @@ fn is_as_listed(served: &Served, listed: &Served) -> Result<()> {
 /// Fails if another machine arrives in pieces of some size.
 fn pieces_arrive(alloc: Global, served: &mut Served, rounds: u32) -> Result<()> {
     for size in PIECES {
-        let mut copy = arrived_in_pieces(alloc, served.written.as_slice(), rounds, size)?;
-        are_same(alloc, &mut served.machine, &mut copy).context("in pieces")?;
+        arrives_in_pieces(alloc, served, rounds, size)?;
     }
     Ok(())
+}
+
+fn arrives_in_pieces(alloc: Global, served: &mut Served, rounds: u32, size: usize) -> Result<()> {
+    let mut copy = arrived_in_pieces(alloc, served.written.as_slice(), rounds, size)?;
+    are_same(alloc, &mut served.machine, &mut copy).context("in pieces")
 }
 
 /// Fails if a machine is saved as the stream of another one.
@@ -202,6 +236,18 @@ fn is_received_as_saved(alloc: Global, machine: &mut Machine<TestDisk>) -> Resul
     let stream = saved(alloc, machine)?;
     let mut copy = arrived(alloc, stream.as_slice(), 0)?;
     are_same(alloc, machine, &mut copy)
+}
+
+/// Applies the events of the guest among these, which were answered.
+fn all_answered_alike(
+    machine: &mut Machine<TestDisk>,
+    events: &[LiveEvent],
+    replies: &[LiveReply],
+) -> Result<()> {
+    for (event, reply) in events.iter().zip(replies.iter()) {
+        answers_alike(machine, event, reply)?;
+    }
+    Ok(())
 }
 
 /// Applies an event of the guest that was answered.

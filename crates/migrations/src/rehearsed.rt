@@ -5,7 +5,7 @@ use anyhow::{Context, Result, bail, ensure};
 use books::{Book, Scenario, Script, spelled};
 use machine::{Disk, Machine, Reply, SECTOR_SIZE};
 use rehearsal::{Rehearsal, rehearse};
-use scenarios::{PIECES, are_lines, disks_of, saved};
+use scenarios::{PIECES, TestDisk, are_lines, are_saved_alike, disks_of};
 use sender::LiveReply;
 use std::alloc::Global;
 use traces::{Trace, parse, write_reply};
@@ -25,37 +25,48 @@ const ODD_CUTS: usize = 100;
 /// of 1, 3, 5 bytes and so on.
 pub fn show(alloc: Global, book: &Book, scenario: &Scenario) -> Result<()> {
     let text = book.text(alloc, scenario)?;
-    let (lines, written) = text
-        .as_str()
-        .split_once("written\n")
-        .context("nothing is written")?;
+    writes_as_told(alloc, text.as_str())
+}
+
+/// Fails if another machine arrives, or if its disk is written to otherwise than this text says.
+fn writes_as_told(alloc: Global, text: &str) -> Result<()> {
+    let (lines, written) = text.split_once("written\n").context("nothing is written")?;
     let mut script = Script::new(alloc);
     script.add(lines)?;
     let written = writes_of(alloc, written)?;
-    is_rehearsed(alloc, &script, &[], written.as_slice())?;
+    is_rehearsed_in_pieces(alloc, &script, written.as_slice())
+}
+
+fn is_rehearsed_in_pieces(alloc: Global, script: &Script, written: &[SectorWrite]) -> Result<()> {
+    is_rehearsed(alloc, script, &[], written)?;
     for size in PIECES {
         let cuts = vec![in alloc; size; CUTS]?;
-        is_rehearsed(alloc, &script, cuts.as_slice(), written.as_slice()).context("in pieces")?;
+        is_rehearsed(alloc, script, cuts.as_slice(), written).context("in pieces")?;
     }
     let cuts = odd_cuts(alloc)?;
-    is_rehearsed(alloc, &script, cuts.as_slice(), written.as_slice()).context("in odd pieces")
+    is_rehearsed(alloc, script, cuts.as_slice(), written).context("in odd pieces")
 }
 
 /// The writes of these lines.
 fn writes_of(alloc: Global, lines: &str) -> Result<Vec<SectorWrite>> {
     let mut writes = Vec::new(alloc);
     for line in lines.lines() {
-        let (sector, words) = line.split_once(' ').context("no bytes")?;
-        let sector = sector.parse::<u64>()?;
-        let held = spelled(alloc, words)?;
-        ensure!(held.len() == SECTOR_SIZE, "{line}");
-        let mut bytes = [0; SECTOR_SIZE];
-        for (to, from) in bytes.iter_mut().zip(held.iter()) {
-            *to = *from;
-        }
-        writes.push(SectorWrite { sector, bytes })?;
+        writes.push(write_of(alloc, line)?)?;
     }
     Ok(writes)
+}
+
+/// The write of a line.
+fn write_of(alloc: Global, line: &str) -> Result<SectorWrite> {
+    let (sector, words) = line.split_once(' ').context("no bytes")?;
+    let sector = sector.parse::<u64>()?;
+    let held = spelled(alloc, words)?;
+    ensure!(held.len() == SECTOR_SIZE, "{line}");
+    let mut bytes = [0; SECTOR_SIZE];
+    for (to, from) in bytes.iter_mut().zip(held.iter()) {
+        *to = *from;
+    }
+    Ok(SectorWrite { sector, bytes })
 }
 
 /// The sizes 1, 3, 5 and so on.
@@ -74,12 +85,23 @@ fn is_rehearsed(
     written: &[SectorWrite],
 ) -> Result<()> {
     let trace = parse(alloc, script.trace())?;
-    let sectors = sectors_of(&trace)?;
     let mut writes = Vec::new(alloc);
-    let disks = recording_disks(alloc, sectors, &mut writes)?;
-    arrives(alloc, script, &trace, disks, cuts)?;
+    is_recorded(alloc, script, &trace, cuts, &mut writes)?;
     ensure!(writes.as_slice() == written, "other writes");
     Ok(())
+}
+
+/// Fails if another machine arrives. The writes to its disk are appended to the list.
+fn is_recorded(
+    alloc: Global,
+    script: &Script,
+    trace: &Trace,
+    cuts: &[usize],
+    writes: &mut Vec<SectorWrite>,
+) -> Result<()> {
+    let sectors = sectors_of(trace)?;
+    let disks = recording_disks(alloc, sectors, writes)?;
+    arrives(alloc, script, trace, disks, cuts)
 }
 
 /// The size of the one disk.
@@ -114,30 +136,45 @@ fn arrives<E: Disk + Drop>(
     let shapes = trace.shapes.as_slice();
     let own = disks_of(alloc, script, shapes)?;
     let machine = Machine::new(alloc, trace.pages, shapes, own)?;
-    match rehearse(alloc, machine, trace.events.as_slice(), disks, cuts) {
+    let mut moved = rehearse(alloc, machine, trace.events.as_slice(), disks, cuts);
+    agrees(alloc, script, &mut moved)
+}
+
+/// Fails if a move was refused, if the replies are others than the lines say, or if the machine that arrived is another one.
+fn agrees<E: Disk>(
+    alloc: Global,
+    script: &Script,
+    moved: &mut Rehearsal<TestDisk, E>,
+) -> Result<()> {
+    match moved {
         Rehearsal::Arrived {
-            mut source,
-            mut arrived,
+            source,
+            arrived,
             replies,
             arrived_replies,
         } => {
-            are_replies_of(alloc, script, replies.as_slice())?;
-            answered_alike(replies.as_slice(), arrived_replies.as_slice())?;
-            are_saved_alike(alloc, &mut source, &mut arrived)
+            are_replied(
+                alloc,
+                script,
+                replies.as_slice(),
+                arrived_replies.as_slice(),
+            )?;
+            are_saved_alike(alloc, source, arrived)
         }
         Rehearsal::NotStopped { .. } => bail!("no stop"),
         Rehearsal::Refused { error, .. } => bail!("{error}"),
     }
 }
 
-fn are_saved_alike<D: Disk, E: Disk>(
+/// Fails if the replies of the machine that was sent are others than the lines say, or those of the machine that arrived.
+fn are_replied(
     alloc: Global,
-    one: &mut Machine<D>,
-    other: &mut Machine<E>,
+    script: &Script,
+    replies: &[LiveReply],
+    arrived: &[Reply],
 ) -> Result<()> {
-    let stream = saved(alloc, one)?;
-    ensure!(stream == saved(alloc, other)?, "saved otherwise");
-    Ok(())
+    are_replies_of(alloc, script, replies)?;
+    answered_alike(replies, arrived)
 }
 
 fn are_replies_of(alloc: Global, script: &Script, replies: &[LiveReply]) -> Result<()> {

@@ -84,14 +84,34 @@ fn play_calls<W: Sink + Drop>(
     events: &[LiveEvent],
     writer: W,
 ) -> Result<(Live<TestDisk, W>, Vec<LiveReply>)> {
-    let Ok(mut live) = Live::new(alloc, machine, writer) else {
+    let mut live = live_of(alloc, machine, writer)?;
+    let replies = replies_to(alloc, &mut live, events)?;
+    Ok((live, replies))
+}
+
+/// A machine that can be migrated.
+fn live_of<W: Sink + Drop>(
+    alloc: Global,
+    machine: Machine<TestDisk>,
+    writer: W,
+) -> Result<Live<TestDisk, W>> {
+    let Ok(live) = Live::new(alloc, machine, writer) else {
         bail!("no memory");
     };
+    Ok(live)
+}
+
+/// The reply of the call for each event.
+fn replies_to<W: Sink>(
+    alloc: Global,
+    live: &mut Live<TestDisk, W>,
+    events: &[LiveEvent],
+) -> Result<Vec<LiveReply>> {
     let mut replies = Vec::new(alloc);
     for event in events {
-        replies.push(answer(&mut live, event))?;
+        replies.push(answer(live, event))?;
     }
-    Ok((live, replies))
+    Ok(replies)
 }
 
 fn outcome(

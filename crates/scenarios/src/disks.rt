@@ -48,17 +48,23 @@ fn disk_of(
     plans: &[(usize, u64)],
     dev: usize,
 ) -> Result<TestDisk> {
+    let plan = plan_of(alloc, plans, dev)?;
     let mut disk = MemDisk::new(alloc, sectors)?;
     if is_filled {
         fill(&mut disk)?;
     }
+    Ok(FaultDisk::new(disk, plan))
+}
+
+/// The calls that fail, of the disk of a device.
+fn plan_of(alloc: Global, plans: &[(usize, u64)], dev: usize) -> Result<Vec<u64>> {
     let mut plan = Vec::new(alloc);
     for (planned, call) in plans {
         if *planned == dev {
             plan.push(*call)?;
         }
     }
-    Ok(FaultDisk::new(disk, plan))
+    Ok(plan)
 }
 
 /// Fills each sector with its number modulo 256.

@@ -17,5 +17,5 @@ mod stream;
 pub use disks::{TestDisk, disks_alone, disks_for, disks_of};
 pub use outside::{limits, made, terms};
 pub use playing::{answer_of_machine, are_lines, play, play_scenario, plays_on};
-pub use sameness::are_same;
+pub use sameness::{are_same, are_saved_alike};
 pub use stream::{PIECES, arrived, arrived_in_pieces, refusal_in_pieces, refusal_of, saved};

@@ -65,17 +65,25 @@ pub fn write_asked(
 
 fn write_call(asked: OutsideCall, out: &mut Vec<u8>) -> Result<()> {
     let (first, count) = (asked.call.first, asked.call.count);
-    match asked.call.what {
-        What::Read => write!(out, "read {first} {count}")?,
-        What::Write => write!(out, "write {first} {count}")?,
-        What::Clear => write!(out, "clear {first} {count}")?,
-        What::Flush => write!(out, "flush")?,
+    match word_of(asked.call.what) {
+        Some(word) => write!(out, "{word} {first} {count}")?,
+        None => write!(out, "flush")?,
     }
     if asked.durable {
         write!(out, " durable")?;
     }
     writeln!(out)?;
     Ok(())
+}
+
+/// The word of a call for sectors.
+fn word_of(what: What) -> Option<&'static str> {
+    match what {
+        What::Read => Some("read"),
+        What::Write => Some("write"),
+        What::Clear => Some("clear"),
+        What::Flush => None,
+    }
 }
 
 /// Writes the bytes that a request writes.
@@ -88,6 +96,11 @@ pub fn write_given(
     write!(out, "gives {dev} {pick} ")?;
     let mut bytes = [0u8; MOST];
     let count = machine.written_bytes(dev, pick, &mut bytes);
+    write_first(&bytes, count, out)
+}
+
+/// Writes the first of these bytes, and the end of the line.
+fn write_first(bytes: &[u8], count: usize, out: &mut Vec<u8>) -> Result<()> {
     if count == 0 {
         write!(out, "-")?;
     }

@@ -5,7 +5,7 @@ use crate::outside::{made, write_asked, write_given};
 use crate::sectors::write_sector;
 use anyhow::{Result, bail, ensure};
 use books::{Book, Question, Scenario, Script};
-use machine::{Event, Machine};
+use machine::{Event, Machine, Shape};
 use sender::LiveEvent;
 use std::alloc::Global;
 use std::io::Write;
@@ -27,23 +27,48 @@ pub fn play(alloc: Global, script: &Script) -> Result<Machine<TestDisk>> {
         events,
         begin_line: _,
     } = parse(alloc, script.trace())?;
-    let disks = disks_of(alloc, script, shapes.as_slice())?;
-    let mut machine = made(alloc, script.base(), pages, shapes.as_slice(), disks)?;
-    let events = guest_events(alloc, events, script.base())?;
-    agrees(alloc, &mut machine, script, events.as_slice())?;
+    let mut machine = machine_of(alloc, script, pages, shapes.as_slice())?;
+    plays(alloc, &mut machine, script, events)?;
     Ok(machine)
+}
+
+/// The machine of a script as it begins.
+fn machine_of(
+    alloc: Global,
+    script: &Script,
+    pages: u32,
+    shapes: &[Shape],
+) -> Result<Machine<TestDisk>> {
+    let disks = disks_of(alloc, script, shapes)?;
+    made(alloc, script.base(), pages, shapes, disks)
+}
+
+/// Plays the events of a script, whose replies must be those of the script.
+fn plays(
+    alloc: Global,
+    machine: &mut Machine<TestDisk>,
+    script: &Script,
+    events: Vec<LiveEvent>,
+) -> Result<()> {
+    let events = guest_events(alloc, events, script.base())?;
+    agrees(alloc, machine, script, events.as_slice())
 }
 
 /// The events of a trace without a migration, for RAM that begins at the address `base`.
 fn guest_events(alloc: Global, events: Vec<LiveEvent>, base: u64) -> Result<Vec<Event>> {
     let mut guest = Vec::new(alloc);
     for event in events {
-        match event {
-            LiveEvent::Guest(event) => guest.push(shifted(event, base))?,
-            _ => bail!("a line of a migration"),
-        }
+        add_guest_event(&mut guest, event, base)?;
     }
     Ok(guest)
+}
+
+fn add_guest_event(guest: &mut Vec<Event>, event: LiveEvent, base: u64) -> Result<()> {
+    match event {
+        LiveEvent::Guest(event) => guest.push(shifted(event, base))?,
+        _ => bail!("a line of a migration"),
+    }
+    Ok(())
 }
 
 /// An event of a RAM that begins at the address 0, where RAM begins at the address `base`. Addresses are shifted modulo 2^64.
@@ -83,15 +108,20 @@ fn agrees(
 pub fn are_lines(lines: &[u8], expected: &[u8]) -> Result<()> {
     let told = lines.split(|byte| *byte == b'\n');
     for (line, wanted) in told.zip(expected.split(|byte| *byte == b'\n')) {
-        if line != wanted {
-            bail!(
-                "{} and not {}",
-                str::from_utf8(line)?,
-                str::from_utf8(wanted)?
-            );
-        }
+        is_line(line, wanted)?;
     }
     ensure!(lines.len() == expected.len(), "more or fewer lines");
+    Ok(())
+}
+
+fn is_line(line: &[u8], wanted: &[u8]) -> Result<()> {
+    if line != wanted {
+        bail!(
+            "{} and not {}",
+            str::from_utf8(line)?,
+            str::from_utf8(wanted)?
+        );
+    }
     Ok(())
 }
 
@@ -132,11 +162,16 @@ pub fn answer_of_machine(
     out: &mut Vec<u8>,
 ) -> Result<()> {
     match question {
-        Question::Lines => writeln!(out, "lines {}", machine.lines())?,
-        Question::Sector { dev, n } => write_sector(machine, dev, n, out)?,
-        Question::Asked { dev, pick } => write_asked(machine, dev, pick, out)?,
-        Question::Given { dev, pick } => write_given(machine, dev, pick, out)?,
+        Question::Lines => write_lines(machine, out),
+        Question::Sector { dev, n } => write_sector(machine, dev, n, out),
+        Question::Asked { dev, pick } => write_asked(machine, dev, pick, out),
+        Question::Given { dev, pick } => write_given(machine, dev, pick, out),
         _ => bail!("asked of a migration alone"),
     }
+}
+
+/// Writes the interrupt lines.
+fn write_lines(machine: &Machine<TestDisk>, out: &mut Vec<u8>) -> Result<()> {
+    writeln!(out, "lines {}", machine.lines())?;
     Ok(())
 }

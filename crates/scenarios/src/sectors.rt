@@ -18,10 +18,14 @@ pub fn write_sector(
     }
     let mut bytes = [0; SECTOR_SIZE];
     match machine.read_sector(dev, n, &mut bytes) {
-        Ok(true) => write_bytes(&bytes, out)?,
-        Ok(false) => writeln!(out, "bad")?,
-        Err(_) => writeln!(out, "failed")?,
+        Ok(true) => write_bytes(&bytes, out),
+        Ok(false) => write_word("bad", out),
+        Err(_) => write_word("failed", out),
     }
+}
+
+fn write_word(word: &str, out: &mut Vec<u8>) -> Result<()> {
+    writeln!(out, "{word}")?;
     Ok(())
 }
 

@@ -24,11 +24,16 @@ pub fn saved<D: Disk>(alloc: Global, machine: &mut Machine<D>) -> Result<Vec<u8>
 
 /// The machine of a stream in which `rounds` rounds ended.
 pub fn arrived(alloc: Global, stream: &[u8], rounds: u32) -> Result<Machine<TestDisk>> {
-    let header = read_heading_within(alloc, limits(), stream)?.context("no header")?;
-    let disks = disks_for(alloc, header.shapes.as_slice())?;
+    let disks = disks_within(alloc, stream)?;
     let (machine, ended) = receive_with(alloc, stream, disks, terms())?;
     ensure!(ended == rounds, "{ended} rounds ended");
     Ok(machine)
+}
+
+/// Disks of zeros for the devices that the header of a stream names.
+fn disks_within(alloc: Global, stream: &[u8]) -> Result<Vec<TestDisk>> {
+    let header = read_heading_within(alloc, limits(), stream)?.context("no header")?;
+    disks_for(alloc, header.shapes.as_slice())
 }
 
 /// The machine of a stream in which `rounds` rounds ended, received in pieces of `size` bytes.
@@ -38,14 +43,24 @@ pub fn arrived_in_pieces(
     rounds: u32,
     size: usize,
 ) -> Result<Machine<TestDisk>> {
-    let header = read_heading_within(alloc, limits(), stream)?.context("no header")?;
-    let disks = disks_for(alloc, header.shapes.as_slice())?;
+    let disks = disks_within(alloc, stream)?;
     let mut receiver = Receiver::with_terms(alloc, disks, None, terms());
+    takes_pieces(&mut receiver, stream, rounds, size)?;
+    Ok(receiver.finish()?)
+}
+
+/// Feeds a stream in which `rounds` rounds ended, in pieces of `size` bytes.
+fn takes_pieces(
+    receiver: &mut Receiver<TestDisk>,
+    stream: &[u8],
+    rounds: u32,
+    size: usize,
+) -> Result<()> {
     for piece in stream.chunks(size.max(1)) {
         receiver.feed(piece)?;
     }
     ensure!(receiver.rounds() == rounds, "rounds in pieces of {size}");
-    Ok(receiver.finish()?)
+    Ok(())
 }
 
 /// The number of the refusal of a stream with these disks, on these terms, or 0 where it is received.
@@ -65,16 +80,28 @@ pub fn refusal_in_pieces(
     size: usize,
 ) -> Result<(u8, usize)> {
     let mut receiver = Receiver::with_terms(alloc, disks, None, terms);
+    if let Some(refused) = refusal_of_piece(&mut receiver, stream, size) {
+        stays_refused(receiver)?;
+        return Ok(refused);
+    }
+    let refusal = receiver.finish().err();
+    Ok((refusal.map_or(0, RecvError::code), stream.len()))
+}
+
+/// The number of the refusal of a piece, and how many bytes were fed by then.
+fn refusal_of_piece(
+    receiver: &mut Receiver<TestDisk>,
+    stream: &[u8],
+    size: usize,
+) -> Option<(u8, usize)> {
     let mut fed = 0usize;
     for piece in stream.chunks(size.max(1)) {
         fed = fed.saturating_add(piece.len());
         if let Err(error) = receiver.feed(piece) {
-            stays_refused(receiver)?;
-            return Ok((error.code(), fed));
+            return Some((error.code(), fed));
         }
     }
-    let refusal = receiver.finish().err();
-    Ok((refusal.map_or(0, RecvError::code), fed))
+    None
 }
 
 /// Fails if a receiver takes anything more.
