@@ -4,6 +4,7 @@ use crate::moved::move_run;
 use crate::text::{read_events, read_trace, text_of};
 use anyhow::{Context, Result, bail, ensure};
 use books::spelled;
+use std::alloc::Global;
 use std::fs;
 use std::os::unix::fs::symlink;
 use vmig::execute;
@@ -93,8 +94,12 @@ fn holds(rt: &HostRuntime, words: &str) -> Result<()> {
 fn call(rt: &HostRuntime, line: &str) -> Result<()> {
     let (words, end) = line.split_once(" -> ").context("no end")?;
     let (status, written) = end.split_once("; ").unwrap_or((end, ""));
+    ends_as_told(rt, words, status.parse::<u8>()?, written)
+}
+
+/// Calls the program on these words. It must end with this status, and write what the texts before and after `; ` encode.
+fn ends_as_told(rt: &HostRuntime, words: &str, status: u8, written: &str) -> Result<()> {
     let (out, err) = written.split_once("; ").unwrap_or((written, ""));
-    let status = status.parse::<u8>()?;
     let out = text_of(rt.alloc(), out)?;
     let err = text_of(rt.alloc(), err)?;
     ends(rt, words, status, (out.as_str(), err.as_str()))
@@ -114,10 +119,7 @@ fn play(rt: &HostRuntime, line: &str) -> Result<()> {
 
 /// Calls the program on these words. It must end with this status, and write this to standard output and standard error.
 fn ends(rt: &HostRuntime, line: &str, status: u8, written: (&str, &str)) -> Result<()> {
-    let mut words: Vec<&str> = Vec::new(rt.alloc());
-    for word in line.split_whitespace() {
-        words.push(word)?;
-    }
+    let words = words_of(rt.alloc(), line)?;
     let mut out: Vec<u8> = Vec::new(rt.alloc());
     let mut err: Vec<u8> = Vec::new(rt.alloc());
     let ended = execute(rt, words.as_slice(), &mut out, &mut err);
@@ -128,4 +130,12 @@ fn ends(rt: &HostRuntime, line: &str, status: u8, written: (&str, &str)) -> Resu
         "another end"
     );
     Ok(())
+}
+
+fn words_of(alloc: Global, line: &str) -> Result<Vec<&str>> {
+    let mut words = Vec::new(alloc);
+    for word in line.split_whitespace() {
+        words.push(word)?;
+    }
+    Ok(words)
 }

@@ -17,6 +17,10 @@ use std::{env, fs};
 fn call_book(rt: &HostRuntime, file: &str) -> Result<()> {
     let text = fs::read_to_string(rt, file)?;
     let book = Book::read(rt.alloc(), text.as_str())?;
+    call_scenarios(rt, file, &book)
+}
+
+fn call_scenarios(rt: &HostRuntime, file: &str, book: &Book) -> Result<()> {
     for scenario in book.scenarios() {
         call::make_calls(rt, scenario.lines()).context(scenario.name())?;
         println!(rt; "{file}: {}", scenario.name())?;

@@ -35,14 +35,23 @@ pub fn move_run(rt: &HostRuntime, words: &str) -> Result<()> {
     let (moves, copies) = rest.split_once(' ').context("no number of copies")?;
     let moves = moves.parse::<u16>()?;
     let copies = copies.parse::<usize>()?;
-    let file = format!(in rt.alloc(); "{name}.trace")?;
-    let trace = fs::read_to_string(rt, file.as_str())?;
-    let file = format!(in rt.alloc(); "{name}.replies")?;
-    let replies = fs::read_to_string(rt, file.as_str())?;
-    let events = trace.as_str().lines().filter(|line| is_event(line)).count();
+    let trace = read_text(rt, name, "trace")?;
+    let replies = read_text(rt, name, "replies")?;
+    all_moved(rt, (trace.as_str(), replies.as_str()), moves, copies)
+}
+
+fn read_text(rt: &HostRuntime, name: &str, kind: &str) -> Result<String> {
+    let file = format!(in rt.alloc(); "{name}.{kind}")?;
+    Ok(fs::read_to_string(rt, file.as_str())?)
+}
+
+/// Moves the machine of a trace, with its replies, as often as this.
+fn all_moved(rt: &HostRuntime, run: (&str, &str), moves: u16, copies: usize) -> Result<()> {
+    let (trace, replies) = run;
+    let events = trace.lines().filter(|line| is_event(line)).count();
     for turn in 0..moves {
         let moved = place_of(events, turn as usize, moves as usize, copies);
-        is_moved(rt, trace.as_str(), replies.as_str(), moved).context(turn)?;
+        is_moved(rt, trace, replies, moved).context(turn)?;
     }
     Ok(())
 }
@@ -113,13 +122,21 @@ fn add_lines(text: &mut String, event: usize, moved: Move) -> Result<()> {
 fn is_moved(rt: &HostRuntime, trace: &str, replies: &str, moved: Move) -> Result<()> {
     let text = trace_of(rt.alloc(), trace, moved)?;
     fs::write(rt, "moved.trace", text.as_bytes())?;
+    is_rehearsed(rt, replies)
+}
+
+fn is_rehearsed(rt: &HostRuntime, replies: &str) -> Result<()> {
     let mut out: Vec<u8> = Vec::new(rt.alloc());
     let mut err: Vec<u8> = Vec::new(rt.alloc());
     let status = execute(rt, &["rehearse", "moved.trace"], &mut out, &mut err);
     ensure!(status == 0 && err.is_empty(), "status {status}");
-    let written = str::from_utf8(out.as_slice())?;
+    has_replies(rt.alloc(), out.as_slice(), replies)
+}
+
+fn has_replies(alloc: Global, out: &[u8], replies: &str) -> Result<()> {
+    let written = str::from_utf8(out)?;
     let written = written.strip_suffix("equal\n").context("not equal")?;
-    let guest = guest_lines(rt.alloc(), written)?;
+    let guest = guest_lines(alloc, written)?;
     ensure!(guest.as_str() == replies, "other replies");
     Ok(())
 }

@@ -46,9 +46,14 @@ const SECONDS: [[u8; 4]; 4] = [[0, 0, 0, 0], [2, 0, 2, 0], [4, 0, 4, 0], [1, 0, 
 pub fn agree(alloc: Global) -> Result<()> {
     for second in SECONDS {
         let mut ram = ram_with(alloc, second)?;
-        for flags in 0..=u16::MAX {
-            agree_on(alloc, &mut ram, flags).context(flags)?;
-        }
+        agree_with(alloc, &mut ram)?;
+    }
+    Ok(())
+}
+
+fn agree_with(alloc: Global, ram: &mut Ram) -> Result<()> {
+    for flags in 0..=u16::MAX {
+        agree_on(alloc, ram, flags).context(flags)?;
     }
     Ok(())
 }
@@ -56,6 +61,11 @@ pub fn agree(alloc: Global) -> Result<()> {
 /// A page with two descriptors of 32 and 16 bytes, each of which would be a table too, of which the first is made available.
 fn ram_with(alloc: Global, second: [u8; 4]) -> Result<Ram> {
     let mut ram = Ram::new(alloc, 1)?;
+    write_queue(&mut ram, second)?;
+    Ok(ram)
+}
+
+fn write_queue(ram: &mut Ram, second: [u8; 4]) -> Result<()> {
     let _ = ram.write(0x0, &[0, 8, 0, 0, 0, 0, 0, 0, 32, 0, 0, 0, 1, 0, 1, 0])?;
     let _ = ram.write(0x10, &[0, 9, 0, 0, 0, 0, 0, 0, 16, 0, 0, 0])?;
     let _ = ram.write(0x1c, &second)?;
@@ -64,7 +74,7 @@ fn ram_with(alloc: Global, second: [u8; 4]) -> Result<Ram> {
     let _ = ram.write(0x800, &[0, 10, 0, 0, 0, 0, 0, 0, 3, 0, 0, 0, 1, 0, 1, 0])?;
     let _ = ram.write(0x810, &[0, 11, 0, 0, 0, 0, 0, 0, 4, 0, 0, 0, 2, 0, 2, 0])?;
     let _ = ram.write(0x900, &[0, 12, 0, 0, 0, 0, 0, 0, 5, 0, 0, 0, 2, 0, 2, 0])?;
-    Ok(ram)
+    Ok(())
 }
 
 fn agree_on(alloc: Global, ram: &mut Ram, flags: u16) -> Result<()> {
@@ -72,17 +82,27 @@ fn agree_on(alloc: Global, ram: &mut Ram, flags: u16) -> Result<()> {
     let _ = ram.write(12, &bytes)?;
     let _ = ram.write(14, &[1, 0])?;
     for has_tables in [false, true] {
-        let found = found_split(alloc, ram, has_tables)?;
-        let expected = plainly_found(alloc, ram, has_tables, false)?;
-        ensure!(found == expected, "split");
+        agree_on_split(alloc, ram, has_tables)?;
     }
     let _ = ram.write(12, &[1, 0])?;
     let _ = ram.write(14, &bytes)?;
     for has_tables in [false, true] {
-        let found = found_packed(alloc, ram, has_tables)?;
-        let expected = plainly_found(alloc, ram, has_tables, true)?;
-        ensure!(found == expected, "packed");
+        agree_on_packed(alloc, ram, has_tables)?;
     }
+    Ok(())
+}
+
+fn agree_on_split(alloc: Global, ram: &Ram, has_tables: bool) -> Result<()> {
+    let found = found_split(alloc, ram, has_tables)?;
+    let expected = plainly_found(alloc, ram, has_tables, false)?;
+    ensure!(found == expected, "split");
+    Ok(())
+}
+
+fn agree_on_packed(alloc: Global, ram: &Ram, has_tables: bool) -> Result<()> {
+    let found = found_packed(alloc, ram, has_tables)?;
+    let expected = plainly_found(alloc, ram, has_tables, true)?;
+    ensure!(found == expected, "packed");
     Ok(())
 }
 

@@ -18,8 +18,12 @@ fn show_book(rt: &HostRuntime, word: &str) -> Result<()> {
     let base = u64::from_str_radix(digits, 16)?;
     let text = fs::read_to_string(rt, file)?;
     let book = Book::read(rt.alloc(), text.as_str())?;
+    show_scenarios(rt, word, &book, base)
+}
+
+fn show_scenarios(rt: &HostRuntime, word: &str, book: &Book, base: u64) -> Result<()> {
     for scenario in book.scenarios() {
-        play_scenario(rt.alloc(), &book, scenario, base).context(scenario.name())?;
+        play_scenario(rt.alloc(), book, scenario, base).context(scenario.name())?;
         println!(rt; "{word}: {}", scenario.name())?;
     }
     Ok(())

@@ -29,11 +29,15 @@ fn fresh_machine(alloc: Global) -> Result<Machine<TestDisk>> {
 fn write_fails(alloc: Global) -> Result<()> {
     let mut machine = fresh_machine(alloc)?;
     let stream = saved(alloc, &mut machine)?;
+    fails_anywhere(alloc, &mut machine, stream.as_slice())
+}
+
+fn fails_anywhere(alloc: Global, machine: &mut Machine<TestDisk>, stream: &[u8]) -> Result<()> {
     ensure!(stream.len() == LEN, "another length");
     for room in 0..LEN {
-        fails_after(alloc, &mut machine, stream.as_slice(), room)?;
+        fails_after(alloc, machine, stream, room)?;
     }
-    is_saved_again(alloc, &mut machine, stream.as_slice())
+    is_saved_again(alloc, machine, stream)
 }
 
 fn fails_after(

@@ -31,6 +31,10 @@ fn show(alloc: Global, lines: &str) -> Result<()> {
 fn show_book(rt: &HostRuntime, file: &str) -> Result<()> {
     let text = fs::read_to_string(rt, file)?;
     let book = Book::read(rt.alloc(), text.as_str())?;
+    show_scenarios(rt, file, &book)
+}
+
+fn show_scenarios(rt: &HostRuntime, file: &str, book: &Book) -> Result<()> {
     for scenario in book.scenarios() {
         show(rt.alloc(), scenario.lines()).context(scenario.name())?;
         println!(rt; "{file}: {}", scenario.name())?;

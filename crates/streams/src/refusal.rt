@@ -33,17 +33,15 @@ pub fn tells(alloc: Global, line: &str) -> Result<()> {
     let (limits, streams) = limits_of(streams)?;
     let (disks, streams) = streams.split_once(", AND ").unwrap_or(("", streams));
     let streams = Streams::read(alloc, streams)?;
+    let numbers = spelled(alloc, numbers)?;
+    let places = counted(alloc, places)?;
     let refusals = Refusals {
         terms: Terms { base: 0, limits },
         disks,
-        numbers: spelled(alloc, numbers)?,
-        places: counted(alloc, places)?,
+        numbers: numbers.as_slice(),
+        places: places.as_slice(),
     };
-    ensure!(refusals.numbers.len() == streams.count(), "{line}");
-    for place in 0..streams.count() {
-        refusals.tell(alloc, &streams, place).context(line)?;
-    }
-    Ok(())
+    refusals.tell_all(alloc, &streams, line)
 }
 
 /// The limits that a line names, and what follows them.
@@ -67,14 +65,28 @@ fn holds(alloc: Global, stream: &str, told: &str) -> Result<()> {
     let (counts, places) = told.split_once(" AT ").context("no offsets")?;
     let counts = counted(alloc, counts)?;
     let places = counted(alloc, places)?;
-    ensure!(counts.len() == places.len(), "as many offsets");
+    holds_in_pieces(
+        alloc,
+        streams.whole(),
+        (places.as_slice(), counts.as_slice()),
+    )
+}
+
+/// Fails if a receiver that is fed the stream in pieces of some size holds, at one of these offsets, another number of bytes than the one
+/// beside it.
+fn holds_in_pieces(alloc: Global, stream: &[u8], expected: (&[usize], &[usize])) -> Result<()> {
+    ensure!(expected.0.len() == expected.1.len(), "as many offsets");
     for size in PIECES {
-        let disks = disks_by(alloc, Limits::usual(), "", streams.whole())?;
-        let mut receiver = Receiver::new(alloc, disks);
-        let expected = (places.as_slice(), counts.as_slice());
-        holds_at(&mut receiver, streams.whole(), expected, size)?;
+        let mut receiver = receiver_of(alloc, stream)?;
+        holds_at(&mut receiver, stream, expected, size)?;
     }
     Ok(())
+}
+
+/// A receiver over disks of the devices that the header of a stream names.
+fn receiver_of(alloc: Global, stream: &[u8]) -> Result<Receiver<TestDisk>> {
+    let disks = disks_by(alloc, Limits::usual(), "", stream)?;
+    Ok(Receiver::new(alloc, disks))
 }
 
 /// Fails if a receiver that is fed the stream in pieces of `size` bytes holds, at one of these offsets, another number of bytes than the one
@@ -119,30 +131,77 @@ fn counted(alloc: Global, text: &str) -> Result<Vec<usize>> {
     Ok(numbers)
 }
 
+/// A stream that is changed at a position, and the number that is reported of it.
+#[derive(Clone, Copy)]
+struct Changed<'s> {
+    stream: &'s [u8],
+    number: u8,
+    place: usize,
+}
+
 /// What is reported of streams that are received with given disks.
 #[derive(Drop)]
 struct Refusals<'t> {
     terms: Terms,
     disks: &'t str,
-    numbers: Vec<u8>,
-    places: Vec<usize>,
+    numbers: &'t [u8],
+    places: &'t [usize],
 }
 
 impl<'t> Refusals<'t> {
+    /// Fails if of one of the streams another refusal is reported.
+    fn tell_all(&self, alloc: Global, streams: &Streams, line: &str) -> Result<()> {
+        ensure!(self.numbers.len() == streams.count(), "{line}");
+        for place in 0..streams.count() {
+            self.tell(alloc, streams, place).context(line)?;
+        }
+        Ok(())
+    }
+
     /// Fails if another refusal is reported of the stream that is changed at this position, whole or in pieces.
     fn tell(&self, alloc: Global, streams: &Streams, place: usize) -> Result<()> {
         let stream = streams.stream(alloc, place)?;
         let number = *self.numbers.get(place).context("no number")?;
+        let changed = Changed {
+            stream: stream.as_slice(),
+            number,
+            place,
+        };
+        self.tell_of(alloc, streams, changed)
+    }
+
+    fn tell_of(&self, alloc: Global, streams: &Streams, changed: Changed<'_>) -> Result<()> {
+        self.tell_whole(alloc, streams, changed)?;
+        let told_at = self.tell_bytes(alloc, streams, changed)?;
+        self.tell_in_pieces(alloc, streams, changed, told_at)
+    }
+
+    fn tell_whole(&self, alloc: Global, streams: &Streams, changed: Changed<'_>) -> Result<()> {
+        let Changed {
+            stream,
+            number,
+            place,
+        } = changed;
         let disks = self.disks_beside(alloc, streams)?;
-        let told = refusal_of(alloc, stream.as_slice(), disks, self.terms);
+        let told = refusal_of(alloc, stream, disks, self.terms);
         ensure!(told == number, "{told} at {place}");
+        Ok(())
+    }
+
+    /// The number of bytes that show the refusal, where the stream is fed byte by byte.
+    fn tell_bytes(&self, alloc: Global, streams: &Streams, changed: Changed<'_>) -> Result<usize> {
+        let Changed {
+            stream,
+            number,
+            place,
+        } = changed;
         let disks = self.disks_beside(alloc, streams)?;
-        let (told, told_at) = refusal_in_pieces(alloc, stream.as_slice(), disks, self.terms, 1)?;
+        let (told, told_at) = refusal_in_pieces(alloc, stream, disks, self.terms, 1)?;
         ensure!(told == number, "{told} byte by byte at {place}");
         if let Some(expected) = self.places.get(place) {
             ensure!(told_at == *expected, "at byte {told_at} at {place}");
         }
-        self.tell_in_pieces(alloc, streams, place, told_at)
+        Ok(told_at)
     }
 
     /// Fails if the stream, fed in pieces of more bytes, gets another answer, or gets it in another piece than that of byte
@@ -151,14 +210,17 @@ impl<'t> Refusals<'t> {
         &self,
         alloc: Global,
         streams: &Streams,
-        place: usize,
+        changed: Changed<'_>,
         told_at: usize,
     ) -> Result<()> {
-        let stream = streams.stream(alloc, place)?;
-        let number = *self.numbers.get(place).context("no number")?;
+        let Changed {
+            stream,
+            number,
+            place,
+        } = changed;
         for size in PIECES {
             let disks = self.disks_beside(alloc, streams)?;
-            let told = refusal_in_pieces(alloc, stream.as_slice(), disks, self.terms, size)?;
+            let told = refusal_in_pieces(alloc, stream, disks, self.terms, size)?;
             let end = told_at.div_ceil(size).saturating_mul(size);
             let expected = (number, end.min(stream.len()));
             ensure!(told == expected, "pieces of {size} at {place}");
