@@ -11,11 +11,11 @@ import sys
 if __name__ == "__main__":
     sys.dont_write_bytecode = True
 
-from texts import TOP, read
+from texts import TOP, place_of, read
 
 # Documents that quote code, and where the code of each kind stands.
-QUOTING = "README.md", "docs/host-loop.md"
-QUOTED = {"rust": ("crates/small_host/src/*.rt",), "c": ("examples/*/*.c", "tests/c/*.c")}
+QUOTING = "README.md", "docs/rattle.md", "docs/hosts/*.md"
+QUOTED = {"rust": ("crates/small_host/src/*.rt",), "c": ("examples/*/*.c", "tests/c/*.c", "tests/pages/*.c")}
 
 
 def documents(folder):
@@ -70,12 +70,12 @@ def check_quotes(differences):
         differences.append("vmig.h: the program at its head is not examples/c/first.c")
     texts = {kind: [read(path) for pattern in patterns for path in sorted(TOP.glob(pattern))] for kind, patterns in QUOTED.items()}
     count = 0
-    for name in QUOTING:
-        for kind, quote in re.findall(r"^```(rust|c)\n(.*?)^```$", read(TOP / name), flags=re.M | re.S):
+    for path in (path for pattern in QUOTING for path in sorted(TOP.glob(pattern))):
+        for kind, quote in re.findall(r"^```(rust|c)\n(.*?)^```$", read(path), flags=re.M | re.S):
             count += 1
             if not any(quote in text for text in texts[kind]):
                 first = quote.splitlines()[0].strip()
-                differences.append(f"{name}: the code that begins with '{first}' is not in {' or '.join(QUOTED[kind])}")
+                differences.append(f"{place_of(path)}: the code that begins with '{first}' is not in {' or '.join(QUOTED[kind])}")
     return f"{count} quotes are those of the code"
 
 

@@ -1,4 +1,4 @@
-/* vmig 1.0: virtio machines for hypervisors, from C11 and C++11.
+/* vmig 1.1: virtio machines for hypervisors, from C11 and C++11.
  *
  * A machine is guest RAM and 1 to 16 virtio MMIO devices (VIRTIO 1.2, 4.2): network devices, block devices, consoles and entropy
  * devices. Your hypervisor hands it what the guest and the host do, one call for each, and it hands out what is to be done outside:
@@ -34,12 +34,14 @@
  *   a copy must not be used beside it.
  * - A pointer whose count is 0 may be null, and no other: each out-parameter is written somewhere. Compilers that know the
  *   attribute `nonnull` warn of a null. A pointer and a count n name n items, which the call may read, and may also write unless
- *   the pointer is to const. Pointers are aligned as their types are; RAM and images have any alignment.
+ *   the pointer is to const. Pointers are aligned as their types are; RAM and images have any alignment. (RAM or an image that is
+ *   null and has a length is refused all the same: see `vmig_make`.)
  * - What a call may write overlaps with nothing else that the call is given, no pointer points into a vmig_machine, and no image
  *   overlaps another one or RAM.
  * - One call at a time for each machine, also of calls that take it as const. Calls from several threads are ordered by a lock, or
  *   by a thread's start or join. Calls on different machines need no order.
- * - No call from a signal handler, or in the forked child of a process with threads.
+ * - No call from a signal handler, or in the forked child of a process with threads. No call is left by longjmp, and no thread is
+ *   cancelled within one.
  * - malloc, realloc and free belong to one allocator, and what they return is aligned to each power of two up to 16 that divides
  *   its size. These three, memcpy, memmove and memset are all that the library calls of the C library.
  * - The thread that calls has 16 KiB of stack left: no call needs more (measured).
@@ -52,12 +54,11 @@
  * call could have written. There are two exceptions, and each is a state of its own: after VMIG_SEND_FAILED the send can only be
  * aborted, and after a VMIG_STREAM status of vmig_feed or vmig_finish the arrival is over (vmig_describe reports both). A call that
  * was done returns VMIG_OK, or, if its comment names it, a status from 64 on, which says what was done. So `vmig_refused(status)`
- * is the test for a refusal, and of a call whose comment names no status from 64 on `status != VMIG_OK` is too. Each number has one
- * meaning.
+ * is the test for a refusal, and of a call whose comment names no status from 64 on `status != VMIG_OK` is too.
  *     The order of refusals is one for all calls: by the state (the table below), NOT_KNOWN, NO_DEVICE, WRONG_KIND, then what the
  * comment names, in its order, and NO_MEMORY last. Of each call all refusals are those of the table and those that its comment
- * names, by their names without VMIG_. NOT_KNOWN is a struct of another version, a flag, or a word that has to be 0 and is not; in
- * a vmig_shape such a word is BAD_SHAPE. What the table says of a state holds whatever else could be refused.
+ * names, by their names without VMIG_. NOT_KNOWN is a struct of another version, an unknown flag, or a word that has to be 0 and is
+ * not; in a vmig_shape such a word is BAD_SHAPE. What the table says of a state holds whatever else could be refused.
  *
  * STATES. What each call answers in each of them; a dot is 'done, or what its comment names'.
  *
@@ -69,12 +70,13 @@
  *     reg_read, reg_write,
  *       input, resize, drop,
  *       reset, next,
- *       sync_failed            NO_MACHINE  NO_MACHINE        .            .            STOPPED      .
- *     room                     NO_MACHINE  NO_MACHINE        .            .            .            .
+ *       sync_failed,
+ *       disk_failed            NO_MACHINE  NO_MACHINE        .            .            STOPPED      .
+ *     disk_done                NO_MACHINE  NO_MACHINE        .            .            STOPPED      . (4)
+ *     room, calls_out          NO_MACHINE  NO_MACHINE        .            .            .            .
  *     step, work, ram_write,
  *       mark, push, lend,
- *       disk_call, disk_done,
- *       disk_failed            NO_MACHINE  NO_MACHINE        .            .            STOPPED      LENT
+ *       disk_call              NO_MACHINE  NO_MACHINE        .            .            STOPPED      LENT
  *     ram_read, pull           NO_MACHINE  NO_MACHINE        .            .            .            LENT
  *     lines                    0           0                 .            .            .            .
  *     written                  NO_MACHINE  NO_MACHINE        .            .            .            .
@@ -90,6 +92,7 @@
  *         if any call is out).
  *     (2) A machine that is idle or sending, and whose RAM is out.
  *     (3) Of an arrival that has failed they are STREAM_FAILED.
+ *     (4) LENT of a read that is out.
  *
  * A machine is sending from vmig_send_begin on, and stopped after vmig_send_stop: its guest is paused then. vmig_send_abort makes
  * it idle again.
@@ -114,7 +117,7 @@
  *         } while (s != VMIG_IDLE && s != VMIG_WORK && !vmig_refused(s));
  *         tell_the_controller(vmig_lines(m));                of what changed, and of nothing else
  *         if (s == VMIG_NO_MEMORY) s = vmig_next(m, &turn.dev, &turn.pick);     nothing changed: the next turn lets others go first
- *         return s;
+ *         return s;                                          so after NO_MEMORY it may be VMIG_SYNC or VMIG_CALL: work is left too
  *     }
  *
  * It ends whatever the guest and the disks do, as each step counts, also one that is passed over; and no device keeps the others
@@ -142,7 +145,7 @@
  *
  *     while (vmig_disk_call(m, &call, slot->bytes, sizeof slot->bytes) == VMIG_CALL) submit(slot, call);      after each turn, as
  *     ...                                                                                    its steps take requests; until IDLE
- *     for each call that is over:                                       under the lock of the machine, with RAM that is not lent
+ *     for each call that is over:                               under the lock of the machine; of a read with RAM that is not lent
  *         if (failed) status = vmig_disk_failed(m, call.number);
  *         else status = vmig_disk_done(m, call.number, count, bytes, len);
  *     do_work(m);                                                                               a turn: it ends what was answered
@@ -153,14 +156,28 @@
  *   done at once, and in any order. Say the largest block that you write whole: 8 over storage of 4,096 bytes, or of clusters or
  *   encrypted blocks of that size.
  * - A write, or a clearing, that is `durable` is on storage before it is answered. A flush makes durable the writes and clearings
- *   of its disk that were answered before vmig_disk_call handed it out, and no others. An fdatasync that failed is for good: from
- *   then on each flush and each durable call of that disk fails.
+ *   of its disk that were answered before vmig_disk_call handed it out, and no others.
+ * - Storage that may have lost writes that it answered counts as storage whose sync failed, whatever showed it: an fdatasync that
+ *   failed, a connection that broke, a server that restarted, a cache that was dropped. Call vmig_sync_failed before any answer
+ *   that comes after it: from then on no flush and no durable call of that disk is told done, whatever you answer, also none that
+ *   is out. Reads may give what lay there before a write that was answered: a host that does not write anew all that was answered
+ *   and not flushed stops its guest.
+ * - One sync at a time for each open file: of syncs that are out together a system reports an error to one, and 0 to the others.
+ *   Of a write with a linked sync, as io_uring has it, a short write breaks the link: the ECANCELED of its sync is no failed sync.
+ * - The numbers of calls begin at setup.calls_from. Let each machine of a process have numbers of its own: else an answer that
+ *   comes late, of a machine that was freed, or to the wrong machine, is taken for one of this machine.
+ * - Nothing waits unseen: vmig_next is VMIG_CALL where no step has work and a call waits to be asked, as after vmig_finish, after
+ *   vmig_send_abort, and after answers without a turn. Where what waits has to wait for an answer it is VMIG_IDLE.
  * - While a call is out nothing is done that would drop its request, or have another host ask for it: vmig_reg_write, vmig_reset
- *   and vmig_send_stop are VMIG_CALLS_OUT, and nothing changed. Let the lock go, give RAM back, answer what is out, and make the
- *   call again; a processor of the guest waits in its access meanwhile. All other calls are as before. What is saved asks anew for
- *   what is out; what is out of a machine that is freed is yours to end.
- * - In no stream is a sector of it. To move a guest over storage that both hosts see: pause the guest, answer all that is out,
- *   vmig_send_stop, close the storage, and only then tell the target, which opens it and then runs the guest.
+ *   and vmig_send_stop are VMIG_CALLS_OUT, and nothing changed. Answer what is out, and make the call again; a processor of the
+ *   guest waits in its access meanwhile. All other calls are as before. While RAM is lent vmig_disk_failed is done, and
+ *   vmig_disk_done of all but a read, so a driver's reset needs no return of RAM, and no other processor outside: of a read that
+ *   is over its driver wants no answer, so let it fail. What is saved asks anew for what is out; what is out of a machine that is
+ *   freed is yours to end.
+ * - In no stream is a sector of it, nor that a disk is lost. Before the bytes of a save are good flush the storage. To move a guest
+ *   over storage that both hosts see: pause the guest, answer all that is out, vmig_send_stop, flush and close the storage, and
+ *   only then tell the target, and which of its disks are lost. It opens the storage, calls vmig_sync_failed for each that is lost,
+ *   after vmig_finish, and then runs the guest.
  *
  * RAM OF YOURS, as under hardware virtualization: the guest runs on memory of yours, and its devices read and write the same bytes:
  * nothing is copied. vmig_lend lends RAM to you, and you run the guest; registers are served while it is lent, and so is what you
@@ -170,20 +187,21 @@
  *     for (;;) {
  *         vmig_pages none = VMIG_NO_PAGES;
  *         if (vmig_lend(m, &ram) != VMIG_OK) return;
- *         while (!has_work(m)) {                             vmig_next names a step, for a register write kicked a queue
+ *         while (!has_work(m)) {                             vmig_next is not VMIG_IDLE, for a register write kicked a queue
  *             run_guest(ram.at, ram.len);                    until one of its processors touches a device
  *             access_register(m);                            by vmig_reg_write or vmig_reg_read; the others go on running
  *         }
  *         bring_all_processors_out();
  *         if (vmig_give_back(m, &ram, &none) != VMIG_OK) return;
- *         do_work(m);
+ *         do_work(m);                                        and vmig_disk_call until VMIG_IDLE, where a disk is outside
  *     }
  *
  * Every processor of the guest is outside while RAM is not lent, for the devices write into it then: for steps, copies, the end of
  * a round, the stop and RAM's own calls, and for nothing else. The devices see what was written at once, but a page is sent anew
- * only once it is named: at a return, or by vmig_mark, which is given a log of dirty pages as it is. None needs a name before
- * vmig_send_begin; each that was written needs one before vmig_send_round and before vmig_send_stop. vmig_send_left counts what was
- * named: so mark, then ask what is left, then decide. Who may touch the bytes, to read or to write them:
+ * only once it is named: at a return, or by vmig_mark, by a list (vmig_list) or a log of dirty pages as it is (vmig_bitmap). None
+ * needs a name before vmig_send_begin; each that was written needs one before vmig_send_round and before vmig_send_stop.
+ * vmig_send_left counts what was named: so mark, then ask what is left, then decide. Who may touch the bytes, to read or to write
+ * them:
  *
  *                         before make, arrive  idle, sending  lent  stopped  arriving, failed  after free, release
  *     you and the guest   yes                  no             yes   no       no                yes
@@ -210,9 +228,9 @@
  * has let go of the guest with the last byte of the stream.
  *
  * A MACHINE ARRIVES: vmig_arrive, with the most that you allow, then vmig_feed with the bytes of the stream in any pieces, as they
- * come over the wire, until VMIG_WHOLE, and vmig_finish. Before its guest runs read the lines and do the devices' work: a kick and
- * an interrupt that were not served come with the machine. The digest of the stream is computed as the bytes come, by some 7 ns a
- * byte.
+ * come over the wire, until VMIG_WHOLE, and vmig_finish. Before its guest runs read the lines, do the devices' work, and ask for
+ * calls of disks outside: a kick, an interrupt and a request that were not served come with the machine. The digest of the stream
+ * is computed as the bytes come, by some 7 ns a byte.
  *
  * WHAT TAKES MEMORY from malloc: vmig_make, for devices, for RAM and disks where they are not yours, for a bit for each sector of
  * an image, and for 8 bytes for each page; vmig_arrive, for lists of the images and shapes, and for 8 bytes for each page of RAM
@@ -249,9 +267,9 @@ extern "C" {
 
 /* The version of this library. It reads streams of versions 1 to 3. It writes version 3 where a device is for frames of more than
  * 1,514 bytes, or has its disk outside, and else version 2. */
-#define VMIG_VERSION "1.0.0"
+#define VMIG_VERSION "1.1.0"
 #define VMIG_VERSION_MAJOR 1
-#define VMIG_VERSION_MINOR 0
+#define VMIG_VERSION_MINOR 1
 #define VMIG_VERSION_PATCH 0
 
 /* The same as one number. One major number is one ABI, which only grows. */
@@ -273,7 +291,7 @@ enum {
     /* Refused: the event, by the numbers of the machine's own replies. */
     VMIG_NO_DEVICE = 1,                 /* there is no device of this number */
     VMIG_OUT_OF_RAM = 2,                /* the access is not all in RAM; of pages: there is no such page */
-    VMIG_TOO_LONG = 3,                  /* an access to RAM of more than 4,096 bytes; disk_done: no answer to that call */
+    VMIG_TOO_LONG = 3,                  /* an access to RAM of more than 4,096 bytes; disk_done: another count, or other bytes */
     VMIG_WRONG_KIND = 4,                /* a device of this kind has no such call, or no disk in the machine */
     VMIG_BAD_FRAME = 5,                 /* a frame of fewer than 14 bytes, or of more than the longest of its device */
 
@@ -284,7 +302,7 @@ enum {
     VMIG_NO_MEMORY = 10,                /* out of memory: malloc or realloc failed */
     VMIG_TOO_SMALL = 11,                /* your buffer, your slots or your bitmap */
     VMIG_BAD_SHAPE = 12,                /* not 1 to 16 devices, or one beyond the limits (VMIG_LARGE), or of an unknown kind */
-    VMIG_BAD_IMAGES = 15,               /* contents or images that do not fit the disks; a slot that is not VMIG_NO_IMAGE */
+    VMIG_BAD_IMAGES = 15,               /* contents or images that do not fit the disks; release: a slot that has sectors */
     VMIG_NOT_SENDING = 17,              /* the machine is not being sent */
     VMIG_SENDING = 18,                  /* the machine is being sent */
     VMIG_SEND_FAILED = 20,              /* out of memory for what waits to be taken: vmig_send_abort makes the machine idle again */
@@ -294,8 +312,9 @@ enum {
     VMIG_NOT_LENT = 24,                 /* RAM is in */
     VMIG_NOT_YOURS = 25,                /* RAM is in memory of the library, and is never lent */
     VMIG_BAD_RAM = 26,                  /* not whole pages, none, or more than 16,384 without VMIG_LARGE; not as asked for or lent;
-                                         * lend: not VMIG_NO_RAM */
-    VMIG_NOT_KNOWN = 27,                /* a struct of another version, a flag, or a word that has to be 0; or no VMIG_LOG */
+                                         * lend: its len is not 0 */
+    VMIG_NOT_KNOWN = 27,                /* a struct of another version, an unknown flag, or a word that has to be 0 and is not;
+                                         * arrive: no such longest frame; written: no VMIG_LOG */
     VMIG_NOT_OUT = 28,                  /* no call of a disk outside with this number is out */
     VMIG_CALLS_OUT = 29,                /* calls of disks outside are out, and have to be answered before */
     VMIG_BAD_BASE = 30,                 /* not a multiple of 4,096, or RAM would reach past the last address */
@@ -305,7 +324,7 @@ enum {
     VMIG_STREAM_BAD_VERSION = 34,       /* a version after 3; or version 3, to an arrival that allows neither longer frames nor
                                          * disks outside, or, at the header's end, of a machine without any */
     VMIG_STREAM_BAD_SHAPE = 35,         /* it announces what no machine can be, or, to an arrival without VMIG_LARGE, what none
-                                         * without this flag can be */
+                                         * without this flag can be, but for longer frames */
     VMIG_STREAM_MISMATCH = 36,          /* at the header: not the shapes, images or pages of RAM that the arrival names; or RAM
                                          * from its base on would pass the last address */
     VMIG_STREAM_BAD_TAG = 37,           /* a tag that may not come there */
@@ -323,7 +342,8 @@ enum {
     VMIG_STREAM_TOO_LARGE = 49,         /* at the header, before memory is taken: more than the arrival allows */
 
     /* Done, and this was done. */
-    VMIG_IDLE = 65,                     /* step: nothing to do; next, work: no step has anything to do; disk_call: there is none */
+    VMIG_IDLE = 65,                     /* step: nothing to do; work: no step has anything to do; disk_call: there is none; next:
+                                         * neither */
     VMIG_TAKEN = 66,                    /* a block device took a request */
     VMIG_MOVED = 67,                    /* one unit of a request is done: a sector, a flush or the id */
     VMIG_BAD_SECTOR = 68,               /* the sector is bad: the request will end with an error; sector_read: it has no bytes */
@@ -337,7 +357,7 @@ enum {
     VMIG_WORK = 78,                     /* next: the step that it names has something to do; work: there is more to do */
     VMIG_MORE = 79,                     /* stream_describe: the header is not whole; save: the stream is longer than size */
     VMIG_SYNC = 80,                     /* next, work: the step that it names needs its disk durable before */
-    VMIG_CALL = 81,                     /* disk_call: there is one */
+    VMIG_CALL = 81,                     /* disk_call: there is one; next: no step has anything to do, and there is one */
     VMIG_WHOLE = 82                     /* feed: the stream has ended, and is right: call vmig_finish */
 };
 
@@ -375,14 +395,14 @@ typedef struct vmig_shape {
     uint64_t sectors;                   /* of a disk: 1 to 2,097,152 sectors of 512 bytes, to 4,294,967,295 with VMIG_LARGE; of a
                                          * disk outside to 2^54, with and without it */
     uint8_t id[20];                     /* of a disk: the id that it returns to a driver */
-    uint32_t frame;                     /* of a network device: how many bytes its longest frame has, 1,515 to 65,535 with
-                                         * VMIG_LARGE; 0: 1,514, and no MTU is offered */
+    uint32_t frame;                     /* of a network device: how many bytes its longest frame has: 1,514, or with VMIG_LARGE to
+                                         * 65,535; 0 is 1,514. A device of 1,514 offers no MTU, and is described by 0 */
     uint64_t reserved[2];               /* 0 */
 } vmig_shape;                           /* 56 bytes, no padding */
 
 /* A disk in memory of yours, as a file that you mapped: 512 * sectors bytes at at, fewer than 2^63, which may be read. They may be
  * written too, unless the machine is made and its shape is read_only: what arrives is written in any case. An image of no sectors
- * has no bytes, and its pointer may be null. */
+ * has no bytes, and its pointer may be null. Of the slots of vmig_release `sectors` alone is looked at. */
 typedef struct vmig_image {
     void *at;
     uint64_t sectors;
@@ -398,8 +418,9 @@ typedef struct vmig_ram {
 #define VMIG_NO_IMAGE {VMIG_NULL_, 0}
 #define VMIG_NO_RAM {VMIG_NULL_, 0}
 
-/* Pages of RAM: those of a list, those of a bitmap as KVM_GET_DIRTY_LOG fills it, both, or all. Begin with VMIG_NO_PAGES or
- * VMIG_ALL_PAGES. The pages of a list come in any order, and one may come twice. */
+/* Pages of RAM: those of a list, those of a bitmap as KVM_GET_DIRTY_LOG fills it, both, or all. Begin with vmig_list, vmig_bitmap,
+ * VMIG_NO_PAGES or VMIG_ALL_PAGES, and not field by field: a pointer whose count was forgotten names nothing, and its pages are
+ * lost at the target. The pages of a list come in any order, and one may come twice. */
 typedef struct vmig_pages {
     const uint32_t *list;
     size_t count;
@@ -415,6 +436,24 @@ typedef struct vmig_pages {
 
 #define VMIG_NO_PAGES {VMIG_NULL_, 0, VMIG_NULL_, 0, 0, 0, 0, 0, {0, 0}}
 #define VMIG_ALL_PAGES {VMIG_NULL_, 0, VMIG_NULL_, 0, 0, 0, 1, 0, {0, 0}}
+
+/* The pages of a bitmap of count_words words, from RAM's first page on to its end. Set `first` and `span` where it is of a slot. */
+static inline vmig_pages vmig_bitmap(const uint64_t *words, size_t count_words)
+{
+    vmig_pages pages = VMIG_NO_PAGES;
+    pages.words = words;
+    pages.count_words = count_words;
+    return pages;
+}
+
+/* The pages of a list of count numbers. */
+static inline vmig_pages vmig_list(const uint32_t *list, size_t count)
+{
+    vmig_pages pages = VMIG_NO_PAGES;
+    pages.list = list;
+    pages.count = count;
+    return pages;
+}
 
 /* A machine that is made. Begin with VMIG_SETUP, and set pages or ram, shapes and count, and what else you want. VMIG_OK takes RAM
  * and images: ram is VMIG_NO_RAM and each image VMIG_NO_IMAGE then. The rest of the struct is as it was in any case. */
@@ -439,11 +478,15 @@ typedef struct vmig_setup {
                                          * vmig_ram_write */
     uint32_t flags;                     /* any of VMIG_LARGE and VMIG_LOG, or 0 */
     uint32_t block;                     /* of disks outside: how many sectors the largest block of your storage has, as 8 for 4,096
-                                         * bytes; 0 is 1 */
-    uint64_t reserved[4];               /* 0 */
+                                         * bytes: 1 to 2^32 - 1, and 0 is 1. Without a disk outside it is not looked at */
+    uint64_t calls_from;                /* of disks outside: the number of the first call. Numbers count up from there, and at
+                                         * 2^64 - 1 no call is handed out. Where no two machines of a process have one in common,
+                                         * an answer of another machine, or of one that was freed, is VMIG_NOT_OUT: so let each
+                                         * have 2^40 of its own, `(uint64_t)machines++ << 40` by a counter in the process */
+    uint64_t reserved[3];               /* 0 */
 } vmig_setup;
 
-#define VMIG_SETUP {1, 0, VMIG_NULL_, 0, VMIG_NULL_, 0, VMIG_NULL_, 0, VMIG_NO_RAM, 0, 0, 0, {0, 0, 0, 0}}
+#define VMIG_SETUP {1, 0, VMIG_NULL_, 0, VMIG_NULL_, 0, VMIG_NULL_, 0, VMIG_NO_RAM, 0, 0, 0, 0, {0, 0, 0}}
 
 /* Flags. VMIG_LARGE: the machine may be as large as its stream can tell, with 4,294,967,295 pages (16 TiB), as many sectors
  * (2 TiB) of each disk, and frames of 65,535 bytes. Without it a machine of more than 16,384 pages (64 MiB), of a disk of more than
@@ -476,19 +519,23 @@ typedef struct vmig_arrival {
                                          * is refused, else the driver finds its rings at other bytes. A multiple of 4,096. RAM of
                                          * the library that would reach past the last address is VMIG_STREAM_MISMATCH */
     uint32_t flags;                     /* any of VMIG_LARGE and VMIG_LOG, or 0 */
-    uint32_t frame;                     /* how many bytes the longest frame of each network device may have, 1,515 to 65,535 with
-                                         * VMIG_LARGE, else VMIG_NOT_KNOWN; a longer one is VMIG_STREAM_TOO_LARGE. 0: 1,514 */
+    uint32_t frame;                     /* how many bytes the longest frame of each network device may have: 1,514, or with
+                                         * VMIG_LARGE to 65,535, else VMIG_NOT_KNOWN; 0 is 1,514. Where shapes name a longer one as
+                                         * many as that; more are VMIG_STREAM_TOO_LARGE */
     uint64_t most_outside;              /* how many sectors each disk outside may have, and where shapes name a larger one as many
                                          * as that; more are VMIG_STREAM_TOO_LARGE. 0, and none in shapes: no disk is outside. Where
-                                         * this is so and frame is 0, version 3 of the stream is VMIG_STREAM_BAD_VERSION */
+                                         * this is so, and no frame may have more than 1,514 bytes, version 3 of the stream is
+                                         * VMIG_STREAM_BAD_VERSION */
     uint32_t block;                     /* as of vmig_setup */
     uint32_t zero;                      /* 0 */
-    uint64_t reserved[2];               /* 0 */
+    uint64_t calls_from;                /* as of vmig_setup */
+    uint64_t reserved[1];               /* 0 */
 } vmig_arrival;
 
-#define VMIG_ARRIVAL {1, 0, 0, VMIG_NULL_, 0, VMIG_NULL_, 0, VMIG_NO_RAM, 0, 0, 0, 0, 0, 0, {0, 0}}
+#define VMIG_ARRIVAL {1, 0, 0, VMIG_NULL_, 0, VMIG_NULL_, 0, VMIG_NO_RAM, 0, 0, 0, 0, 0, 0, 0, {0}}
 
-/* What a handle has; or what a stream announces. What is not known yet, or is not of this state, is 0. */
+/* What a handle has; or what a stream announces. What is not known yet, or is not of this state, is 0: an arrival that has failed
+ * has its flags, fault, fault_at and images, and no base. */
 typedef struct vmig_description {
     uint32_t state;                     /* VMIG_IS_NONE and the others below */
     uint32_t lent;                      /* 1: RAM is out */
@@ -501,8 +548,9 @@ typedef struct vmig_description {
     uint32_t fault;                     /* failed, send failed: the status that was answered first */
     uint64_t fault_at;                  /* failed: how many bytes of the stream came before the piece that was refused */
     uint32_t images;                    /* how many slots vmig_release needs */
-    uint32_t lost;                      /* bit d: the disk of device d, by vmig_sync_failed */
-    uint32_t message;                   /* the size of buffer that is enough for every step */
+    uint32_t lost;                      /* bit d: the disk of device d, in the machine or outside, by vmig_sync_failed */
+    uint32_t message;                   /* the size of buffer that is enough for every step. Of what arrives, also once it is whole,
+                                         * 0: until vmig_finish vmig_stream_describe says it of its first bytes */
     uint32_t whole;                     /* arriving: 1 after VMIG_WHOLE */
     uint64_t reserved[4];               /* 0 */
     vmig_shape shapes[16];              /* of the devices 0, 1 and so on */
@@ -526,8 +574,11 @@ uint32_t vmig_version(void);
 
 /* Makes a machine as the setup says, in any mixture of RAM, of yours or of the library, and of disks: zeros, your contents, or
  * images.
- * NOT_KNOWN, BAD_RAM (not whole pages, none or too many; pages and ram differ), BAD_SHAPE, BAD_BASE, BAD_IMAGES (contents and
- * images; counts, lengths or sectors that are not those of the disks), NO_MEMORY. */
+ *     RAM or an image that is null and has a length is BAD_RAM or BAD_IMAGES, of vmig_arrive and vmig_give_back too. The library
+ * cannot see it: the inline functions at the end of this header do, which macros of these three names call. (vmig_make)(..), and
+ * the address of vmig_make, are the library's own call, which takes such a pointer at its word.
+ * NOT_KNOWN, BAD_RAM (not whole pages, none or too many; pages and ram differ; null), BAD_SHAPE, BAD_BASE, BAD_IMAGES (contents and
+ * images; counts, lengths or sectors that are not those of the disks; null), NO_MEMORY. */
 vmig_status vmig_make(vmig_setup *setup, vmig_machine *m) VMIG_CHECKED_(1, 2);
 
 /* Frees whatever the handle has, also while RAM is lent; it is VMIG_NONE then. RAM and images of yours are yours again, where they
@@ -538,7 +589,7 @@ void vmig_free(vmig_machine *m) VMIG_NONNULL_(1);
  * They hold what the guest left there; a sector that is VMIG_BAD_SECTOR may hold anything. Of what arrives, refused or not, they
  * hold what they held, and in part the sectors of the stream. Without images no slot is needed. RAM of yours is yours again too,
  * where it lay.
- * BAD_IMAGES (a slot that is not VMIG_NO_IMAGE), TOO_SMALL (slots). */
+ * BAD_IMAGES (a slot whose sectors are not 0), TOO_SMALL (slots). */
 vmig_status vmig_release(vmig_machine *m, vmig_image *slots, size_t count) VMIG_CHECKED_(1);
 
 /* What the handle has. Never refused: of no machine the state is VMIG_IS_NONE, and the rest 0. */
@@ -547,7 +598,7 @@ void vmig_describe(const vmig_machine *m, vmig_description *out) VMIG_NONNULL_(1
 /* ---- what the guest and the host do: none of it touches RAM ------------------------------------------------------------------ */
 
 /* The driver reads a register: 1, 2 or 4 bytes (width) at an offset in the device's window, which has 0x200 bytes. The registers
- * are those of VIRTIO 1.2, 4.2.2, 4 bytes each, and from 0x100 on lies the device's configuration (docs/host-loop.md has a table).
+ * are those of VIRTIO 1.2, 4.2.2, 4 bytes each, and from 0x100 on lies the device's configuration (docs/hosts/devices.md has a table).
  * Each offset and width has an answer: an offset without a register, and a register by another width, reads 0. An access of 8 bytes
  * is two of 4. NO_DEVICE. */
 vmig_status vmig_reg_read(const vmig_machine *m, uint8_t dev, uint32_t off, uint8_t width, uint32_t *value) VMIG_CHECKED_(1, 5);
@@ -600,9 +651,11 @@ vmig_status vmig_reset(vmig_machine *m) VMIG_CHECKED_(1);
  * VMIG_WORK. VMIG_SYNC, where the guest takes what it wrote to this disk for durable by that step: it makes a flush, or it ends a
  * write whose driver did not accept the feature FLUSH (VIRTIO 1.2, 5.2.6.2). Bring the image to its file before you make the step,
  * or call vmig_sync_failed in its place. Of a disk in memory of the library, and of an image behind which no file lies, the answer
- * is the same, and nothing is to be brought: make the step. VMIG_IDLE, where no step of any device has anything to do: both are as
- * they were. The step that is named is not VMIG_IDLE, or it finds a queue empty, and then that queue has nothing to do until its
- * driver notifies the device anew. It reads no RAM. */
+ * is the same, and nothing is to be brought: make the step. VMIG_CALL, where no step of any device has anything to do, and
+ * vmig_disk_call would hand out a call, whatever the size of its buffer, 512 bytes at least: *dev becomes its device, and *pick is
+ * as it was. VMIG_IDLE, where neither is so: what waits may not be handed out whole until a call that is out is answered, or
+ * numbers are used up; both are as they were. The step that is named is not VMIG_IDLE, or it finds a queue empty, and then that
+ * queue has nothing to do until its driver notifies the device anew. It reads no RAM. */
 vmig_status vmig_next(const vmig_machine *m, uint8_t *dev, uint8_t *pick) VMIG_CHECKED_(1, 2, 3);
 
 /* A device does one piece of its work, which the pick names. A block device: pick 0 takes the next request (none while 8 are
@@ -628,22 +681,28 @@ typedef struct vmig_turn {
 #define VMIG_TURN {0, 0, 0, 0, 0, 0, {0, 0}}
 
 /* The steps that vmig_next names, one after another, as vmig_step makes them, until one of these comes. Call it again to go on.
- * VMIG_IDLE: no step has anything to do. VMIG_WORK: there is more to do; `left` is 0, or memory was refused to a step that was not
- * the first of this call: that one is made by the next call. VMIG_SYNC: a step was passed over, see vmig_next; bring the disk to
- * its file, and make the step by vmig_step, or call vmig_sync_failed. SENT, DROPPED, NEEDS_RESET, BAD_SECTOR, DISK_FAILED, and
- * COMPLETED of an entropy device, which has room for bytes now: of the step `dev`, `pick`, which was made last.
+ * VMIG_IDLE: no step has anything to do; a call of a disk outside may wait to be asked all the same. VMIG_WORK: there is more to
+ * do; `left` is 0, or memory was refused to a step that was not the first of this call: that one is made by the next call.
+ * VMIG_SYNC: a step was passed over, see vmig_next; bring the disk to its file, and make the step by vmig_step, or call
+ * vmig_sync_failed. SENT, DROPPED, NEEDS_RESET, BAD_SECTOR, DISK_FAILED, and COMPLETED of an entropy device, which has room for
+ * bytes now: of the step `dev`, `pick`, which was made last.
  * NOT_KNOWN (of the turn), TOO_SMALL (size is less than vmig_describe's message), NO_MEMORY (of the first step, and then nothing
  * has changed; to let others go first, let vmig_next set dev and pick). */
 vmig_status vmig_work(vmig_machine *m, vmig_turn *turn, uint8_t *buf, size_t size) VMIG_CHECKED_(1, 2);
 
-/* The disk of this device could not be brought to its file: it is lost. That is for good: the system reports bytes that did not
- * reach the storage once, and the next sync answers 0 though they are gone. From here on each step that makes a flush is made as
- * one whose disk failed (DISK_FAILED), so the guest reads an error. A step that would end a write of a driver that did not accept
- * FLUSH is named and made no more (vmig_next and vmig_work pass it over, vmig_step is IDLE), so the guest reads no success. None of
- * them says VMIG_SYNC of this disk any more, and every other step is as ever. End the guest soon, or move it: a move sends what the
- * page cache still has. Make no machine over that file again: who opens it later gets no report. The disk stays lost until the
- * machine is freed, through vmig_reset and a driver's reset too, and in no stream: what arrives lies in another file. It is the
- * call also for a sync of your own that failed without a step.
+/* The disk of this device is lost: it could not be brought to its file; or it is outside, and its storage may have lost writes that
+ * it answered. That is for good: the system reports bytes that did not reach the storage once, and the next sync answers 0 though
+ * they are gone. The disk stays lost until the machine is freed, through vmig_reset and a driver's reset too, and in no stream. It
+ * is the call also for a sync of your own that failed without a step.
+ *     Of a disk in the machine each step that makes a flush is made as one whose disk failed (DISK_FAILED), so the guest reads an
+ * error. A step that would end a write of a driver that did not accept FLUSH is named and made no more (vmig_next and vmig_work
+ * pass it over, vmig_step is IDLE), so the guest reads no success. None of them says VMIG_SYNC of this disk any more, and every
+ * other step is as ever. End the guest soon, or move it: a move sends what the page cache still has, and what arrives lies in
+ * another file. Make no machine over that file again: who opens it later gets no report.
+ *     Of a disk outside no answer of a flush, or of a write or clearing that is durable, counts as done any more, also of one that
+ * is out: its request ends with an error, whatever vmig_disk_done was told. Calls are asked for as ever, and reads, and writes and
+ * clearings that are not durable, are served as ever. What was durable when it was answered stays so. A machine that arrives lies
+ * over the same storage: its host is told by yours, and makes this call after vmig_finish, before the guest runs.
  * NO_DEVICE, WRONG_KIND (it has no disk). */
 vmig_status vmig_sync_failed(vmig_machine *m, uint8_t dev) VMIG_CHECKED_(1);
 
@@ -673,20 +732,26 @@ typedef struct vmig_call {
  * a write its bytes, 512 * count, go to the front of buf, as they lie in RAM then. A call has at most size / 512 sectors, of each
  * kind: what is left of its request is asked for by another call. No sector is written or cleared of a disk that its driver may
  * only read. At most 8 calls of a device are out, and devices take turns. Call it until VMIG_IDLE after each turn, and after each
- * answer.
+ * answer; or where vmig_next says VMIG_CALL.
  * TOO_SMALL (size is less than 512). */
 vmig_status vmig_disk_call(vmig_machine *m, vmig_call *call, uint8_t *buf, size_t size) VMIG_CHECKED_(1, 2);
 
 /* `count` sectors of the call with this number were done, from its first one on: one at least, and no more than it has; of a flush
  * 0. bytes are those that were read, 512 * count; of other calls none. What it lacks is asked for anew, under another number.
- * VMIG_OK also where nothing waits for it any more, as its device asked for a reset meanwhile. After a refusal the call is still
- * out.
- * NOT_OUT, TOO_LONG (another count, or another number of bytes). */
+ * VMIG_OK also where nothing waits for it any more, as its device asked for a reset meanwhile; and where its disk is lost and it
+ * says that something is durable: that counts as failed. It is done while RAM is lent too, but for a read. After a refusal the call
+ * is still out.
+ * NOT_OUT, LENT (of a read), TOO_LONG (another count, or another number of bytes). */
 vmig_status vmig_disk_done(vmig_machine *m, uint64_t number, uint32_t count, const uint8_t *bytes, size_t len) VMIG_CHECKED_(1);
 
 /* The call with this number failed, and nothing of it can land any more: its request will end with an error. VMIG_OK also where
- * nothing waits for it any more. NOT_OUT. */
+ * nothing waits for it any more. It is done while RAM is lent too. NOT_OUT. */
 vmig_status vmig_disk_failed(vmig_machine *m, uint64_t number) VMIG_CHECKED_(1);
+
+/* The calls that are out: *count becomes how many, and the oldest of them, size at most, are at the front of calls, as they were
+ * handed out, oldest first; what is after them is as it was. Room for 8 of each device is enough. For a host that lost the number
+ * of a call, and lets it fail, or that counts the calls of a device. */
+vmig_status vmig_calls_out(const vmig_machine *m, vmig_call *calls, size_t size, size_t *count) VMIG_CHECKED_(1, 4);
 
 /* ---- a look from outside ----------------------------------------------------------------------------------------------------- */
 
@@ -700,9 +765,9 @@ vmig_status vmig_sector_read(const vmig_machine *m, uint8_t dev, uint64_t sector
 vmig_status vmig_ram_read(const vmig_machine *m, uint64_t addr, uint8_t *buf, size_t len) VMIG_CHECKED_(1);
 vmig_status vmig_ram_write(vmig_machine *m, uint64_t addr, const uint8_t *bytes, size_t len) VMIG_CHECKED_(1);
 
-/* Lends RAM of yours to you and the guest: *ram, which is VMIG_NO_RAM before, becomes it. Until it is given back you and your guest
- * may read and write these bytes, and no call does. It takes no memory, and as long for any size of RAM.
- * BAD_RAM (*ram is not VMIG_NO_RAM), NOT_YOURS. */
+/* Lends RAM of yours to you and the guest: *ram, whose len is 0 before, becomes it. Until it is given back you and your guest may
+ * read and write these bytes, and no call does. It takes no memory, and as long for any size of RAM.
+ * BAD_RAM (its len is not 0), NOT_YOURS. */
 vmig_status vmig_lend(vmig_machine *m, vmig_ram *ram) VMIG_CHECKED_(1, 2);
 
 /* Takes RAM back, with all the guest's processors outside; *ram is VMIG_NO_RAM then. Its address may be another, if the bytes moved
@@ -711,8 +776,8 @@ vmig_status vmig_lend(vmig_machine *m, vmig_ram *ram) VMIG_CHECKED_(1, 2);
  * return nor by vmig_mark, before the next vmig_send_round or vmig_send_stop, is lost at the target: nothing checks it. Before
  * vmig_send_begin none needs a name, but for vmig_pull. A list takes no memory, and time for its pages alone; a bitmap one look for
  * each word and each page that is marked.
- * NOT_KNOWN, BAD_RAM (another length than what was lent), TOO_SMALL, OUT_OF_RAM (no such page), NO_MEMORY (a bitmap, or all). After
- * a refusal RAM is still lent. */
+ * NOT_KNOWN, BAD_RAM (another length than what was lent; null), TOO_SMALL, OUT_OF_RAM (no such page), NO_MEMORY (a bitmap, or all).
+ * After a refusal RAM is still lent. */
 vmig_status vmig_give_back(vmig_machine *m, vmig_ram *ram, const vmig_pages *written) VMIG_CHECKED_(1, 2, 3);
 
 /* Names pages that were written while RAM was lent, and not named when it came back, as vmig_give_back does: each is taken for
@@ -720,9 +785,9 @@ vmig_status vmig_give_back(vmig_machine *m, vmig_ram *ram, const vmig_pages *wri
  * NOT_KNOWN, TOO_SMALL, OUT_OF_RAM (no such page), NO_MEMORY (a bitmap, or all). */
 vmig_status vmig_mark(vmig_machine *m, const vmig_pages *written) VMIG_CHECKED_(1, 2);
 
-/* Hands out the numbers of the pages that vmig_step, vmig_ram_write, vmig_push and vmig_disk_done wrote, also with the same bytes,
- * and that were not handed out yet: ascending, at most size of them, and it forgets these. *count of them are at the front of
- * pages, and what is after them is as it was; where *count is less than size, they were all. Exactly these: none that
+/* Hands out the numbers of the pages that vmig_step, vmig_work, vmig_ram_write, vmig_push and vmig_disk_done wrote, also with the
+ * same bytes, and that were not handed out yet: ascending, at most size of them, and it forgets these. *count of them are at the
+ * front of pages, and what is after them is as it was; where *count is less than size, they were all. Exactly these: none that
  * vmig_give_back or vmig_mark named, and none that arrived. For a host that translates code, keeps a dirty log of its own, or shows
  * a frame buffer. It takes no memory.
  * NOT_KNOWN (it was made, or let arrive, without VMIG_LOG). */
@@ -743,7 +808,8 @@ vmig_status vmig_pull(const vmig_machine *m, uint8_t *ram, size_t len, uint64_t 
 
 /* ---- a machine is sent ------------------------------------------------------------------------------------------------------- */
 
-/* The machine begins to be sent: the head of its stream is written, and every page and sector is due in round 1. NO_MEMORY. */
+/* The machine begins to be sent: the head of its stream is written, and every page and sector is due in round 1. It writes two bits
+ * for each of them, with the guest outside where RAM is yours: some 17 ms for 64 GiB of disks, 310 ms for 1 TiB. NO_MEMORY. */
 vmig_status vmig_send_begin(vmig_machine *m) VMIG_CHECKED_(1);
 
 /* Copies up to `most` pages and sectors that are due, those with the least numbers first and pages before sectors: their bytes wait
@@ -773,23 +839,25 @@ vmig_status vmig_send_take(vmig_machine *m, uint8_t *buf, size_t size, size_t *g
 typedef struct vmig_left {
     uint64_t due_pages, due_sectors;    /* in this round */
     uint64_t dirty_pages, dirty_sectors; /* written since they were sent, or since vmig_send_begin; of lent RAM, as far as named */
-    uint64_t stop_bytes;                /* the most bytes that a stop would still write */
+    uint64_t stop_bytes;                /* the most bytes that a stop would still write; 0 of a stopped machine */
     uint64_t reserved[3];               /* 0 */
 } vmig_left;
 
+/* What is left. It counts bits of all pages and sectors: 0.6 us for 64 MiB of RAM, 11 us for 1 GiB, 160 us for 16 GiB. */
 vmig_status vmig_send_left(const vmig_machine *m, vmig_left *left) VMIG_CHECKED_(1, 2);
 
 /* The whole stream of a machine goes to the front of buf. *len becomes its length: VMIG_OK; or VMIG_MORE, where size is less, and
  * buf is as it was: ask with size 0, which makes no stream and takes no memory. It looks at each page of RAM once, since a page of
- * zeros takes 5 bytes of a stream and another one 4,101. The machine continues. NO_MEMORY. */
+ * zeros takes 5 bytes of a stream and another one 4,101. The machine continues. Flush the storage of its disks outside before the
+ * saved bytes are good: what was answered and not flushed lies in a cache, and no guest will write it again. NO_MEMORY. */
 vmig_status vmig_save(const vmig_machine *m, uint8_t *buf, size_t size, size_t *len) VMIG_CHECKED_(1, 4);
 
 /* ---- a machine arrives ------------------------------------------------------------------------------------------------------- */
 
 /* A machine will arrive within the limits and in the memory that the arrival names: the only way in. RAM and disks that are not
  * yours are taken as soon as the header of the stream has come and fits.
- * NOT_KNOWN, BAD_RAM (not whole pages, or too many; most_pages beside it), BAD_SHAPE (of shapes, also where one names a longest
- * frame, and the arrival none), BAD_BASE, BAD_IMAGES (not those of shapes), NO_MEMORY. */
+ * NOT_KNOWN, BAD_RAM (not whole pages, or too many; most_pages beside it; null), BAD_SHAPE (of shapes), BAD_BASE, BAD_IMAGES (not
+ * those of shapes; null), NO_MEMORY. */
 vmig_status vmig_arrive(vmig_arrival *arrival, vmig_machine *m) VMIG_CHECKED_(1, 2);
 
 /* The next bytes of the stream, in pieces of any size. VMIG_OK: they have no fault so far. VMIG_WHOLE: the stream has ended, and is
@@ -800,8 +868,8 @@ vmig_status vmig_arrive(vmig_arrival *arrival, vmig_machine *m) VMIG_CHECKED_(1,
 vmig_status vmig_feed(vmig_machine *m, const uint8_t *bytes, size_t len) VMIG_CHECKED_(1);
 
 /* The handle has the machine, idle. Sync its images (where that fails free it, and the source continues), then tell the source, and
- * wait for its word; then read the lines, do its work and run it. It takes no memory. STREAM_TRUNCATED (no VMIG_WHOLE yet: the
- * arrival is over), STREAM_FAILED. */
+ * wait for its word; then call vmig_sync_failed for each disk outside that is lost, read the lines, do its work, ask for calls of
+ * disks outside, and run it. It takes no memory. STREAM_TRUNCATED (no VMIG_WHOLE yet: the arrival is over), STREAM_FAILED. */
 vmig_status vmig_finish(vmig_machine *m) VMIG_CHECKED_(1);
 
 /* What a stream announces that begins with these bytes, before any memory is taken for it: VMIG_OK says that its header is whole
@@ -836,6 +904,62 @@ static inline const char *vmig_status_name(vmig_status status)
     }
 #undef VMIG_NAMED_
 }
+
+/* ---- RAM and images that are null and have a length -------------------------------------------------------------------------- */
+
+static inline int vmig_is_null_ram_(const vmig_ram *ram) { return ram->at == VMIG_NULL_ && ram->len != 0; }
+
+static inline int vmig_is_null_image_(const vmig_image *images, size_t count)
+{
+    for (size_t i = 0; i < count; i++)
+        if (images[i].at == VMIG_NULL_ && images[i].sectors != 0) return 1;
+    return 0;
+}
+
+/* Each hands a copy on where something is null: with RAM of one byte, which is no RAM, and one image of no sectors, which is no
+ * disk's. So what is refused before is refused before, and nothing else is ever taken of the copy. */
+VMIG_CHECKED_(1, 2) static inline vmig_status vmig_make_or_null_(vmig_setup *setup, vmig_machine *m)
+{
+    int is_ram = setup->version == 1 && vmig_is_null_ram_(&setup->ram);
+    int is_image = setup->version == 1 && vmig_is_null_image_(setup->images, setup->count_images);
+    vmig_setup copy = *setup;
+    vmig_image none = VMIG_NO_IMAGE;
+    uint8_t byte = 0;
+
+    if (!is_ram && !is_image) return (vmig_make)(setup, m);
+    if (is_ram) copy.ram.at = &byte, copy.ram.len = 1;
+    if (is_image) copy.images = &none, copy.count_images = 1;
+    return (vmig_make)(&copy, m);
+}
+
+/* An arrival that names no devices takes any images: this copy names one without a disk. */
+VMIG_CHECKED_(1, 2) static inline vmig_status vmig_arrive_or_null_(vmig_arrival *arrival, vmig_machine *m)
+{
+    int is_ram = arrival->version == 1 && vmig_is_null_ram_(&arrival->ram);
+    int is_image = arrival->version == 1 && vmig_is_null_image_(arrival->images, arrival->count_images);
+    vmig_arrival copy = *arrival;
+    vmig_image none = VMIG_NO_IMAGE;
+    vmig_shape entropy = {VMIG_ENTROPY, 0, {0}, 0, {0}, 0, {0, 0}};
+    uint8_t byte = 0;
+
+    if (!is_ram && !is_image) return (vmig_arrive)(arrival, m);
+    if (is_ram) copy.ram.at = &byte, copy.ram.len = 1;
+    if (is_image) copy.images = &none, copy.count_images = 1;
+    if (is_image && copy.count == 0) copy.shapes = &entropy, copy.count = 1;
+    return (vmig_arrive)(&copy, m);
+}
+
+VMIG_CHECKED_(1, 2, 3) static inline vmig_status vmig_give_back_or_null_(vmig_machine *m, vmig_ram *ram, const vmig_pages *written)
+{
+    uint8_t byte = 0;
+    vmig_ram none = {&byte, 1};
+
+    return (vmig_give_back)(m, vmig_is_null_ram_(ram) ? &none : ram, written);
+}
+
+#define vmig_make(...) vmig_make_or_null_(__VA_ARGS__)
+#define vmig_arrive(...) vmig_arrive_or_null_(__VA_ARGS__)
+#define vmig_give_back(...) vmig_give_back_or_null_(__VA_ARGS__)
 
 #undef VMIG_CHECKED_
 #undef VMIG_NONNULL_

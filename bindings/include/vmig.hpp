@@ -3,6 +3,7 @@
 #ifndef VMIG_HPP
 #define VMIG_HPP
 
+#include <atomic>
 #include <cstddef>
 #include <cstdint>
 #include <utility>
@@ -18,7 +19,8 @@ enum class [[nodiscard]] status : std::uint32_t {
     bad_shape = VMIG_BAD_SHAPE, bad_images = VMIG_BAD_IMAGES, not_sending = VMIG_NOT_SENDING, sending = VMIG_SENDING,
     send_failed = VMIG_SEND_FAILED, stopped = VMIG_STOPPED, no_round_left = VMIG_NO_ROUND_LEFT, lent = VMIG_LENT,
     not_lent = VMIG_NOT_LENT, not_yours = VMIG_NOT_YOURS, bad_ram = VMIG_BAD_RAM, not_known = VMIG_NOT_KNOWN,
-    not_out = VMIG_NOT_OUT, calls_out = VMIG_CALLS_OUT, bad_base = VMIG_BAD_BASE, stream_bad_magic = VMIG_STREAM_BAD_MAGIC, stream_bad_version = VMIG_STREAM_BAD_VERSION,
+    not_out = VMIG_NOT_OUT, calls_out = VMIG_CALLS_OUT, bad_base = VMIG_BAD_BASE,
+    stream_bad_magic = VMIG_STREAM_BAD_MAGIC, stream_bad_version = VMIG_STREAM_BAD_VERSION,
     stream_bad_shape = VMIG_STREAM_BAD_SHAPE, stream_mismatch = VMIG_STREAM_MISMATCH,
     stream_bad_tag = VMIG_STREAM_BAD_TAG, stream_bad_page = VMIG_STREAM_BAD_PAGE,
     stream_bad_sector = VMIG_STREAM_BAD_SECTOR, stream_bad_round = VMIG_STREAM_BAD_ROUND,
@@ -47,10 +49,75 @@ inline status stream_describe(const std::uint8_t *bytes, std::size_t len, vmig_d
     return status{vmig_stream_describe(bytes, len, out)};
 }
 
+/* Pages of RAM that were written: none, all, or those of a list, of a bitmap, or of both. The list and the words stay where they are
+ * until the call that is given them. */
+class pages {
+public:
+    static pages none() noexcept { return pages(VMIG_NO_PAGES); }
+    static pages all() noexcept { return pages(VMIG_ALL_PAGES); }
+    static pages list(const std::uint32_t *list, std::size_t count) noexcept { return pages(vmig_list(list, count)); }
+
+    /* Those of a bitmap that covers `span` pages from `first` on; a span of 0 reaches to RAM's end. */
+    static pages bitmap(const std::uint64_t *words, std::size_t count_words, std::uint32_t first = 0, std::uint32_t span = 0) noexcept
+    {
+        pages marked(vmig_bitmap(words, count_words));
+        marked.named.first = first;
+        marked.named.span = span;
+        return marked;
+    }
+
+    /* These too, in the place of the list that it had. */
+    pages and_list(const std::uint32_t *list, std::size_t count) const noexcept
+    {
+        pages both = *this;
+        both.named.list = list;
+        both.named.count = count;
+        return both;
+    }
+
+    /* For calls of vmig.h. */
+    const vmig_pages *get() const noexcept { return &named; }
+
+private:
+    explicit pages(const vmig_pages &from) noexcept : named(from) {}
+
+    vmig_pages named;
+};
+
+namespace detail {
+
+/* How many machines of this process were made or let arrive. */
+inline std::atomic<std::uint64_t> &machines() noexcept
+{
+    static std::atomic<std::uint64_t> count{0};
+    return count;
+}
+
+/* Gives a setup, or an arrival, 2^40 numbers of calls that no other machine of the process has, for the time of a call, unless it
+ * names a first number of its own. */
+template <typename Struct>
+class own_numbers {
+public:
+    explicit own_numbers(Struct *asked) noexcept : of(asked), was(asked->calls_from)
+    {
+        if (was == 0) of->calls_from = (machines().fetch_add(1) + 1) << 40;
+    }
+    ~own_numbers() { of->calls_from = was; }
+    own_numbers(const own_numbers &) = delete;
+    own_numbers &operator=(const own_numbers &) = delete;
+
+private:
+    Struct *of;
+    std::uint64_t was;
+};
+
+}  // namespace detail
+
 class lent;
 
 /* A machine, or none. It is freed with its owner and can be moved, and one that was moved away is none. Images that it has are
- * given back by release alone, and RAM of the caller stays where it lies. */
+ * given back by release alone, and RAM of the caller stays where it lies. Its calls of disks outside have numbers that no other
+ * machine of the process has, unless its setup or its arrival says where they begin. */
 class machine {
 public:
     machine() noexcept = default;
@@ -74,7 +141,11 @@ public:
     /* Frees the machine: there is none afterwards. */
     void free() noexcept { vmig_free(&held); }
 
-    status make(vmig_setup *setup) { return status{vmig_make(setup, &held)}; }
+    status make(vmig_setup *setup)
+    {
+        const detail::own_numbers<vmig_setup> numbers(setup);
+        return status{vmig_make(setup, &held)};
+    }
     status release(vmig_image *slots, std::size_t count) { return status{vmig_release(&held, slots, count)}; }
     vmig_description describe() const
     {
@@ -109,12 +180,19 @@ public:
     }
     status work(vmig_turn *turn, std::uint8_t *buf, std::size_t size) { return status{vmig_work(&held, turn, buf, size)}; }
     status sync_failed(std::uint8_t dev) { return status{vmig_sync_failed(&held, dev)}; }
-    status disk_call(vmig_call *call, std::uint8_t *buf, std::size_t size) { return status{vmig_disk_call(&held, call, buf, size)}; }
+    status disk_call(vmig_call *call, std::uint8_t *buf, std::size_t size)
+    {
+        return status{vmig_disk_call(&held, call, buf, size)};
+    }
     status disk_done(std::uint64_t number, std::uint32_t count, const std::uint8_t *bytes, std::size_t len)
     {
         return status{vmig_disk_done(&held, number, count, bytes, len)};
     }
     status disk_failed(std::uint64_t number) { return status{vmig_disk_failed(&held, number)}; }
+    status calls_out(vmig_call *calls, std::size_t size, std::size_t *count) const
+    {
+        return status{vmig_calls_out(&held, calls, size, count)};
+    }
     status sector_read(std::uint8_t dev, std::uint64_t sector, std::uint8_t (&buf)[512]) const
     {
         return status{vmig_sector_read(&held, dev, sector, buf)};
@@ -131,14 +209,14 @@ public:
     /* Lends RAM: if it is ok the machine is in *loan, in the place of what was there, and this is none until it comes back. */
     status lend(lent *loan) &&;
 
-    status mark(const vmig_pages &written) { return status{vmig_mark(&held, &written)}; }
-    status written(std::uint32_t *pages, std::size_t size, std::size_t *count)
+    status mark(const pages &written) { return status{vmig_mark(&held, written.get())}; }
+    status written(std::uint32_t *numbers, std::size_t size, std::size_t *count)
     {
-        return status{vmig_written(&held, pages, size, count)};
+        return status{vmig_written(&held, numbers, size, count)};
     }
-    status push(const vmig_pages &written, const std::uint8_t *ram, std::size_t len, std::uint64_t *seen, std::size_t count)
+    status push(const pages &written, const std::uint8_t *ram, std::size_t len, std::uint64_t *seen, std::size_t count)
     {
-        return status{vmig_push(&held, &written, ram, len, seen, count)};
+        return status{vmig_push(&held, written.get(), ram, len, seen, count)};
     }
     status pull(std::uint8_t *ram, std::size_t len, std::uint64_t *seen, std::size_t count, std::uint32_t *pulled) const
     {
@@ -147,7 +225,7 @@ public:
     status send_begin() { return status{vmig_send_begin(&held)}; }
     status send_some(std::uint32_t most) { return status{vmig_send_some(&held, most)}; }
     status send_round() { return status{vmig_send_round(&held)}; }
-    status send_stop(std::uint64_t *pages, std::uint64_t *sectors) { return status{vmig_send_stop(&held, pages, sectors)}; }
+    status send_stop(std::uint64_t *copied, std::uint64_t *sectors) { return status{vmig_send_stop(&held, copied, sectors)}; }
     status send_abort() { return status{vmig_send_abort(&held)}; }
     status send_take(std::uint8_t *buf, std::size_t size, std::size_t *got)
     {
@@ -155,7 +233,11 @@ public:
     }
     status send_left(vmig_left *left) const { return status{vmig_send_left(&held, left)}; }
     status save(std::uint8_t *buf, std::size_t size, std::size_t *len) const { return status{vmig_save(&held, buf, size, len)}; }
-    status arrive(vmig_arrival *arrival) { return status{vmig_arrive(arrival, &held)}; }
+    status arrive(vmig_arrival *arrival)
+    {
+        const detail::own_numbers<vmig_arrival> numbers(arrival);
+        return status{vmig_arrive(arrival, &held)};
+    }
     status feed(const std::uint8_t *bytes, std::size_t len) { return status{vmig_feed(&held, bytes, len)}; }
     status finish() { return status{vmig_finish(&held)}; }
 
@@ -202,14 +284,20 @@ public:
     status reset() { return held.reset(); }
     status next(std::uint8_t *dev, std::uint8_t *pick) const { return held.next(dev, pick); }
     status sync_failed(std::uint8_t dev) { return held.sync_failed(dev); }
-    status written(std::uint32_t *pages, std::size_t size, std::size_t *count) { return held.written(pages, size, count); }
+    status disk_done(std::uint64_t number, std::uint32_t count, const std::uint8_t *bytes, std::size_t len)
+    {
+        return held.disk_done(number, count, bytes, len);
+    }
+    status disk_failed(std::uint64_t number) { return held.disk_failed(number); }
+    status calls_out(vmig_call *calls, std::size_t size, std::size_t *count) const { return held.calls_out(calls, size, count); }
+    status written(std::uint32_t *numbers, std::size_t size, std::size_t *count) { return held.written(numbers, size, count); }
     status send_left(vmig_left *left) const { return held.send_left(left); }
     status send_take(std::uint8_t *buf, std::size_t size, std::size_t *got) { return held.send_take(buf, size, got); }
 
     /* Gives RAM back: if it is ok the machine is in *back, in the place of what was there, and this is none. */
-    status give_back(const vmig_pages &written, machine *back) &&
+    status give_back(const pages &written, machine *back) &&
     {
-        const status told{vmig_give_back(held.get(), &ram, &written)};
+        const status told{vmig_give_back(held.get(), &ram, written.get())};
         if (told == status::ok) *back = std::move(held);
         return told;
     }

@@ -102,15 +102,13 @@ static inline vmig_status receive(const uint8_t *bytes, size_t len, vmig_machine
 /* RAM is given back with the pages of a list, or of a bitmap, or with all; and the pages of a list are handed in. */
 static inline vmig_status give_back_list(vmig_machine *m, vmig_ram *ram, const uint32_t *list, size_t count)
 {
-    vmig_pages written = VMIG_NO_PAGES;
-    written.list = list, written.count = count;
+    vmig_pages written = vmig_list(list, count);
     return vmig_give_back(m, ram, &written);
 }
 
 static inline vmig_status give_back_marked(vmig_machine *m, vmig_ram *ram, const uint64_t *words, size_t count)
 {
-    vmig_pages written = VMIG_NO_PAGES;
-    written.words = words, written.count_words = count;
+    vmig_pages written = vmig_bitmap(words, count);
     return vmig_give_back(m, ram, &written);
 }
 
@@ -122,8 +120,7 @@ static inline vmig_status give_back_all(vmig_machine *m, vmig_ram *ram)
 
 static inline vmig_status push_list(vmig_machine *m, const uint32_t *list, size_t count, const uint8_t *ram, size_t len, uint64_t *seen, size_t count_seen)
 {
-    vmig_pages written = VMIG_NO_PAGES;
-    written.list = list, written.count = count;
+    vmig_pages written = vmig_list(list, count);
     return vmig_push(m, &written, ram, len, seen, count_seen);
 }
 

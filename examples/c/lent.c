@@ -124,17 +124,18 @@ static vmig_pages pages_of(struct host *h, uint32_t first, uint32_t count)
 {
     static uint64_t words[2];
     static uint32_t list[PAGES + 1];
-    vmig_pages pages = VMIG_NO_PAGES, marked = {.words = words, .count_words = 1 + draw(2), .first = first, .span = count};
+    vmig_pages marked = vmig_bitmap(words, 1 + draw(2));
+    size_t listed = 0;
 
+    marked.first = first, marked.span = count;
     words[0] = ~(uint64_t)0 << count, words[1] = ~(uint64_t)0;
-    pages.list = list;
     for (uint32_t page = count; page-- > 0;) {
         words[0] |= (uint64_t)h->dirty[first + page] << page;
-        if (h->dirty[first + page]) list[pages.count++] = first + page;
+        if (h->dirty[first + page]) list[listed++] = first + page;
     }
-    if (pages.count > 0) list[pages.count++] = list[0];
+    if (listed > 0) list[listed++] = list[0];
     memset(h->dirty + first, 0, count);
-    return draw(2) == 0 ? marked : pages;
+    return draw(2) == 0 ? marked : vmig_list(list, listed);
 }
 
 /* The whole log, or where none is left out also all pages. */

@@ -76,6 +76,8 @@ static void stop(vmig_machine *m, uint64_t wanted_pages)
     expect("it is stopped", description_of(m).state, VMIG_IS_STOPPED);
     take_all(m);
     expect("no more than was said", stream_len - before <= left.stop_bytes, 1);
+    expect("left", vmig_send_left(m, &left), VMIG_OK);
+    expect("nothing more", left.stop_bytes, 0);
 }
 
 static void refuses(vmig_machine *m)

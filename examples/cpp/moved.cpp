@@ -10,6 +10,7 @@
 
 using vmig::lent;
 using vmig::machine;
+using vmig::pages;
 using vmig::refused;
 using vmig::status;
 
@@ -105,11 +106,10 @@ void lends(const std::vector<std::uint8_t> &stream)
     vmig_arrival arrival = VMIG_ARRIVAL, small = VMIG_ARRIVAL;
     const std::uint32_t list[] = {4, 16};
     const std::uint64_t words[] = {1u << 4};
-    vmig_pages pages = VMIG_NO_PAGES, marked = VMIG_NO_PAGES, all = VMIG_ALL_PAGES;
+    const pages marked = pages::bitmap(words, 1), all = pages::all();
     machine m;
     lent loan;
 
-    pages.list = list, pages.count = 2, marked.words = words, marked.count_words = 1;
     small.most_pages = 15;
     expect("a page fewer", m.arrive(&small), status::ok);
     expect("too large", m.feed(stream.data(), stream.size()), status::stream_too_large);
@@ -123,10 +123,9 @@ void lends(const std::vector<std::uint8_t> &stream)
     expect("no machine meanwhile", m.send_begin(), status::no_machine);
     expect("its bytes", loan.data() == memory.data() && loan.size_bytes() == memory.size());
     loan.data()[0x4000] = 'j';
-    expect("no such page", std::move(loan).give_back(pages, &m), status::out_of_ram);
+    expect("no such page", std::move(loan).give_back(pages::list(list, 2), &m), status::out_of_ram);
     expect("its lines", loan.lines() == 0);
-    pages.count = 1;
-    expect("a list", std::move(loan).give_back(pages, &m), status::ok);
+    expect("a list", std::move(loan).give_back(pages::list(list, 1), &m), status::ok);
     expect("the text", printed(m) == "jello");
     expect("lend", std::move(m).lend(&loan), status::ok);
     expect("a bitmap", std::move(loan).give_back(marked, &m), status::ok);

@@ -1,16 +1,17 @@
 /* What is around the guest: the terminal, the wire of its network, and random bytes. */
 #define _DEFAULT_SOURCE
+#include <errno.h>
 #include <poll.h>
 #include <string.h>
 #include <sys/random.h>
 #include <unistd.h>
 #include "clock.h"
 #include "host.h"
+#include "output.h"
 #include "say.h"
 #include "terminal.h"
 
-/* Who waits for the operator looks this often, for a signal may have come before the wait. */
-enum { FRAMES_A_TURN = 64, WAIT_MS_MAX = 20, STATUS_REGISTER = 0x070, DRIVER_OK = 4 };
+enum { FRAMES_A_TURN = 64, STATUS_REGISTER = 0x070, DRIVER_OK = 4 };
 
 /* All that the pool of the entropy device could hold. */
 enum { POOL_MAX = 4096 };
@@ -41,12 +42,13 @@ void list_files(const struct host *h, int files[SOURCES_OF_INPUT])
     files[0] = hears ? STDIN_FILENO : -1;
     files[1] = h->frame_length == 0 ? h->wire : -1;
     files[2] = storage_bell(h);
+    files[3] = output_bell();
 }
 
 void look_around(struct host *h)
 {
     int files[SOURCES_OF_INPUT], count;
-    uint64_t before = clock_nanoseconds();
+    uint64_t before = clock_nanoseconds(), rings;
 
     list_files(h, files);
     struct pollfd sources[SOURCES_OF_INPUT];
@@ -55,6 +57,8 @@ void look_around(struct host *h)
     h->statistics.waited += clock_nanoseconds() - before;
     h->input_waits = count > 0 || operator_words.has_new_size;
     if (count > 0 && sources[0].revents != 0) read_typed(h);
+    if (count > 0 && sources[3].revents != 0 && read(files[3], &rings, sizeof rings) < 0 && errno != EAGAIN)
+        fail("standard output has no bell");
     set_lines(h);
 }
 
@@ -78,8 +82,8 @@ static void take_typed(struct host *h)
     memmove(h->typed.bytes, h->typed.bytes + kept, h->typed.count);
 }
 
-/* Frames go to the card until it takes no more; then the last one waits. One that its driver does not hear is lost, and so is one of a
- * length that the card refuses. */
+/* Frames go to the card until it takes no more; then the last one waits. One that its driver does not hear is lost,
+ * and so is one of a length that the card refuses. */
 static void take_frames(struct host *h)
 {
     size_t room = 0, kept;
@@ -98,15 +102,31 @@ static void take_frames(struct host *h)
     }
 }
 
-void open_wire(struct host *h)
+const char *open_wire(struct host *h)
 {
-    if (h->wire >= 0) close(h->wire);
-    if (h->options.net != NULL) h->wire = network_open(h->options.net);
+    const char *why = NULL;
+
+    if (h->options.net != NULL) h->wire = network_prepare(h->options.net, &why);
+    return why;
+}
+
+const char *name_wire(struct host *h)
+{
+    return h->wire < 0 ? NULL : network_take_name();
+}
+
+const char *lend_wire_name(struct host *h)
+{
+    return h->wire < 0 ? NULL : network_keep_name();
 }
 
 void take_input(struct host *h)
 {
     if (operator_words.has_new_size) take_size(h);
+    if (h->console_is_held && output_has_room()) {
+        h->console_is_held = 0;
+        h->steps_wait = 1;
+    }
     take_typed(h);
     if (h->input_waits || h->frame_length > 0) take_frames(h);
     h->input_waits = 0;
@@ -133,23 +153,26 @@ void announce(struct host *h)
 void hand_on(struct host *h, unsigned device, const uint8_t *bytes, size_t length)
 {
     leave_library(h);
-    if (device == CONSOLE) terminal_write(bytes, length);
+    if (device == CONSOLE) output_write(bytes, length);
     else if (h->wire >= 0) network_send(h->wire, bytes, length);
     enter_library(h);
 }
 
 int ask_operator(const char *question)
 {
-    struct pollfd terminal = {.events = POLLIN};
+    struct pollfd sources[] = {{.events = POLLIN}, {.fd = operator_bell, .events = POLLIN}};
     uint8_t bytes[TYPED_MAX];
+    uint64_t rings;
 
     /* An answer may come as soon as it is asked. */
     operator_words.continues = 0;
     say("%s", question);
     terminal_take();
     while (!operator_words.continues && !operator_words.ends) {
-        terminal.fd = terminal_is_taken() && !terminal_has_ended() ? 0 : -1;
-        if (poll(&terminal, 1, WAIT_MS_MAX) > 0) terminal_read(bytes, sizeof bytes);
+        sources[0].fd = terminal_is_taken() && !terminal_has_ended() ? STDIN_FILENO : -1;
+        if (poll(sources, 2, -1) < 0) continue;
+        if (sources[0].revents != 0) terminal_read(bytes, sizeof bytes);
+        if (sources[1].revents != 0 && read(operator_bell, &rings, sizeof rings) < 0) continue;
     }
     return operator_words.continues;
 }

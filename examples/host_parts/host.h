@@ -1,5 +1,6 @@
-/* The host of a guest: its machine of the library, what is around it, and moves. Nothing here knows a processor. What each hypervisor has of its
- * own is a `struct guest`, in its guest.h, its board.h, and the functions under 'the seam'. */
+/* The host of a guest: its machine of the library, what is around it, and moves. Nothing here knows a processor.
+ * What each hypervisor has of its own is a `struct guest`, in its guest.h, its board.h, and the functions under 'the
+ * seam'. */
 #ifndef HOST_H
 #define HOST_H
 
@@ -27,12 +28,18 @@ struct touched {
 
 /* A move that is on its way. */
 struct move {
-    struct line line;
-    pthread_t carrier;           /* the thread of the line */
-    int has_carrier, stops;      /* it is there; it is to end */
-    atomic_int is_carried;       /* it has nothing to take */
-    atomic_int is_broken;        /* it found the line broken, and has ended */
-    int is_on, round_is_sent;
+    struct line line;            /* of the carrier alone, as long as it is there */
+    pthread_t carrier;
+    int bell;                    /* an eventfd, or -1: the carrier has something to take, or is to end */
+    int has_carrier, has_met;    /* it is there; it has met the target */
+    atomic_int is_carried;       /* it has met it, and has nothing to take */
+    atomic_int is_broken;        /* it has ended: `why` says why */
+    const char *why;
+    int is_on, is_sending;       /* a move is on; vmig_send_begin was called */
+    int is_stopped;              /* vmig_send_stop was called */
+    int round_is_sent;
+    unsigned pauses;             /* how often the guest was paused */
+    uint64_t until;              /* when the pause has to be over */
     uint32_t round;
     uint64_t pages, sectors;     /* that the round sends */
     uint64_t least;              /* the least that a round left */
@@ -45,11 +52,11 @@ struct statistics {
 
 struct host {
     struct options options;
+    uint8_t word[WORD_LENGTH];   /* by which both ends of a move know each other */
     struct devices devices;
     struct pool pool;            /* of the disks that are not mapped, if there are any */
     int has_pool;
     pthread_mutex_t next, library;   /* who calls the library has the second one, and who waits for it the first */
-    pthread_cond_t copied;           /* the carrier of a move has something to take, or is to end */
     vmig_machine machine;
     uint8_t *memory;             /* that is RAM, lent or not */
     uint64_t memory_length;
@@ -62,6 +69,7 @@ struct host {
     uint32_t lines;              /* of the devices, as they were read last */
     int steps_wait;              /* perhaps a step has something to do: after a write, an input and a turn that did not do all */
     int input_waits;
+    int console_is_held;         /* a message of the console waits in the guest's queue for room in standard output */
     int wire;                    /* of the network device, or -1 */
     uint8_t frame[FRAME_MAX];
     size_t frame_length;         /* a frame that the device did not take yet */
@@ -78,7 +86,8 @@ struct host {
 void prepare_guests(struct host *h);
 /* This memory becomes the RAM of a guest that begins or arrives. Returns why it cannot, or NULL. */
 const char *give_ram(struct host *h, uint8_t *ram, uint64_t length);
-/* Puts what the guest boots from into RAM, and its processor to the beginning: at first, and for a reboot, while RAM is lent. */
+/* Puts what the guest boots from into RAM, and its processor to the beginning: at first, and for a reboot, while RAM
+ * is lent. */
 void load_guest(struct host *h);
 /* The guest is gone, and what was taken for it is given back. RAM is not lent. */
 void end_guest(struct host *h);
@@ -87,7 +96,8 @@ void end_guest(struct host *h);
 int run_guest(struct host *h);
 /* The access was a read, and gives this. */
 void finish_read(struct host *h, uint32_t value);
-/* Whether the guest came out of itself, or as it was called: no access is half done, and a move may read its registers. */
+/* Whether the guest came out of itself, or as it was called: no access is half done, and a move may read its
+ * registers. */
 int is_between_slices(const struct host *h);
 /* The guest comes out soon, if it does not so of itself. Any thread may call this. */
 void call_out(struct host *h);
@@ -109,13 +119,15 @@ void log_read(struct host *h, vmig_pages *written);
 void stop_clock(struct host *h);
 void start_clock(struct host *h);
 
-/* What the first frame of a move says of this hypervisor, behind what each says: the length. And what is wrong where it came, or NULL. */
+/* What the first frame of a move says of this hypervisor, behind what each says: the length. And what is wrong where
+ * it came, or NULL. */
 enum { FACTS_MAX = BODY_MAX - HELLO_LENGTH };
 size_t facts_write(struct host *h, uint8_t bytes[FACTS_MAX]);
 const char *facts_check(struct host *h, const uint8_t *bytes, size_t length);
 
-/* The processor and the board as bytes. The first one is called while a move begins, for what takes time. All return what is wrong, or NULL. For
- * state_read, and before state_write is called, RAM is lent: setting registers may write there, as the guest does. */
+/* The processor and the board as bytes. The first one is called while a move begins, for what takes time. All return
+ * what is wrong, or NULL. For state_read, and before state_write is called, RAM is lent: setting registers may write
+ * there, as the guest does. */
 const char *state_prepare(struct host *h);
 const char *state_write(struct host *h, uint8_t bytes[BODY_MAX], size_t *length);
 const char *state_read(struct host *h, const uint8_t *bytes, size_t length);
@@ -126,23 +138,29 @@ void print_guest_statistics(const struct host *h, double seconds);
 
 /* loop.c: the guest runs, from here on, until it powers off, is moved away, or the operator ends the program. */
 void host_run(struct host *h);
-/* RAM is taken back, if it is lent: for steps, for what a move reads of RAM, and at the end. All processors of the guest are outside from
- * then on, until RAM is lent anew. No page is named. */
+/* RAM is taken back, if it is lent: for steps, for what a move reads of RAM, and at the end. All processors of the
+ * guest are outside from then on, until RAM is lent anew. No page is named. */
 void take_ram(struct host *h);
 /* RAM is lent, if it is not. */
 void lend_ram(struct host *h);
 
 /* around.c: looks at the terminal and the wire, and waits for them if the guest waits. */
 void look_around(struct host *h);
-/* The files on which bytes can come that are wanted now, or -1: the terminal, the wire, and the bell of the disks. */
-enum { SOURCES_OF_INPUT = 3 };
+/* The files on which bytes can come that are wanted now, or -1: the terminal, the wire, and the bells of the disks
+ * and of standard output. */
+enum { SOURCES_OF_INPUT = 4 };
 void list_files(const struct host *h, int files[SOURCES_OF_INPUT]);
-/* Opens the wire of the network device, if there is one. */
-void open_wire(struct host *h);
+/* Opens the wire of the network device, if there is one, which has no name yet. Returns why it cannot, or NULL. */
+const char *open_wire(struct host *h);
+/* The wire takes its name from whoever has it, and frames come to it. Returns why it cannot, or NULL. */
+const char *name_wire(struct host *h);
+/* Another host may take the name from here on, and this one takes it again by name_wire. Returns why it could not,
+ * or NULL. */
+const char *lend_wire_name(struct host *h);
 /* Hands in what came. */
 void take_input(struct host *h);
-/* What the guest took from the entropy device's pool is put in anew. It is never empty, since a request would wait there, and it holds
- * few bytes: a machine that is saved and continued twice gives both guests the same. */
+/* What the guest took from the entropy device's pool is put in anew. It is never empty, since a request would wait
+ * there, and it holds few bytes: a machine that is saved and continued twice gives both guests the same. */
 void fill_pool(struct host *h);
 /* Tells the network where the guest's card is now. */
 void announce(struct host *h);
@@ -151,18 +169,28 @@ void hand_on(struct host *h, unsigned device, const uint8_t *bytes, size_t lengt
 /* Asks the operator this, and waits for the word to continue. False where the program is to end. */
 int ask_operator(const char *question);
 
-/* source.c: a part of a move, which takes RAM back where it needs to. False where the guest does not run here any more. */
+/* source.c: a part of a move, which takes RAM back where it needs to. False where the guest does not run here any
+ * more. */
 int move_further(struct host *h);
 /* Whether a part of a move may be made now, or a move is asked for. */
 int move_is_due(const struct host *h);
 /* Ends the move, if there is one: the thread of its line ends, and the other end is told why. */
 void leave_line(struct host *h, const char *why);
 
+/* carrier.c: begins the thread of the line. Returns why there is none, or NULL. */
+const char *begin_carrier(struct host *h);
+/* It has something to take. */
+void wake_carrier(struct host *h);
+/* It ends, and the line belongs to who calls this. A frame may be sent in part. */
+void end_carrier(struct host *h);
+/* What came on the line while nothing is awaited, without waiting: why the move is over, or NULL. */
+const char *line_says(struct line *l);
+
 /* target.c: waits for a guest that is moved here, and returns when it is to run. */
 void host_receive(struct host *h);
 
-/* The machine takes one call at a time: a thread that calls has the lock. One that waits for it comes next, so none that calls again and
- * again keeps the others out. */
+/* The machine takes one call at a time: a thread that calls has the lock. One that waits for it comes next, so none
+ * that calls again and again keeps the others out. */
 static inline void lock_library(struct host *h)
 {
     pthread_mutex_lock(&h->next);

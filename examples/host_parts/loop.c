@@ -1,20 +1,23 @@
-/* The loop: the guest runs on RAM that is lent to it, and what it comes out for is done, with RAM lent or taken back. docs/host-loop.md
+/* The loop: the guest runs on RAM that is lent to it, and what it comes out for is done, with RAM lent or taken back. docs/hosts/kvm.md
  * quotes it. */
 #include "host.h"
+#include "output.h"
 #include "say.h"
 #include "terminal.h"
 
-/* The steps of one turn: a guest can give its devices work without end. */
-enum { STEPS_A_TURN = 1000 };
+/* The steps of one turn: a guest can give its devices work without end. And the pick of a console that takes a
+ * message. */
+enum { STEPS_A_TURN = 1000, MESSAGES = 1 };
 
-/* A driver that resets its device waits in its access until what the device asked of its disk is answered. */
+/* A driver that resets its device waits in its access until what the device asked of its disk is answered. RAM stays lent meanwhile: no other processor
+ * of a guest would have to come out. */
 static vmig_status write_register(struct host *h, uint8_t dev, uint32_t off, uint32_t *byte)
 {
     const struct touched *a = &h->touched;
     vmig_status status;
 
     do status = vmig_reg_write(&h->machine, dev, off, a->width, a->value, byte);
-    while (status == VMIG_CALLS_OUT && storage_drain(h));
+    while (status == VMIG_CALLS_OUT && storage_drop(h, dev));
     return status;
 }
 
@@ -79,6 +82,39 @@ static vmig_status sync_and_step(struct host *h, uint8_t *sent, size_t size)
     return status;
 }
 
+static int takes_message(const vmig_turn *t)
+{
+    return t->dev == CONSOLE && t->pick == MESSAGES;
+}
+
+/* As vmig_work, but that no message of the console is taken: it waits in the guest's queue. That it is named once more,
+ * without a step that was made in between, says that nothing else is left. */
+static vmig_status work_but_console(struct host *h, uint8_t *sent, size_t size)
+{
+    vmig_turn *t = &h->work;
+    int is_named = 0;
+
+    for (; t->left > 0; t->left--) {
+        vmig_status status = vmig_next(&h->machine, &t->dev, &t->pick);
+
+        if (vmig_refused(status) || status == VMIG_SYNC) return status;
+        if (status == VMIG_IDLE || status == VMIG_CALL || (is_named && takes_message(t))) return VMIG_IDLE;
+        is_named = takes_message(t);
+        if (is_named) h->console_is_held = 1;
+        if (is_named) continue;
+        status = vmig_step(&h->machine, t->dev, t->pick, sent, size, &t->len);
+        if (status == VMIG_SENT || vmig_refused(status)) return status;
+        if (status == VMIG_COMPLETED && t->dev == ENTROPY) return status;
+    }
+    return VMIG_WORK;
+}
+
+/* Steps, one after another, until one comes of which the host has something to do. */
+static vmig_status make_steps(struct host *h, uint8_t *sent, size_t size)
+{
+    return output_has_room() ? vmig_work(&h->machine, &h->work, sent, size) : work_but_console(h, sent, size);
+}
+
 void take_ram(struct host *h)
 {
     if (h->ram.at == NULL) return;
@@ -97,7 +133,7 @@ static void read_lines(struct host *h)
     set_lines(h);
 }
 
-/* Whether a step has something to do, which needs no byte of RAM to be told. */
+/* Whether a step has something to do, or a disk waits to be asked, which needs no byte of RAM to be told. */
 static int has_work(const struct host *h)
 {
     uint8_t dev = h->work.dev, pick = h->work.pick;
@@ -116,7 +152,7 @@ static void do_work(struct host *h)
     take_ram(h);
     t->left = STEPS_A_TURN;
     do {
-        status = vmig_work(&h->machine, t, sent, sizeof sent);
+        status = make_steps(h, sent, sizeof sent);
         if (status == VMIG_SYNC) status = sync_and_step(h, sent, sizeof sent);
         if (status == VMIG_SENT) hand_on(h, t->dev, sent, t->len);
         if (status == VMIG_COMPLETED && t->dev == ENTROPY) fill_pool(h);
@@ -151,11 +187,7 @@ static void turn(struct host *h)
 
 void host_run(struct host *h)
 {
-    terminal_take();
-    open_wire(h);
-    storage_begin(h);
     enter_library(h);
-    fill_pool(h);
     do_work(h);
     read_lines(h);
     lend_ram(h);

@@ -1,6 +1,10 @@
 /* The program: a guest begins or arrives, runs, and ends. */
 #define _DEFAULT_SOURCE
+#include <errno.h>
+#include <stdio.h>
+#include <string.h>
 #include "host.h"
+#include "output.h"
 #include "say.h"
 #include "terminal.h"
 
@@ -14,6 +18,41 @@ static void begin_guest(struct host *h)
     if (why != NULL) fail("%s", why);
     load_guest(h);
     devices_make(&h->devices, h->memory, h->memory_length, &h->machine);
+    fill_pool(h);
+    terminal_take();
+    why = name_wire(h);
+    if (why != NULL) fail("%s", why);
+}
+
+/* The first line of a file, of which the rest of the word is zeros. Without --word it is zeros alone. */
+static void read_word(struct host *h)
+{
+    const char *name = h->options.word;
+    char line[WORD_LENGTH + 2] = "";
+    FILE *file = name == NULL ? NULL : fopen(name, "r");
+    size_t length;
+
+    if (name == NULL) return;
+    if (file == NULL) fail("--word %s: %s", name, strerror(errno));
+    length = fgets(line, sizeof line, file) == NULL ? 0 : strcspn(line, "\n");
+    fclose(file);
+    if (length == 0 || length > WORD_LENGTH)
+        fail("--word %s: its first line has to have 1 to %d bytes", name, WORD_LENGTH);
+    memcpy(h->word, line, length);
+}
+
+/* What a guest needs of this host is taken before it begins, or arrives: from then on nothing that may fail is taken
+ * for it. */
+static void prepare(struct host *h)
+{
+    const char *why;
+
+    read_word(h);
+    prepare_guests(h);
+    devices_plan(&h->devices, &h->options);
+    why = open_wire(h);
+    if (why == NULL) why = storage_begin(h);
+    if (why != NULL) fail("%s", why);
 }
 
 /* All is given back. The bytes of the disks that are mapped are in their files. */
@@ -30,12 +69,13 @@ static void end(struct host *h)
 
 int main(int count, char **words)
 {
-    static struct host h = {.wire = -1, .next = PTHREAD_MUTEX_INITIALIZER, .library = PTHREAD_MUTEX_INITIALIZER, .copied = PTHREAD_COND_INITIALIZER};
+    static struct host h = {
+        .wire = -1, .move.bell = -1, .next = PTHREAD_MUTEX_INITIALIZER, .library = PTHREAD_MUTEX_INITIALIZER};
 
     options_read(&h.options, count, words);
     terminal_begin();
-    prepare_guests(&h);
-    devices_plan(&h.devices, &h.options);
+    output_begin();
+    prepare(&h);
     if (h.options.listen != NULL) host_receive(&h);
     else begin_guest(&h);
     begin_statistics(&h);

@@ -49,6 +49,7 @@ static const char **text_of(struct options *o, const char *option)
     if (strcmp(option, "--append") == 0) return &o->append;
     if (strcmp(option, "--listen") == 0) return &o->listen;
     if (strcmp(option, "--connect") == 0) return &o->connect;
+    if (strcmp(option, "--word") == 0) return &o->word;
     return strcmp(option, "--net") == 0 ? &o->net : NULL;
 }
 
@@ -64,6 +65,8 @@ static void take_word(struct options *o, const char *option, const char *word)
     else if (strcmp(option, "--mtu") == 0) o->mtu = number_of(option, word, MTU_MIN, MTU_MAX);
     else if (strcmp(option, "--rounds") == 0) o->rounds = number_of(option, word, 1, 1000000);
     else if (strcmp(option, "--few") == 0) o->few = number_of(option, word, 0, 1000000);
+    else if (strcmp(option, "--pause-ms") == 0) o->pause_ms = number_of(option, word, 1, 1000000);
+    else if (strcmp(option, "--max-tries") == 0) o->max_tries = number_of(option, word, 1, 1000000);
     else misused("there is no such option", option);
 }
 
@@ -80,7 +83,7 @@ static void compare(const struct options *o)
 
 void options_read(struct options *o, int count, char **words)
 {
-    *o = (struct options){.mib = RAM_MIB, .rounds = 30, .few = 256};
+    *o = (struct options){.mib = RAM_MIB, .rounds = 30, .few = 256, .pause_ms = 500, .max_tries = 3};
     for (int i = 1; i < count; i++) {
         if (strcmp(words[i], "--help") == 0) {
             fputs(HELP, stdout);

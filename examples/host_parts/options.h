@@ -14,9 +14,9 @@ struct disk_option {
 };
 
 struct options {
-    const char *kernel, *initrd, *append, *listen, *connect, *net;
+    const char *kernel, *initrd, *append, *listen, *connect, *net, *word;
     struct disk_option disks[DISKS_MAX];
-    unsigned count_disks, mib, mtu, rounds, few;  /* mtu: 0 where none is offered */
+    unsigned count_disks, mib, mtu, rounds, few, pause_ms, max_tries;  /* mtu: 0 where none is offered */
     int stats, no_reboot;
     int is_shared;      /* both hosts of a move have the files of the disks that are not mapped */
     int stops_on_error; /* a read or write that fails stops the guest */

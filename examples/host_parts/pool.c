@@ -9,10 +9,11 @@
 #include "say.h"
 #include "terminal.h"
 
-/* Who waits looks this often whether the operator ends the program. */
-enum { WAIT_MS = 20 };
+/* Who waits looks this often whether the operator ends the program; and how long threads have then to end. */
+enum { WAIT_MS = 20, END_MS = 500 };
 
-/* Does what the call asks for. Returns how many sectors were done, or 0 and why in errno; of a flush 1. What has to be durable is so before it counts. */
+/* Does what the call asks for. Returns how many sectors were done, or 0 and why in errno; of a flush 1. What has to
+ * be durable is so before it counts. */
 static uint32_t do_call(struct slot *s)
 {
     const vmig_call *c = &s->call;
@@ -27,13 +28,17 @@ static uint32_t do_call(struct slot *s)
     return done > 0 && c->durable && !disk_bring(s->disk) ? 0 : done;
 }
 
-/* The slot that came to this state first, so that none waits for ever; or NULL. */
-static struct slot *find(struct pool *p, enum slot_state state)
+/* The slot of this disk, or of any where it is NULL, that came to this state first, so that none waits for ever; or
+ * NULL. */
+static struct slot *find(struct pool *p, enum slot_state state, const struct disk *disk)
 {
     struct slot *found = NULL;
 
-    for (unsigned i = 0; i < SLOTS; i++)
-        if (p->slots[i].state == state && (found == NULL || p->slots[i].turn < found->turn)) found = &p->slots[i];
+    for (unsigned i = 0; i < SLOTS; i++) {
+        struct slot *s = &p->slots[i];
+
+        if (s->state == state && (disk == NULL || s->disk == disk) && (found == NULL || s->turn < found->turn)) found = s;
+    }
     return found;
 }
 
@@ -61,7 +66,7 @@ static void *work(void *of)
     for (;;) {
         uint64_t began;
 
-        while ((s = find(p, SLOT_WAITS)) == NULL && !p->stops) pthread_cond_wait(&p->has_work, &p->lock);
+        while ((s = find(p, SLOT_WAITS, NULL)) == NULL && !p->stops) pthread_cond_wait(&p->has_work, &p->lock);
         if (s == NULL) break;
         move_to(p, s, SLOT_WORKS);
         pthread_mutex_unlock(&p->lock);
@@ -72,51 +77,84 @@ static void *work(void *of)
         p->nanoseconds += clock_nanoseconds() - began;
         tell_done(p, s);
     }
+    p->ended++;
+    pthread_cond_signal(&p->has_done);
     pthread_mutex_unlock(&p->lock);
     return NULL;
 }
 
-void pool_begin(struct pool *p)
+const char *pool_begin(struct pool *p)
 {
     *p = (struct pool){.lock = PTHREAD_MUTEX_INITIALIZER, .has_work = PTHREAD_COND_INITIALIZER, .has_done = PTHREAD_COND_INITIALIZER};
     p->bell = eventfd(0, EFD_CLOEXEC | EFD_NONBLOCK);
+    if (p->bell < 0) return "there is no bell for the requests of disks";
     for (unsigned i = 0; i < SLOTS; i++) {
         p->slots[i].bytes = malloc(SLOT_BYTES);
-        if (p->slots[i].bytes == NULL) fail("there is no memory for the requests of disks");
+        if (p->slots[i].bytes == NULL) return "there is no memory for the requests of disks";
     }
     while (p->count < WORKERS && begin_thread(&p->threads[p->count], work, p)) p->count++;
-    if (p->bell < 0 || p->count == 0) fail("there is no thread for the requests of disks");
+    return p->count == 0 ? "there is no thread for the requests of disks" : NULL;
 }
 
-void pool_end(struct pool *p)
+/* Waits for a moment, with the lock. */
+static void wait_a_moment(struct pool *p)
 {
+    struct timespec until;
+
+    clock_gettime(CLOCK_REALTIME, &until);
+    until.tv_nsec += WAIT_MS * 1000000L;
+    if (until.tv_nsec >= 1000000000L) {
+        until.tv_sec++;
+        until.tv_nsec -= 1000000000L;
+    }
+    pthread_cond_timedwait(&p->has_done, &p->lock, &until);
+}
+
+/* Whether all threads have ended. */
+static int await_threads(struct pool *p)
+{
+    uint64_t until = 0;
+    int have_ended;
+
     pthread_mutex_lock(&p->lock);
     p->stops = 1;
     pthread_cond_broadcast(&p->has_work);
+    while (p->ended < p->count && (until == 0 || clock_nanoseconds() < until)) {
+        wait_a_moment(p);
+        if (until == 0 && operator_words.ends) until = clock_nanoseconds() + END_MS * UINT64_C(1000000);
+    }
+    have_ended = p->ended == p->count;
     pthread_mutex_unlock(&p->lock);
+    return have_ended;
+}
+
+int pool_end(struct pool *p)
+{
+    if (!await_threads(p)) return 0;
     for (unsigned i = 0; i < p->count; i++) pthread_join(p->threads[i], NULL);
     for (unsigned i = 0; i < SLOTS; i++) free(p->slots[i].bytes);
     close(p->bell);
+    return 1;
 }
 
-static struct slot *find_locked(struct pool *p, enum slot_state state)
+static struct slot *find_locked(struct pool *p, enum slot_state state, const struct disk *disk)
 {
     struct slot *found;
 
     pthread_mutex_lock(&p->lock);
-    found = find(p, state);
+    found = find(p, state, disk);
     pthread_mutex_unlock(&p->lock);
     return found;
 }
 
 struct slot *pool_free(struct pool *p)
 {
-    return find_locked(p, SLOT_FREE);
+    return find_locked(p, SLOT_FREE, NULL);
 }
 
-struct slot *pool_done(struct pool *p)
+struct slot *pool_done(struct pool *p, const struct disk *disk)
 {
-    return find_locked(p, SLOT_DONE);
+    return find_locked(p, SLOT_DONE, disk);
 }
 
 static void set_state(struct pool *p, struct slot *s, enum slot_state state)
@@ -137,17 +175,9 @@ void pool_release(struct pool *p, struct slot *s)
     set_state(p, s, SLOT_FREE);
 }
 
-void pool_wait(struct pool *p)
+void pool_wait(struct pool *p, const struct disk *disk)
 {
-    struct timespec until;
-
-    clock_gettime(CLOCK_REALTIME, &until);
-    until.tv_nsec += WAIT_MS * 1000000L;
-    if (until.tv_nsec >= 1000000000L) {
-        until.tv_sec++;
-        until.tv_nsec -= 1000000000L;
-    }
     pthread_mutex_lock(&p->lock);
-    if (find(p, SLOT_DONE) == NULL) pthread_cond_timedwait(&p->has_done, &p->lock, &until);
+    if (find(p, SLOT_DONE, disk) == NULL) wait_a_moment(p);
     pthread_mutex_unlock(&p->lock);
 }

@@ -26,7 +26,7 @@ struct slot {
 
 struct pool {
     pthread_t threads[WORKERS];
-    unsigned count;                     /* of threads */
+    unsigned count, ended;              /* of threads */
     pthread_mutex_t lock;
     pthread_cond_t has_work, has_done;
     struct slot slots[SLOTS];
@@ -36,20 +36,22 @@ struct pool {
     uint64_t nanoseconds;               /* in calls of the system, of all threads */
 };
 
-/* Begins its threads, or ends the program. */
-void pool_begin(struct pool *p);
-/* What is under way is done, and they end. */
-void pool_end(struct pool *p);
+/* Begins its threads. Returns why there are none, or NULL. */
+const char *pool_begin(struct pool *p);
+/* What is under way is done, and they end. Where the operator ends the program they have half a second for it: false
+ * where one of them does not end, and the pool and its disks stay as they are. */
+int pool_end(struct pool *p);
 
 /* A slot that is free, or NULL. Only one thread may ask, and submit. */
 struct slot *pool_free(struct pool *p);
 /* The call of this slot is done by a thread. */
 void pool_submit(struct pool *p, struct slot *s);
-/* A slot that is done, or NULL. It stays so until it is submitted anew, or freed. */
-struct slot *pool_done(struct pool *p);
+/* A slot of this disk that is done, or of any where it is NULL; or NULL. It stays so until it is submitted anew, or
+ * freed. */
+struct slot *pool_done(struct pool *p, const struct disk *disk);
 void pool_release(struct pool *p, struct slot *s);
 
-/* Waits until a slot is done, for some milliseconds at most. */
-void pool_wait(struct pool *p);
+/* Waits until such a slot is done, for some milliseconds at most. */
+void pool_wait(struct pool *p, const struct disk *disk);
 
 #endif

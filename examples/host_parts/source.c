@@ -1,6 +1,6 @@
-/* A guest is moved away while it runs: rounds between its turns, a pause at the end, and the words by which one of the two runs it.
- * Until GO is sent the guest is kept here, and continues here if the line breaks. From then on it does not run here, unless the
- * operator says so. */
+/* A guest is moved away while it runs: rounds between its turns, a pause at the end, and the words by which one of
+ * the two runs it. Until GO is sent the guest is kept here, and continues here if the line breaks. From then on it
+ * does not run here, unless the operator says so. */
 #include <stdio.h>
 #include <string.h>
 #include "clock.h"
@@ -8,61 +8,38 @@
 #include "say.h"
 #include "terminal.h"
 
-/* What is copied at once between two slices of the guest, once the carrier has carried what was copied before: pages, then sectors. That is done
- * again until the guest was outside for this time, as pages of zeros are copied fast: some 700 KB at most. And what the carrier takes at once, for
- * whose digest the library is its own, 0.1 ms; and what goes at once of the last round. */
-enum { ITEMS_A_COPY = 64, COPY_NANOSECONDS = 300000, PIECE = 16384, ITEMS_A_PIECE = 16 };
+/* What is copied at once between two slices of the guest, once the carrier has carried what was copied before:
+ * pages, then sectors. That is done again until the guest was outside for this time, as pages of zeros are copied
+ * fast: some 700 KB at most. And what goes at once of the last round. */
+enum { ITEMS_A_COPY = 64, COPY_NANOSECONDS = 300000, ITEMS_A_PIECE = 16 };
+
+/* How long a target is told that no guest comes, where the program ends. A guest that goes on waits for that no
+ * moment. */
+enum { TELL_MS = 500 };
 
 /* The rounds, one after another, that leave hardly less than one before, until the guest is paused. */
 enum { STALLS_MAX = 3 };
 
 static const char BROKEN[] = "the line is broken", OUT_OF_MEMORY[] = "out of memory";
+static const char CANCELLED[] = "its operator cancels it", TOO_LONG[] = "the pause would last longer than --pause-ms";
 
 int move_is_due(const struct host *h)
 {
     const struct move *m = &h->move;
 
-    return operator_words.moves || (m->is_on && (m->is_carried || m->is_broken || line_has_come(&m->line)));
+    return operator_words.moves || (m->is_on && (m->is_carried || m->is_broken || operator_words.continues));
 }
 
-/* The carrier, a thread: what waits in the machine goes over the line while the guest runs. It is digested as it is taken. */
-static void *carry(void *of)
+/* Tells the target that no guest comes, within so many milliseconds. False where it cannot be told. */
+static int tell_end(struct host *h, const char *why, unsigned milliseconds)
 {
-    static uint8_t bytes[PIECE];
-    struct host *h = of;
-    struct move *m = &h->move;
-    int goes_on = line_finish(&m->line);
-    size_t got = 0;
+    struct line *l = &h->move.line;
+    size_t length = strlen(why);
 
-    lock_library(h);
-    while (goes_on && !m->stops) {
-        must(vmig_send_take(&h->machine, bytes, sizeof bytes, &got), "vmig_send_take");
-        m->is_carried = got == 0;
-        if (got == 0) {
-            call_out(h);
-            pthread_cond_wait(&h->copied, &h->library);
-            continue;
-        }
-        unlock_library(h);
-        goes_on = line_send(&m->line, STREAM, bytes, got);
-        lock_library(h);
-    }
-    m->is_broken = !goes_on;
-    call_out(h);
-    unlock_library(h);
-    return NULL;
-}
-
-/* The carrier ends, once it has sent what it took. */
-static void end_carrier(struct host *h)
-{
-    if (!h->move.has_carrier) return;
-    h->move.stops = 1;
-    pthread_cond_signal(&h->copied);
-    unlock_library(h);
-    pthread_join(h->move.carrier, NULL);
-    lock_library(h);
-    h->move.has_carrier = 0;
+    if (h->move.is_broken || l->socket < 0) return 0;
+    l->hears = HEARS_NOTHING;
+    l->until = clock_nanoseconds() + milliseconds * UINT64_C(1000000);
+    return line_finish(l) && line_send(l, ENDED, why, length < REASON_MAX ? length : REASON_MAX);
 }
 
 void leave_line(struct host *h, const char *why)
@@ -71,7 +48,7 @@ void leave_line(struct host *h, const char *why)
 
     if (!m->is_on) return;
     end_carrier(h);
-    if (!m->is_broken && line_send(&m->line, ENDED, why, strlen(why))) say("move: %s: %s was told so", why, h->options.connect);
+    if (tell_end(h, why, TELL_MS)) say("move: %s: %s was told so", why, h->options.connect);
     else say("move: %s, and the line is broken", why);
     line_close(&m->line);
     m->is_on = 0;
@@ -80,29 +57,34 @@ void leave_line(struct host *h, const char *why)
 /* The move is over, and the guest continues here. */
 static int give_up(struct host *h, const char *why)
 {
-    if (h->move.is_on) {
-        if (h->move.has_carrier) line_cut(&h->move.line);
+    struct move *m = &h->move;
+
+    if (m->is_on) {
         end_carrier(h);
-        line_close(&h->move.line);
+        tell_end(h, why, 0);
+        line_close(&m->line);
+    }
+    if (m->is_on && m->is_sending) {
         log_ends(h);
         take_ram(h);
         must(vmig_send_abort(&h->machine), "vmig_send_abort");
     }
-    h->move.is_on = 0;
+    m->is_on = m->is_sending = 0;
     say("move: %s: the guest continues here", why);
     return 1;
 }
 
-/* What the last frame says in place of what was awaited. */
-static const char *what_it_says(struct line *l)
+/* Why the line does not take or have what is awaited. */
+static const char *why_not(struct host *h)
 {
-    return l->type == REFUSED ? line_reason(l, "the target refuses: ") : BROKEN;
-}
+    struct line *l = &h->move.line;
+    const char *why;
 
-/* Why the line takes nothing, or what came while nothing is awaited. */
-static const char *what_came(struct line *l)
-{
-    return line_has_come(l) && line_receive(l) ? what_it_says(l) : BROKEN;
+    if (operator_words.ends) return "its operator ends the program";
+    if (l->hears == HEARS_CANCEL && operator_words.continues) return CANCELLED;
+    if (clock_nanoseconds() >= l->until) return TOO_LONG;
+    why = line_says(l);
+    return why == NULL ? BROKEN : why;
 }
 
 static void begin_hello(struct host *h)
@@ -111,6 +93,7 @@ static void begin_hello(struct host *h)
     struct hello hello = {.version = LINE_VERSION, .kind = GUEST_KIND, .mib = h->options.mib, .base = RAM_BASE};
 
     hello.is_shared = (uint32_t)h->options.is_shared;
+    memcpy(hello.word, h->word, WORD_LENGTH);
     hello_write(bytes, &hello);
     line_begin(&h->move.line, HELLO, bytes, HELLO_LENGTH + facts_write(h, bytes + HELLO_LENGTH));
 }
@@ -127,38 +110,38 @@ static void begin_round(struct host *h, uint32_t number)
     h->move.sectors = left.due_sectors;
 }
 
-/* Begins a move. Returns why there is none, or NULL. */
+/* Begins a move: the carrier meets the target. Returns why there is none, or NULL. */
 static const char *begin_move(struct host *h)
 {
     struct move *m = &h->move;
-    const char *why = NULL;
 
-    operator_words.moves = 0;
+    operator_words.moves = operator_words.continues = 0;
     if (h->options.connect == NULL) return "there is no --connect to move to";
     if (devices_ask(&h->devices) && !h->options.is_shared) return "a disk of --disk is in no stream: it moves with --shared alone";
-    if (!line_connect(&m->line, h->options.connect, &why)) {
-        say("move: there is no line to %s", h->options.connect);
-        return why;
-    }
-    take_ram(h);
-    if (vmig_send_begin(&h->machine) != VMIG_OK) {
-        line_close(&m->line);
-        return OUT_OF_MEMORY;
-    }
     m->is_on = 1;
-    m->has_carrier = m->stops = 0;
+    m->has_met = m->is_sending = m->is_stopped = 0;
     m->is_carried = m->is_broken = 0;
     m->least = UINT64_MAX;
     m->stalls = 0;
+    m->pauses = 0;
     say("move: to %s begins", h->options.connect);
+    line_prepare(&m->line, operator_bell, HEARS_CANCEL);
+    begin_hello(h);
+    return begin_carrier(h);
+}
+
+/* The target takes the guest: its first round begins. */
+static const char *begin_sending(struct host *h)
+{
+    const char *why;
+
+    take_ram(h);
+    if (vmig_send_begin(&h->machine) != VMIG_OK) return OUT_OF_MEMORY;
+    h->move.is_sending = 1;
+    line_be_patient(&h->move.line);
     begin_round(h, 1);
     why = log_begins(h);
-    if (why == NULL) why = state_prepare(h);
-    if (why != NULL) return why;
-    line_be_patient(&m->line);
-    begin_hello(h);
-    m->has_carrier = begin_thread(&m->carrier, carry, h);
-    return m->has_carrier ? NULL : "there is no thread for the line";
+    return why == NULL ? state_prepare(h) : why;
 }
 
 /* Fills the frame that goes next with what waits in the machine. False where nothing does. */
@@ -185,11 +168,12 @@ static const char *copy_some(struct host *h)
     if (vmig_refused(status)) return OUT_OF_MEMORY;
     m->round_is_sent = status == VMIG_ROUND_DONE;
     m->is_carried = 0;
-    pthread_cond_signal(&h->copied);
+    wake_carrier(h);
     return NULL;
 }
 
-/* Names the pages that were written since the log was last read. What the log had is lost where they cannot be named: the move is over then. */
+/* Names the pages that were written since the log was last read. What the log had is lost where they cannot be
+ * named: the move is over then. */
 static const char *name_pages(struct host *h)
 {
     vmig_pages written = VMIG_NO_PAGES;
@@ -198,8 +182,8 @@ static const char *name_pages(struct host *h)
     return vmig_mark(&h->machine, &written) == VMIG_OK ? NULL : OUT_OF_MEMORY;
 }
 
-/* Whether the rounds are to end: few items are left, or it was the last round, or rounds shrink no more. One round says little about that, as
- * guests write in bursts. */
+/* Whether the rounds are to end: few items are left, or it was the last round, or rounds shrink no more. One round
+ * says little about that, as guests write in bursts. */
 static int is_enough(struct host *h, uint64_t left)
 {
     struct move *m = &h->move;
@@ -213,16 +197,17 @@ static int is_enough(struct host *h, uint64_t left)
 static const char *send_waiting(struct host *h)
 {
     do
-        if (!line_finish(&h->move.line)) return what_came(&h->move.line);
+        if (!line_finish(&h->move.line)) return why_not(h);
     while (begin_stream(h));
     return NULL;
 }
 
-/* What is left goes as one round more, and the stop has nothing to send: so the target digests a piece while the next one is digested here. */
+/* What is left goes as one round more, and the stop has nothing to send: so the target digests a piece while the
+ * next one is digested here. */
 static const char *send_last_round(struct host *h)
 {
     vmig_status status = vmig_send_round(&h->machine);
-    const char *why = NULL;
+    const char *why = vmig_refused(status) ? OUT_OF_MEMORY : send_waiting(h);
 
     while (why == NULL && !vmig_refused(status) && status != VMIG_ROUND_DONE) {
         status = vmig_send_some(&h->machine, ITEMS_A_PIECE);
@@ -246,6 +231,7 @@ static const char *read_state(struct host *h, uint8_t state[BODY_MAX], size_t *l
 static const char *send_rest(struct host *h)
 {
     static uint8_t state[BODY_MAX];
+    uint8_t end[END_LENGTH];
     struct line *l = &h->move.line;
     uint64_t pages = 0, sectors = 0;
     size_t length = 0;
@@ -254,24 +240,30 @@ static const char *send_rest(struct host *h)
     if (why != NULL) return why;
     why = send_last_round(h);
     if (why != NULL) return why;
+    h->move.is_stopped = 1;
     if (vmig_send_stop(&h->machine, &pages, &sectors) != VMIG_OK) return OUT_OF_MEMORY;
     why = send_waiting(h);
     if (why != NULL) return why;
-    if (!line_send(l, STATE, state, length) || !line_send(l, END, NULL, 0)) return what_came(l);
-    if (!line_receive(l)) return BROKEN;
-    return l->type == READY ? NULL : what_it_says(l);
+    end_write(end, devices_lost(&h->devices));
+    if (!line_send(l, STATE, state, length) || !line_send(l, END, end, sizeof end)) return why_not(h);
+    if (!line_receive(l)) return why_not(h);
+    if (l->type == REFUSED) return line_reason(l, "the target refuses: ");
+    return l->type == READY ? NULL : BROKEN;
 }
 
-/* The files that both hosts have are closed, so that the target may open them. Returns what is wrong, which the target is told, or NULL. */
+/* The files that both hosts have are closed, so that the target may open them, and it may take the name of the wire.
+ * Returns what is wrong, which the target is told, or NULL. */
 static const char *let_go(struct host *h)
 {
-    const char *why = devices_let_go(&h->devices);
+    const char *why = lend_wire_name(h);
 
+    if (why == NULL) why = devices_let_go(&h->devices);
     if (why != NULL) line_send(&h->move.line, ENDED, why, strlen(why));
     return why;
 }
 
-/* The files are opened again. False where the operator ends the program: as long as another host has them, the guest does not run here. */
+/* The files are opened again, and the wire has its name again. False where the operator ends the program: as long as
+ * another host has them, the guest does not run here. */
 static int take_back(struct host *h)
 {
     const char *why;
@@ -280,16 +272,18 @@ static int take_back(struct host *h)
         say("move: a disk cannot be opened again: %s", why);
         if (!ask_operator("move: SIGUSR2 or Ctrl-A c tries it again; else end this program")) return 0;
     }
+    why = name_wire(h);
+    if (why != NULL) say("move: no frame comes to the guest: %s", why);
     return 1;
 }
 
-/* The same of a guest that was paused. What was asked of its disks before is asked for anew. */
+/* The same of a guest that was paused. What waits for its disks is asked in the next turn: vmig_next says so
+ * (VMIG_CALL). */
 static int continue_here(struct host *h, const char *why)
 {
     start_clock(h);
-    give_up(h, why);
-    storage_ask(h);
-    return 1;
+    h->steps_wait = 1;
+    return give_up(h, why);
 }
 
 /* The last word was sent, and the target did not answer that the guest runs. Only the operator can know. */
@@ -298,7 +292,6 @@ static int keep(struct host *h)
     say("move: the line broke after the last word was sent: the guest is paused here, and perhaps runs at %s", h->options.connect);
     h->move.is_on = ask_operator("move: if it does not run there, SIGUSR2 or Ctrl-A c continues it here; else end this program") && take_back(h);
     if (!h->move.is_on) return 0;
-    open_wire(h);
     announce(h);
     return continue_here(h, "by the word of the operator");
 }
@@ -313,22 +306,57 @@ static int come_back(struct host *h)
     return h->move.is_on && continue_here(h, why);
 }
 
-/* The guest is paused, and the rest of it is sent. Once all is there it is let go. Where storage hangs that waits, for as long as the target does. */
-static int finish_move(struct host *h)
+/* The pause is over, and nothing was stopped in the machine: what is left goes with one round more while the guest
+ * runs on. */
+static int go_on(struct host *h)
 {
-    struct line *l = &h->move.line;
-    uint64_t paused = clock_nanoseconds();
-    const char *why;
+    struct move *m = &h->move;
+    vmig_status status = vmig_send_round(&h->machine);
+    const char *why = vmig_refused(status) ? OUT_OF_MEMORY : NULL;
+
+    say("move: the guest was paused for %u ms, and runs on here while it is moved", h->options.pause_ms);
+    begin_round(h, m->round + 1);
+    if (why == NULL && !m->has_carrier) why = begin_carrier(h);
+    return why == NULL ? 1 : give_up(h, why);
+}
+
+/* Waits for what the guest asked of its disks. Returns why the pause is over, or NULL. Where storage hangs that
+ * waits until then. */
+static const char *await_storage(struct host *h)
+{
+    const struct move *m = &h->move;
 
     while (storage_waits(h)) {
-        if (operator_words.ends) return 1;
-        if (h->move.is_broken || line_has_come(l)) return give_up(h, what_came(l));
+        if (m->is_broken) return m->why;
+        if (operator_words.ends) return "its operator ends the program";
+        if (operator_words.continues) return CANCELLED;
+        if (clock_nanoseconds() >= m->until) return TOO_LONG;
     }
-    stop_clock(h);
+    return NULL;
+}
+
+/* The line is the guest's thread's own from here on. All that is not in the target is sent. Returns why the guest is
+ * not let go, or NULL. */
+static const char *hand_over(struct host *h)
+{
+    struct move *m = &h->move;
+    const char *why;
+
     end_carrier(h);
+    if (m->is_broken) return m->why;
+    m->line.hears = HEARS_CANCEL;
+    m->line.until = m->until;
     why = send_rest(h);
-    if (why == NULL) why = let_go(h);
-    if (why != NULL) return continue_here(h, why);
+    return why == NULL ? let_go(h) : why;
+}
+
+/* GO was the last word. */
+static int await_runs(struct host *h, uint64_t paused)
+{
+    struct line *l = &h->move.line;
+
+    l->hears = HEARS_END;
+    l->until = LINE_EVER;
     line_hurry(l);
     if (!line_send(l, GO, NULL, 0) || !line_receive(l)) return keep(h);
     if (l->type == REFUSED) return come_back(h);
@@ -340,8 +368,28 @@ static int finish_move(struct host *h)
     return 0;
 }
 
-/* A round was sent. What is left counts pages that were named, so these are named before it is asked; then the next round begins, or the
- * guest is paused. */
+/* The guest is paused, and the rest of it is sent. Once all is there it is let go. It runs on here where that takes
+ * too long. */
+static int finish_move(struct host *h)
+{
+    struct move *m = &h->move;
+    uint64_t paused = clock_nanoseconds();
+    const char *why;
+
+    m->until = paused + h->options.pause_ms * UINT64_C(1000000);
+    m->pauses++;
+    stop_clock(h);
+    why = await_storage(h);
+    if (why == NULL) why = hand_over(h);
+    if (why == NULL) return await_runs(h, paused);
+    if (why != TOO_LONG || m->is_stopped || m->pauses == h->options.max_tries) return continue_here(h, why);
+    start_clock(h);
+    h->steps_wait = 1;
+    return go_on(h);
+}
+
+/* A round was sent. What is left counts pages that were named, so these are named before it is asked; then the next
+ * round begins, or the guest is paused. */
 static int end_round(struct host *h)
 {
     vmig_left found;
@@ -372,10 +420,10 @@ int move_further(struct host *h)
 
     if (!m->is_on && !operator_words.moves) return 1;
     if (!m->is_on) why = begin_move(h);
-    else if (!is_between_slices(h)) return 1;
-    else if (line_has_come(&m->line)) why = what_came(&m->line);
-    else if (m->is_broken) why = BROKEN;
-    else if (!m->is_carried) return 1;
+    else if (operator_words.continues) why = CANCELLED;
+    else if (m->is_broken) why = m->why;
+    else if (!is_between_slices(h) || !m->is_carried) return 1;
+    else if (!m->is_sending) why = begin_sending(h);
     else if (m->round_is_sent) return end_round(h);
     else why = copy_some(h);
     return why == NULL ? 1 : give_up(h, why);

@@ -6,15 +6,15 @@
 #include "say.h"
 #include "terminal.h"
 
-void storage_begin(struct host *h)
+const char *storage_begin(struct host *h)
 {
     h->has_pool = devices_ask(&h->devices);
-    if (h->has_pool) pool_begin(&h->pool);
+    return h->has_pool ? pool_begin(&h->pool) : NULL;
 }
 
 void storage_end(struct host *h)
 {
-    if (h->has_pool) pool_end(&h->pool);
+    if (h->has_pool && !pool_end(&h->pool)) fail("ended by its operator, while a disk does not answer");
 }
 
 int storage_bell(const struct host *h)
@@ -48,28 +48,53 @@ static int is_tried_again(struct host *h, const struct slot *s)
     return is_meant;
 }
 
-/* The guest reads an error. It is said once of each disk. */
+/* The guest reads an error. */
+static void let_fail(struct host *h, struct slot *s)
+{
+    must(vmig_disk_failed(&h->machine, s->call.number), "vmig_disk_failed");
+    pool_release(&h->pool, s);
+}
+
+/* It is said once of each disk. */
 static void answer_failed(struct host *h, struct slot *s)
 {
     if (!s->disk->is_told || h->options.stops_on_error)
         say("%s: %s of %u sectors at %llu failed: %s", s->disk->name, name_of(&s->call), s->call.count, (unsigned long long)s->call.first, strerror(s->error));
     s->disk->is_told = 1;
-    if (is_tried_again(h, s)) {
-        pool_submit(&h->pool, s);
-        return;
-    }
-    must(vmig_disk_failed(&h->machine, s->call.number), "vmig_disk_failed");
-    pool_release(&h->pool, s);
+    if (is_tried_again(h, s)) pool_submit(&h->pool, s);
+    else let_fail(h, s);
 }
 
+/* The bytes of a read go into RAM, which is taken back for them, and for no other answer. */
 static void answer_done(struct host *h, struct slot *s)
 {
     int is_read = s->call.what == VMIG_DISK_READ;
     uint32_t count = s->call.what == VMIG_DISK_FLUSH ? 0 : s->count;
 
+    if (is_read) take_ram(h);
     must(vmig_disk_done(&h->machine, s->call.number, count, is_read ? s->bytes : NULL, is_read ? (size_t)count * SECTOR : 0), "vmig_disk_done");
     h->statistics.calls++;
     pool_release(&h->pool, s);
+}
+
+/* A sync that fails is of a thread of the pool. From here on nothing of this disk is told durable, also what came before it and was not told. */
+void storage_tell_lost(struct host *h)
+{
+    uint32_t lost = devices_lost(&h->devices);
+    vmig_description found;
+
+    if (lost == 0) return;
+    vmig_describe(&h->machine, &found);
+    lost &= ~found.lost;
+    for (unsigned dev = 0; lost >> dev != 0; dev++)
+        if (lost >> dev & 1) must(vmig_sync_failed(&h->machine, (uint8_t)dev), "vmig_sync_failed");
+}
+
+static void answer(struct host *h, struct slot *s)
+{
+    storage_tell_lost(h);
+    if (s->error != 0) answer_failed(h, s);
+    else answer_done(h, s);
 }
 
 int storage_answer(struct host *h)
@@ -80,10 +105,8 @@ int storage_answer(struct host *h)
 
     if (!h->has_pool) return 0;
     if (read(h->pool.bell, &rings, sizeof rings) < 0 && errno != EAGAIN) fail("the pool has no bell");
-    while ((s = pool_done(&h->pool)) != NULL) {
-        take_ram(h);
-        if (s->error != 0) answer_failed(h, s);
-        else answer_done(h, s);
+    while ((s = pool_done(&h->pool, NULL)) != NULL) {
+        answer(h, s);
         answered = 1;
     }
     return answered;
@@ -114,6 +137,14 @@ static uint32_t count_out(struct host *h)
     return found.calls_out;
 }
 
+/* Waits a moment for a call of this disk, or of any where it is NULL. */
+static void await(struct host *h, const struct disk *disk)
+{
+    leave_library(h);
+    pool_wait(&h->pool, disk);
+    enter_library(h);
+}
+
 int storage_waits(struct host *h)
 {
     if (count_out(h) == 0) return 0;
@@ -121,10 +152,7 @@ int storage_waits(struct host *h)
         h->steps_wait = 1;
         return 1;
     }
-    take_ram(h);
-    leave_library(h);
-    pool_wait(&h->pool);
-    enter_library(h);
+    await(h, NULL);
     return 1;
 }
 
@@ -133,4 +161,15 @@ int storage_drain(struct host *h)
     while (storage_waits(h))
         if (operator_words.ends) return 0;
     return 1;
+}
+
+int storage_drop(struct host *h, uint8_t dev)
+{
+    struct disk *disk = devices_disk(&h->devices, dev);
+    struct slot *s = pool_done(&h->pool, disk);
+
+    if (s == NULL) await(h, disk);
+    else if (s->call.what == VMIG_DISK_READ && s->error == 0) let_fail(h, s);
+    else answer(h, s);
+    return !operator_words.ends;
 }

@@ -1,8 +1,12 @@
-/* A guest that is moved here. What comes is not trusted: each frame has its place, the machine is compared with the options before
- * memory is taken, and the registers are looked at. Until the source has let go, the guest does not run here. */
+/* A guest that is moved here. What comes is not trusted: each frame has its place, the machine is compared with the
+ * options before memory is taken, and the registers are looked at. Until the source has let go, the guest does not
+ * run here. */
 #include <string.h>
+#include <unistd.h>
+#include "clock.h"
 #include "host.h"
 #include "say.h"
+#include "terminal.h"
 
 /* The first bytes of a stream, which tell what machine it is. */
 enum { HEAD_MAX = 496 };
@@ -18,16 +22,56 @@ struct arrival {
     uint32_t rounds;
 };
 
-static const char *check_hello(struct host *h, const struct line *l)
-{
-    struct hello hello;
+/* How long who connects may take until it is known. */
+enum { HELLO_MS = 10000 };
 
-    if (l->type != HELLO || !hello_read(l->body, &hello)) return "what connects is no hypervisor of this kind";
-    if (hello.version != LINE_VERSION) return "it is of another version";
-    if (hello.kind != GUEST_KIND) return "it is a hypervisor for another processor";
-    if (hello.base != RAM_BASE) return "its RAM begins at another address";
-    if (hello.mib != h->options.mib) return "it has another size of RAM than --mem";
-    if (hello.is_shared != (uint32_t)h->options.is_shared) return "one of both hosts has --shared, and the other has not";
+/* Who connects says that it is a source of this target, by the word. Nothing is taken for it before. Returns why it
+ * is not known, or NULL. */
+static const char *meet(struct host *h, struct hello *hello)
+{
+    struct line *l = &h->move.line;
+    int has_come;
+
+    l->until = clock_nanoseconds() + HELLO_MS * UINT64_C(1000000);
+    has_come = line_receive(l);
+    l->until = LINE_EVER;
+    if (operator_words.ends) fail("ended before a guest came");
+    if (!has_come) return "what connects says nothing, or what none of this kind says";
+    if (l->type != HELLO || !hello_read(l->body, l->length, hello))
+        return "what connects is no hypervisor of this kind";
+    if (hello->version != LINE_VERSION) return "it is of another version";
+    return words_are_same(hello->word, h->word) ? NULL : "it has another --word";
+}
+
+/* Waits until a source is known. Who is not is refused, and the next one may come. */
+static void await_source(struct host *h, struct hello *hello)
+{
+    struct line *l = &h->move.line;
+    int listener;
+    const char *why;
+
+    line_prepare(l, operator_bell, HEARS_END);
+    listener = line_listen(l, h->options.listen);
+    for (;;) {
+        line_accept(l, listener);
+        why = meet(h, hello);
+        if (why == NULL) break;
+        say("move: %s: it is refused, and another one may come", why);
+        line_refuse(l, why);
+        line_prepare(l, operator_bell, HEARS_END);
+    }
+    close(listener);
+}
+
+static const char *check_hello(struct host *h, const struct hello *hello)
+{
+    const struct line *l = &h->move.line;
+
+    if (hello->kind != GUEST_KIND) return "it is a hypervisor for another processor";
+    if (hello->base != RAM_BASE) return "its RAM begins at another address";
+    if (hello->mib != h->options.mib) return "it has another size of RAM than --mem";
+    if (hello->is_shared != (uint32_t)h->options.is_shared)
+        return "one of both hosts has --shared, and the other has not";
     return facts_check(h, l->body + HELLO_LENGTH, l->length - HELLO_LENGTH);
 }
 
@@ -84,6 +128,22 @@ static const char *take_frame(struct host *h, struct arrival *a)
     return l->type == END && a->has_state ? NULL : "a frame is out of its place";
 }
 
+/* The machine is whole. All that may fail on this host is done here, before the source is told that all is here; but
+ * the files that both hosts have and the name of the wire are taken once it has let go. Returns what is wrong, or
+ * NULL. */
+static const char *arrive(struct host *h, const struct arrival *a)
+{
+    const char *why;
+
+    storage_tell_lost(h);
+    lend_ram(h);
+    why = state_read(h, a->state, a->state_length);
+    if (why != NULL) return why;
+    fill_pool(h);
+    terminal_take();
+    return devices_bring(&h->devices) ? NULL : "a disk cannot be written";
+}
+
 /* Takes all frames to the last. Returns what is wrong, or NULL. */
 static const char *take_all(struct host *h, struct arrival *a)
 {
@@ -92,16 +152,16 @@ static const char *take_all(struct host *h, struct arrival *a)
     vmig_status status;
 
     line_be_patient(l);
+    if (!line_send(l, WELCOME, h->word, WORD_LENGTH)) return "the line is broken";
     do {
         why = line_receive(l) ? take_frame(h, a) : "the line is broken";
         if (why != NULL) return why;
     } while (l->type != END);
     status = vmig_finish(&h->machine);
     if (status != VMIG_OK) return vmig_status_name(status);
-    lend_ram(h);
-    why = state_read(h, a->state, a->state_length);
+    why = devices_take_loss(&h->devices, end_read(l->body));
     if (why != NULL) return why;
-    return devices_bring(&h->devices) ? NULL : "a disk cannot be written";
+    return arrive(h, a);
 }
 
 __attribute__((noreturn)) static void refuse(struct host *h, const char *why)
@@ -120,15 +180,35 @@ static void keep(void)
     say("move: by the word of the operator the guest runs here");
 }
 
-/* The files that both hosts have are opened, once the source has let go of them. Where they cannot be, the guest is dropped: it runs at the source
- * again. */
-static void take_over(struct host *h, int is_told)
+/* What one host has at a time is taken, once the source has let go of it: the name of the wire, and the files of
+ * disks. Returns why it cannot be, or NULL; then no file is open. */
+static const char *take_over(struct host *h)
 {
-    const char *why = devices_take_over(&h->devices);
+    const char *why = name_wire(h);
+
+    return why == NULL ? devices_take_over(&h->devices) : why;
+}
+
+/* By the word of the source. Where it cannot, the guest is dropped: it runs at the source again. */
+static void take_over_or_refuse(struct host *h)
+{
+    const char *why = take_over(h);
 
     if (why == NULL) return;
-    if (is_told) line_refuse(&h->move.line, why);
-    fail("move: a disk cannot be opened: %s: the guest does not run here", why);
+    line_refuse(&h->move.line, why);
+    fail("move: it cannot be taken over: %s: the guest does not run here", why);
+}
+
+/* By the word of the operator, who may mend what is wrong. */
+static void take_over_or_ask(struct host *h)
+{
+    const char *why;
+
+    while ((why = take_over(h)) != NULL) {
+        say("move: it cannot be taken over: %s", why);
+        if (!ask_operator("move: SIGUSR2 or Ctrl-A c tries it again; else end this program"))
+            fail("ended by its operator: the guest does not run here");
+    }
 }
 
 /* All is here. The source says that it has let go, or that it has not; or the operator has to say it. */
@@ -138,10 +218,12 @@ static void await_last_word(struct host *h)
     int has_word = line_send(l, READY, NULL, 0) && line_receive(l);
 
     if (has_word && l->type == ENDED) fail("move: %s: no guest is here", line_reason(l, "the source says: "));
-    has_word = has_word && l->type == GO;
-    if (!has_word) keep();
-    take_over(h, has_word);
-    if (!has_word) return;
+    if (!has_word || l->type != GO) {
+        keep();
+        take_over_or_ask(h);
+        return;
+    }
+    take_over_or_refuse(h);
     if (line_send(l, RUNS, NULL, 0)) say("move: the guest runs here");
     else say("move: the guest runs here; the source did not hear so");
 }
@@ -150,13 +232,14 @@ void host_receive(struct host *h)
 {
     struct line *l = &h->move.line;
     static struct arrival a;
+    struct hello hello;
     const char *why;
 
     a.length = (uint64_t)h->options.mib * MIB;
     for (unsigned i = 0; i < h->devices.count_disks; i++)
         if (h->devices.disks[i].at != NULL) say("%s will be overwritten", h->devices.disks[i].name);
-    line_accept(l, h->options.listen);
-    why = line_receive(l) ? check_hello(h, l) : "the line is broken";
+    await_source(h, &hello);
+    why = check_hello(h, &hello);
     if (why == NULL) why = take_all(h, &a);
     if (why != NULL) refuse(h, why);
     say("move: all is here");

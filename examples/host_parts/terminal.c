@@ -3,6 +3,7 @@
 #include <stdarg.h>
 #include <stdio.h>
 #include <stdlib.h>
+#include <sys/eventfd.h>
 #include <sys/ioctl.h>
 #include <termios.h>
 #include <unistd.h>
@@ -12,6 +13,7 @@
 enum { PREFIX = 'A' - '@' };
 
 struct operator_words operator_words;
+int operator_bell = -1;
 void (*operator_speaks)(void);
 
 static struct termios before;
@@ -27,12 +29,16 @@ static void set_back(void)
 
 static void take_word(int signal_number)
 {
+    uint64_t one = 1;
+    int error = errno;
+
     switch (signal_number) {
     case SIGUSR1: operator_words.moves = 1; break;
     case SIGUSR2: operator_words.continues = 1; break;
     case SIGWINCH: operator_words.has_new_size = 1; break;
     default: operator_words.ends = 1; break;
     }
+    if (write(operator_bell, &one, sizeof one) < 0) errno = error;
     if (operator_speaks != NULL) operator_speaks();
 }
 
@@ -56,6 +62,8 @@ void terminal_begin(void)
     static const int WORDS[] = {SIGUSR1, SIGUSR2, SIGINT, SIGTERM, SIGHUP, SIGWINCH};
     static const int DEATHS[] = {SIGBUS, SIGSEGV, SIGABRT, SIGFPE, SIGILL, SIGQUIT};
 
+    operator_bell = eventfd(0, EFD_CLOEXEC | EFD_NONBLOCK);
+    if (operator_bell < 0) fail("there is no bell for signals");
     for (size_t i = 0; i < sizeof WORDS / sizeof *WORDS; i++) handle(WORDS[i], take_word, 0);
     for (size_t i = 0; i < sizeof DEATHS / sizeof *DEATHS; i++) handle(DEATHS[i], die, (int)SA_RESETHAND);
     handle(SIGPIPE, SIG_IGN, 0);
@@ -135,18 +143,6 @@ int terminal_is_taken(void)
 int terminal_has_ended(void)
 {
     return has_ended;
-}
-
-void terminal_write(const uint8_t *bytes, size_t length)
-{
-    while (length > 0) {
-        ssize_t put = write(STDOUT_FILENO, bytes, length);
-
-        if (put < 0 && errno != EINTR) return;
-        if (put < 0) continue;
-        bytes += put;
-        length -= (size_t)put;
-    }
 }
 
 int terminal_size(uint16_t *columns, uint16_t *rows)

@@ -1,13 +1,13 @@
 /* What the guest touches or asks of the board that needs no virtio device. */
 #include "host.h"
 #include "memory.h"
-#include "terminal.h"
+#include "output.h"
 
 static void print(uint64_t byte)
 {
     uint8_t bytes[] = {(uint8_t)byte};
 
-    terminal_write(bytes, 1);
+    output_write(bytes, 1);
 }
 
 static uint32_t read_device(struct host *h, uint64_t address, unsigned width)

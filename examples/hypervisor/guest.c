@@ -90,8 +90,7 @@ void log_read(struct host *h, vmig_pages *written)
 {
     struct memory *m = &h->guest.processor.memory;
 
-    written->list = m->written;
-    written->count = m->count_written;
+    *written = vmig_list(m->written, m->count_written);
     memory_empty_log(m);
 }
 

@@ -1,5 +1,5 @@
-/* CPUID. The state that a move carries is complete, as the guest is offered nothing whose state it lacks; and as KVM_SET_CPUID2 takes features that
- * the host does not have, a guest is compared before it is taken. */
+/* CPUID. The state that a move carries is complete, as the guest is offered nothing whose state it lacks; and as
+ * KVM_SET_CPUID2 takes features that the host does not have, a guest is compared before it is taken. */
 #include <errno.h>
 #include <stdio.h>
 #include <stdlib.h>
@@ -35,14 +35,27 @@ static const struct bits LEFT_OUT[] = {
     {0x7, 0, ECX, BIT(23)},                            /* key locker: its keys cannot be read */
 };
 
-/* Where there are features, one a bit. What else CPUID says is a name, a size or a number, which the guest keeps. Bits that follow the guest's own
- * control registers are left out: OSXSAVE, OSPKE. */
-static const struct bits FEATURES[] = {
-    {0x1, 0, ECX, ~BIT(27)}, {0x1, 0, EDX, ALL}, {0x6, 0, EAX, ALL},
-    {0x7, 0, EBX, ALL}, {0x7, 0, ECX, ~BIT(4)}, {0x7, 0, EDX, ALL}, {0x7, 1, EAX, ALL}, {0x7, 1, EBX, ALL}, {0x7, 1, EDX, ALL},
-    {0x7, 2, EDX, ALL}, {0xd, 0, EAX, ALL}, {0xd, 0, EDX, ALL}, {0xd, 1, EAX, ALL}, {0xd, 1, ECX, ALL}, {0xd, 1, EDX, ALL},
-    {0xa, 0, EAX, ALL}, {0x40000001, 0, EAX, ALL}, {0x80000001, 0, ECX, ALL}, {0x80000001, 0, EDX, ALL}, {0x80000007, 0, EDX, ALL},
-    {0x80000008, 0, EBX, ALL}, {0x8000000a, 0, EDX, ALL}, {0x80000021, 0, EAX, ALL}, {0x80000022, 0, EAX, ALL},
+#define EACH_INDEX UINT32_MAX
+#define HALF(leaf, one, other) {leaf, EACH_INDEX, one, ALL}, {leaf, EACH_INDEX, other, ALL}
+#define WHOLE(leaf) HALF(leaf, EAX, EBX), HALF(leaf, ECX, EDX)
+
+/* What is no feature: names, counts, sizes and numbers, which the guest keeps, and bits that follow its own control
+ * registers. All else that CPUID says to a guest is taken for a feature, one a bit, also in a leaf that is not known
+ * here. */
+static const struct bits NO_FEATURES[] = {
+    WHOLE(0x0), WHOLE(0x80000000), WHOLE(0x40000000),             /* the last leaf, and names: see cpuid_compare */
+    {0x1, 0, EAX, ALL}, {0x1, 0, EBX, ALL}, {0x1, 0, ECX, BIT(27)},  /* model, the number of the processor; OSXSAVE */
+    WHOLE(0x2), WHOLE(0x4), WHOLE(0x5), {0x6, 0, EBX, ALL},       /* caches, MONITOR's lines, thresholds */
+    {0x7, 0, EAX, ALL}, {0x7, 0, ECX, BIT(4)},                    /* the last index; OSPKE */
+    WHOLE(0xb), WHOLE(0x1f), WHOLE(0x1a),                         /* how processors lie */
+    {0xd, 0, EBX, ALL}, {0xd, 0, ECX, ALL}, {0xd, 1, EBX, ALL},   /* sizes of the area of XSAVE: see has_other_areas */
+    {0x14, 0, EAX, ALL}, WHOLE(0x15), WHOLE(0x16), WHOLE(0x18),   /* the last index; frequencies; TLBs */
+    {0x24, 0, EAX, ALL}, {0x24, 0, EBX, 0xff},                    /* the last index; the version of AVX10 */
+    WHOLE(0x80000002), WHOLE(0x80000003), WHOLE(0x80000004), WHOLE(0x80000005), WHOLE(0x80000006),  /* name, caches */
+    {0x80000001, 0, EAX, ALL}, {0x80000001, 0, EBX, ALL},         /* model, brand */
+    {0x80000008, 0, EAX, ALL}, HALF(0x80000008, ECX, EDX),        /* sizes of addresses: see cpuid_compare; counts */
+    WHOLE(0x80000019), WHOLE(0x8000001d),                         /* TLBs, caches */
+    WHOLE(0x8000001e), WHOLE(0x80000026),                         /* how processors lie */
 };
 
 static uint32_t *word_of(struct kvm_cpuid_entry2 *entry, enum name name)
@@ -69,7 +82,8 @@ static void leave_out(struct kvm_cpuid_entry2 *entry)
         if (LEFT_OUT[i].leaf == entry->function && LEFT_OUT[i].index == entry->index) *word_of(entry, LEFT_OUT[i].name) &= ~LEFT_OUT[i].bits;
 }
 
-/* One processor, whose LAPIC has the number 0. The TSC's deadline is offered where the kernel can do it, which old ones tell apart. */
+/* One processor, whose LAPIC has the number 0. The TSC's deadline is offered where the kernel can do it, which old
+ * ones tell apart. */
 static void tell_board(struct kvm *k, struct kvm_cpuid_entry2 *entry)
 {
     if (entry->function == 0x1) {
@@ -123,18 +137,52 @@ static int has_other_areas(const struct kvm_cpuid2 *guest, const struct kvm_cpui
     return 0;
 }
 
+/* The bits of a register of a leaf that are features. */
+static uint32_t features_of(uint32_t leaf, uint32_t index, enum name name)
+{
+    uint32_t features = leaf == 0xd && index > 1 ? 0 : ALL;
+
+    for (size_t i = 0; i < sizeof NO_FEATURES / sizeof *NO_FEATURES; i++) {
+        const struct bits *b = &NO_FEATURES[i];
+
+        if (b->leaf == leaf && b->name == name && (b->index == index || b->index == EACH_INDEX)) features &= ~b->bits;
+    }
+    return features;
+}
+
+/* Each feature that the guest has is one of this host's. */
+static const char *compare_features(const struct kvm_cpuid2 *guest, const struct kvm_cpuid2 *here)
+{
+    for (uint32_t i = 0; i < guest->nent; i++) {
+        struct kvm_cpuid_entry2 entry = guest->entries[i];
+        uint32_t index = entry.flags & KVM_CPUID_FLAG_SIGNIFCANT_INDEX ? entry.index : 0;
+
+        for (enum name name = EAX; name <= EDX; name++) {
+            uint32_t more = *word_of(&entry, name) & ~find(here, entry.function, index, name);
+
+            more &= features_of(entry.function, index, name);
+            if (more != 0) return lacks(entry.function, index, name, more);
+        }
+    }
+    return NULL;
+}
+
+/* AVX10 is a version, of which each one has all of those before it. */
+static int has_later_version(const struct kvm_cpuid2 *guest, const struct kvm_cpuid2 *here)
+{
+    return (find(guest, 0x24, 0, EBX) & 0xff) > (find(here, 0x24, 0, EBX) & 0xff);
+}
+
 const char *cpuid_compare(const struct kvm_cpuid2 *guest, const struct kvm_cpuid2 *here)
 {
     uint32_t guests, heres;
+    const char *why;
 
     for (enum name name = EBX; name <= EDX; name++)
         if (find(guest, 0, 0, name) != find(here, 0, 0, name)) return "its processor is of another maker: leaf 0x0";
-    for (size_t i = 0; i < sizeof FEATURES / sizeof *FEATURES; i++) {
-        const struct bits *f = &FEATURES[i];
-        uint32_t more = find(guest, f->leaf, f->index, f->name) & ~find(here, f->leaf, f->index, f->name) & f->bits;
-
-        if (more != 0) return lacks(f->leaf, f->index, f->name, more);
-    }
+    why = compare_features(guest, here);
+    if (why != NULL) return why;
+    if (has_later_version(guest, here)) return "its AVX10 has a later version: leaf 0x24, EBX";
     guests = find(guest, 0x80000008, 0, EAX);
     heres = find(here, 0x80000008, 0, EAX);
     if ((guests & 0xff) > (heres & 0xff) || (guests >> 8 & 0xff) > (heres >> 8 & 0xff)) return "its addresses have more bits: leaf 0x80000008, EAX";

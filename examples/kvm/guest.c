@@ -3,8 +3,8 @@
 #include <string.h>
 #include "cpuid.h"
 #include "host.h"
+#include "output.h"
 #include "say.h"
-#include "terminal.h"
 
 /* A guest whose devices have more to do than one turn does is called out after this time. */
 enum { WORK_MS = 1 };
@@ -53,7 +53,7 @@ static void write_port(struct host *h, uint64_t port, uint32_t value)
         int sent = uart_write(&h->uart, port - UART_AT, byte);
 
         byte = (uint8_t)sent;
-        if (sent >= 0) terminal_write(&byte, 1);
+        if (sent >= 0) output_write(&byte, 1);
     } else if (port == RESET_AT && byte == RESET_WORD) h->reboots = 1;
     else if (port == POWER_AT && value == POWER_OFF) end(h, 0);
     else if (port == FAILED_AT) end(h, byte);
@@ -121,13 +121,13 @@ static int board_answers(struct host *h)
     }
 }
 
-/* What the guest is called out for: bytes on the terminal, the wire and the line of a move, and time for devices that have more to do. */
+/* What the guest is called out for: bytes on the terminal and the wire, a disk, and time for devices that have more
+ * to do. */
 static void await_input(struct host *h)
 {
     int files[WATCHED];
 
     list_files(h, files);
-    files[SOURCES_OF_INPUT] = h->move.is_on ? h->move.line.socket : -1;
     watch_for(&h->guest.watch, files, h->steps_wait ? WORK_MS : -1, h->guest.is_between);
 }
 
@@ -200,21 +200,23 @@ void log_read(struct host *h, vmig_pages *written)
 {
     struct kvm *k = &h->guest.kvm;
 
-    written->all = kvm_read_log(k) != NULL || h->guest.is_loaded;
-    written->words = k->log;
-    written->count_words = written->all ? 0 : k->log_words;
+    if (kvm_read_log(k) != NULL || h->guest.is_loaded) *written = (vmig_pages)VMIG_ALL_PAGES;
+    else *written = vmig_bitmap(k->log, k->log_words);
     h->guest.is_loaded = 0;
 }
 
-/* KVM's clock goes on by itself, and what a state has is as of the moment at which it is read. */
 void stop_clock(struct host *h)
 {
-    (void)h;
+    const char *why = clock_stop(&h->guest.kvm, &h->guest.clock);
+
+    if (why != NULL) say("the guest's clock goes on while it is paused: %s", why);
 }
 
 void start_clock(struct host *h)
 {
-    (void)h;
+    const char *why = clock_start(&h->guest.kvm, &h->guest.clock);
+
+    if (why != NULL) say("the guest's clock is not as it was: %s", why);
 }
 
 void print_guest_statistics(const struct host *h, double seconds)

@@ -3,6 +3,7 @@
 #define GUEST_H
 
 #include "kvm.h"
+#include "msrs.h"
 #include "watch.h"
 
 /* What the first frame of a move says of the hypervisor: another one than x86-64 under KVM is refused. */
@@ -11,6 +12,7 @@ enum { GUEST_KIND = 2 };
 struct guest {
     struct kvm kvm;
     struct watch watch;
+    struct stopped_clock clock;  /* while the guest is paused */
     int is_between;         /* it came out as it was called: no access of its is half done */
     int is_loaded;          /* the host wrote what it boots from, of which KVM's log knows nothing */
     uint64_t exits, called, ports;

@@ -23,10 +23,13 @@ const char HELP[] =
     "  --mtu N            the MTU that it offers, 1497 to 65517. Unless it is given none is, and frames have at most 1514 bytes\n"
     "  --mem MIB          RAM, 1 to 3072 MiB: 64 unless it is given\n"
     "  --rounds N         a move sends at most N rounds before it pauses the guest: 30 unless it is given\n"
+    "  --pause-ms N       and the guest stands for at most N milliseconds before it runs on here: 500 unless it is given\n"
+    "  --max-tries N      the move ends once that was so N times: 3 unless it is given\n"
+    "  --word FILE        the first line of this file, of at most 64 bytes, is a word by which both ends of a move know each other\n"
     "  --few N            and pauses it earlier where at most N pages and sectors are left: 256 unless it is given\n"
     "  --no-reboot        a guest that asks for a reboot ends\n"
     "  --stats            prints what the guest did, and the time in the library, at the end\n"
     "  --help             prints this\n"
     "\n"
-    "On a terminal Ctrl-A m moves the guest, Ctrl-A c continues one that was kept after a broken move, Ctrl-A x ends the program,\n"
-    "and Ctrl-A a types Ctrl-A. The signals SIGUSR1, SIGUSR2 and SIGTERM do the first three.\n";
+    "On a terminal Ctrl-A m moves the guest, Ctrl-A c ends its move and continues it here, or continues one that was kept after a broken\n"
+    "move, Ctrl-A x ends the program, and Ctrl-A a types Ctrl-A. The signals SIGUSR1, SIGUSR2 and SIGTERM do the first three.\n";

@@ -78,6 +78,14 @@ const char *state_prepare(struct host *h)
     return msrs_prepare(&h->guest.kvm);
 }
 
+/* The clock that a state has is that at which the guest was paused. */
+static void tell_clock(const struct stopped_clock *clock, struct state *state)
+{
+    if (!clock->is_stopped || clock->has_tsc != (int)state->has_tsc) return;
+    state->clock = clock->clock;
+    state->tsc = clock->tsc;
+}
+
 const char *state_write(struct host *h, uint8_t bytes[BODY_MAX], size_t *length)
 {
     static struct whole_state all;
@@ -87,6 +95,7 @@ const char *state_write(struct host *h, uint8_t bytes[BODY_MAX], size_t *length)
     all.state.uart = h->uart;
     all.state.typed = h->typed;
     why = parts_read(&h->guest.kvm, &all);
+    tell_clock(&h->guest.clock, &all.state);
     if (why == NULL) why = state_pack(&all, bytes, BODY_MAX, length);
     state_free(&all);
     return why;
@@ -105,6 +114,7 @@ const char *state_read(struct host *h, const uint8_t *bytes, size_t length)
     if (why != NULL) return why;
     h->uart = all.state.uart;
     h->typed = all.state.typed;
+    h->guest.clock = (struct stopped_clock){1, (int)all.state.has_tsc, all.state.clock, all.state.tsc};
     watch_guest(k->run);
     return NULL;
 }

@@ -129,3 +129,24 @@ int tsc_set(struct kvm *k, const struct kvm_clock_data *clock, uint64_t tsc)
     offset = tsc + (uint64_t)((double)(now.clock - clock->clock) * k->khz / KHZ_MS) - now.host_tsc;
     return offset_of(k, KVM_SET_DEVICE_ATTR, &offset);
 }
+
+const char *clock_stop(struct kvm *k, struct stopped_clock *s)
+{
+    *s = (struct stopped_clock){.is_stopped = 0};
+    if (kvm_call(k->vm, KVM_GET_CLOCK, &s->clock) < 0) return kvm_reason("KVM_GET_CLOCK");
+    s->has_tsc = tsc_read(k, &s->clock, &s->tsc);
+    s->clock.flags = 0;
+    s->is_stopped = 1;
+    return NULL;
+}
+
+/* KVM_KVMCLOCK_CTRL fails for a guest without KVM's clock. */
+const char *clock_start(struct kvm *k, struct stopped_clock *s)
+{
+    if (!s->is_stopped) return NULL;
+    s->is_stopped = 0;
+    if (kvm_call(k->vm, KVM_SET_CLOCK, &s->clock) < 0) return kvm_reason("KVM_SET_CLOCK");
+    if (s->has_tsc && !tsc_set(k, &s->clock, s->tsc)) return "the guest's TSC goes on by its pause";
+    kvm_call(k->cpu, KVM_KVMCLOCK_CTRL, NULL);
+    return NULL;
+}

@@ -36,9 +36,8 @@ static void all(host *h)
 
 static void mark(host *h)
 {
-    vmig_pages written = VMIG_NO_PAGES;
+    vmig_pages written = vmig_list(h->pages, h->count);
 
-    written.list = h->pages, written.count = h->count;
     expect("a mark", vmig_mark(&h->over, &written), VMIG_OK);
 }
 

@@ -1,6 +1,6 @@
-/* Two machines with one guest: the disk of one is outside, and its host answers in any order and in parts; that of the other lies in memory, and each of its
- * requests is brought to its end before the next one. No request fails. So each has the same verdict and the same bytes in both, and the disks are the same
- * in the end. */
+/* Two machines with one guest: the disk of one is outside, and its host answers in any order and in parts; that of the other lies in memory, and each
+ * of its requests is brought to its end before the next one. No request fails. So each has the same verdict and the same bytes in both, and the disks
+ * are the same in the end. */
 #include <stdlib.h>
 #include <string.h>
 #include "driver.h"

@@ -34,11 +34,11 @@ static void store(uint64_t addr, uint64_t value, size_t width)
 /* RAM comes back. The log of each slot names its pages from its own first one on, and none of the hole. */
 static void name_written(vmig_machine *m)
 {
-    vmig_pages pages = VMIG_NO_PAGES;
+    vmig_pages pages = vmig_bitmap(low_log, LOW_PAGES / 64);
 
-    pages.words = low_log, pages.count_words = LOW_PAGES / 64, pages.first = 0, pages.span = LOW_PAGES;
+    pages.span = LOW_PAGES;
     expect("the low slot's", vmig_give_back(m, &ram, &pages), VMIG_OK);
-    pages.words = high_log, pages.count_words = HIGH_PAGES / 64, pages.first = HIGH_FIRST, pages.span = HIGH_PAGES;
+    pages = vmig_bitmap(high_log, HIGH_PAGES / 64), pages.first = HIGH_FIRST, pages.span = HIGH_PAGES;
     expect("the high slot's", vmig_mark(m, &pages), VMIG_OK);
     memset(low_log, 0, sizeof low_log);
     memset(high_log, 0, sizeof high_log);

@@ -114,13 +114,13 @@ static void give_back_listed(struct host *h)
 static void give_back_by_bitmaps(struct host *h)
 {
     uint32_t first = page_of(EDGES[1]);
-    vmig_pages pages = VMIG_NO_PAGES;
+    vmig_pages pages = vmig_bitmap(words, first / 64);
 
     lend(h);
     for (size_t i = 0; i < h->count; i++) words[h->list[i] / 64] |= UINT64_C(1) << h->list[i] % 64;
-    pages.words = words, pages.count_words = first / 64, pages.span = first;
+    pages.span = first;
     expect("a bitmap", vmig_give_back(&h->machine, &h->ram, &pages), VMIG_OK);
-    pages.words = words + first / 64, pages.count_words = WORDS - first / 64, pages.first = first, pages.span = PAGES - first;
+    pages = vmig_bitmap(words + first / 64, WORDS - first / 64), pages.first = first, pages.span = PAGES - first;
     expect("the one of the slot above", vmig_mark(&h->machine, &pages), VMIG_OK);
     for (size_t i = 0; i < h->count; i++) words[h->list[i] / 64] = 0;
     h->count = 0;

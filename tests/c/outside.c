@@ -1,5 +1,5 @@
 /* Disks outside: what is asked of them and by which call, what an answer does, what is refused while a call is out, and in which state of the
- * machine. Every status of the three calls is met here. */
+ * machine. Every status of their calls is met here. */
 #include <stdlib.h>
 #include "driver.h"
 
@@ -427,36 +427,206 @@ static void sent(void)
     vmig_free(&g.m);
 }
 
-/* With RAM that is lent registers are served, and no call is handed out or answered. */
+/* While RAM is lent no call is handed out, and none that is a read is done. */
+static void refused_lent(struct guest *g, uint64_t read)
+{
+    none_asked(g, "it is lent", VMIG_LENT, sizeof buf);
+    none_asked(g, "also without room", VMIG_LENT, 0);
+    expect("a read", vmig_disk_done(&g->m, read, 1, bytes, SECTOR), VMIG_LENT);
+    expect("before its count", vmig_disk_done(&g->m, read, 0, bytes, 1), VMIG_LENT);
+    expect("no such number", vmig_disk_done(&g->m, read + 50, 1, bytes, SECTOR), VMIG_NOT_OUT);
+    expect("no such number", vmig_disk_failed(&g->m, read + 50), VMIG_NOT_OUT);
+    expect("a reset", write_status(g, 0x070, 0), VMIG_CALLS_OUT);
+    expect("of the machine", vmig_reset(&g->m), VMIG_CALLS_OUT);
+    expect("a kick", write_status(g, 0x050, 0), VMIG_OK);
+}
+
+static void begin_over(struct guest *g, uint8_t *ram, size_t len)
+{
+    vmig_setup setup = VMIG_SETUP;
+
+    *g = (struct guest){VMIG_NONE, 0};
+    setup.shapes = disks, setup.count = 1, setup.ram = (vmig_ram){ram, len};
+    expect("make", vmig_make(&setup, &g->m), VMIG_OK);
+    set_up_with(&g->m, 1, ZEROES_FEATURE | FLUSH_FEATURE);
+}
+
+/* Writes, clearings and flushes are answered while RAM is lent, and a failure of each call. */
 static void lent(void)
 {
     static uint8_t ram[PAGES * 4096];
-    struct guest g = {VMIG_NONE, 0};
-    vmig_setup setup = VMIG_SETUP;
+    struct guest g;
     vmig_ram slot = VMIG_NO_RAM;
-    vmig_call call;
+    vmig_call read, write, clear, flush;
 
-    setup.shapes = disks, setup.count = 1, setup.ram = (vmig_ram){ram, sizeof ram};
-    expect("make", vmig_make(&setup, &g.m), VMIG_OK);
-    set_up_with(&g.m, 1, 0);
-    request(&g, IN, 3, 2);
+    begin_over(&g, ram, sizeof ram);
+    request(&g, IN, 3, 2), request(&g, OUT, 9, 2), request(&g, ZEROES, 20, 3), request(&g, FLUSH, 0, 0);
     serve(&g.m);
-    call = asked(&g, VMIG_DISK_READ, 3, 2);
+    read = asked(&g, VMIG_DISK_READ, 3, 2), write = asked(&g, VMIG_DISK_WRITE, 9, 2);
+    clear = asked(&g, VMIG_DISK_CLEAR, 20, 3), flush = asked(&g, VMIG_DISK_FLUSH, 0, 0);
     for (int sending = 0; sending < 2; sending++) {
         if (sending) expect("begin", vmig_send_begin(&g.m), VMIG_OK);
         expect("lend", vmig_lend(&g.m, &slot), VMIG_OK);
-        not_there(&g, "it is lent", VMIG_LENT, call.number);
-        expect("a reset", write_status(&g, 0x070, 0), VMIG_CALLS_OUT);
-        expect("of the machine", vmig_reset(&g.m), VMIG_CALLS_OUT);
-        expect("a kick", write_status(&g, 0x050, 0), VMIG_OK);
+        refused_lent(&g, read.number);
+        if (sending) expect("a flush", done(&g, flush, 0), VMIG_OK);
+        expect("too many", done(&g, sending ? clear : write, 4), VMIG_TOO_LONG);
+        expect("a part", done(&g, sending ? clear : write, 1), VMIG_OK);
+        expect("once", done(&g, sending ? clear : write, 1), VMIG_NOT_OUT);
         expect("back", give_back_list(&g.m, &slot, NULL, 0), VMIG_OK);
     }
-    expect("done", done(&g, call, 2), VMIG_OK);
-    serve(&g.m);
+    write = asked(&g, VMIG_DISK_WRITE, 10, 1), clear = asked(&g, VMIG_DISK_CLEAR, 21, 2);
     expect("lend", vmig_lend(&g.m, &slot), VMIG_OK);
-    expect("a reset", write_status(&g, 0x070, 0), VMIG_OK);
+    expect("done", done(&g, write, 1), VMIG_OK);
+    expect("failed", vmig_disk_failed(&g.m, clear.number), VMIG_OK);
     expect("back", give_back_list(&g.m, &slot, NULL, 0), VMIG_OK);
-    expect("it ended well", result(&g, 0), GOOD);
+    expect("a read", done(&g, read, 2), VMIG_OK);
+    serve(&g.m);
+    for (uint32_t n = 0; n < 4; n++) expect("its verdict", result(&g, n), n == 2 ? FAILED : GOOD);
+    vmig_free(&g.m);
+}
+
+/* A driver resets its device while RAM is lent and calls are out: these are answered, the read as failed, and no RAM comes back for it. */
+static void reset_lent(void)
+{
+    static uint8_t ram[PAGES * 4096];
+    struct guest g;
+    vmig_ram slot = VMIG_NO_RAM;
+    vmig_call read, write;
+
+    begin_over(&g, ram, sizeof ram);
+    request(&g, IN, 3, 2), request(&g, OUT, 9, 1);
+    serve(&g.m);
+    read = asked(&g, VMIG_DISK_READ, 3, 2), write = asked(&g, VMIG_DISK_WRITE, 9, 1);
+    expect("lend", vmig_lend(&g.m, &slot), VMIG_OK);
+    expect("a reset", write_status(&g, 0x070, 0), VMIG_CALLS_OUT);
+    expect("a write", done(&g, write, 1), VMIG_OK);
+    expect("a reset", write_status(&g, 0x070, 0), VMIG_CALLS_OUT);
+    expect("a read", vmig_disk_failed(&g.m, read.number), VMIG_OK);
+    expect("a reset", write_status(&g, 0x070, 0), VMIG_OK);
+    expect("it is reset", read_reg(&g.m, 0x070), 0);
+    expect("none is out", out_of(&g), 0);
+    expect("back", give_back_list(&g.m, &slot, NULL, 0), VMIG_OK);
+    expect("no verdict", result(&g, 0) == NO_ANSWER && result(&g, 1) == NO_ANSWER, 1);
+    vmig_free(&g.m);
+}
+
+/* ---- numbers, and what waits ----------------------------------------------------------------------------------------------------- */
+
+/* Numbers count up from the first one, and at 2^64 - 1 none is handed out. */
+static void numbers(uint64_t from, uint32_t left)
+{
+    struct guest g = {VMIG_NONE, 0};
+    vmig_setup setup = VMIG_SETUP;
+    uint8_t dev = 77, pick = 77;
+
+    setup.pages = PAGES, setup.shapes = disks, setup.count = 1, setup.calls_from = from;
+    expect("make", vmig_make(&setup, &g.m), VMIG_OK);
+    expect("the setup is as it was", setup.calls_from, from);
+    set_up_with(&g.m, 1, 0);
+    for (uint32_t n = 0; n < 4; n++) request(&g, IN, 4 * n, 1);
+    serve(&g.m);
+    for (uint32_t n = 0; n < 4 && n < left; n++) {
+        vmig_call call = asked(&g, VMIG_DISK_READ, 4 * n, 1);
+        expect("its number", call.number, from + n);
+        expect("the one before the first", vmig_disk_failed(&g.m, from - 1), VMIG_NOT_OUT);
+        expect("the next one", vmig_disk_failed(&g.m, call.number + 1), VMIG_NOT_OUT);
+    }
+    none_asked(&g, "numbers are used up, or all are out", VMIG_IDLE, sizeof buf);
+    expect("nothing is named", vmig_next(&g.m, &dev, &pick), VMIG_IDLE);
+    expect("both are as they were", dev == 77 && pick == 77, 1);
+    expect("the last one is none", vmig_disk_failed(&g.m, UINT64_MAX), VMIG_NOT_OUT);
+    vmig_free(&g.m);
+}
+
+/* A machine that arrives has numbers of its own too. */
+static void numbers_there(void)
+{
+    struct guest g, came = {VMIG_NONE, 0};
+    vmig_arrival arrival = VMIG_ARRIVAL;
+    vmig_call call;
+    size_t len = 0;
+
+    begin(&g, 0, 0, 0);
+    request(&g, IN, 3, 2);
+    serve(&g.m);
+    call = asked(&g, VMIG_DISK_READ, 3, 2);
+    expect("save", vmig_save(&g.m, stream, sizeof stream, &len), VMIG_OK);
+    arrival.most_pages = PAGES, arrival.most_outside = SECTORS, arrival.calls_from = UINT64_C(5) << 40;
+    expect("arrive", vmig_arrive(&arrival, &came.m), VMIG_OK);
+    expect("feed", vmig_feed(&came.m, stream, len), VMIG_WHOLE);
+    expect("finish", vmig_finish(&came.m), VMIG_OK);
+    expect("its number", asked(&came, VMIG_DISK_READ, 3, 2).number, UINT64_C(5) << 40);
+    expect("that of the other", done(&came, call, 2), VMIG_NOT_OUT);
+    expect("is the other's", done(&g, call, 2), VMIG_OK);
+    vmig_free(&came.m);
+    vmig_free(&g.m);
+}
+
+static void is_next(struct guest *g, const char *what, vmig_status status)
+{
+    uint8_t dev = 5, pick = 6;
+
+    expect(what, vmig_next(&g->m, &dev, &pick), status);
+    expect("its device", dev, status == VMIG_IDLE ? 5 : 0);
+    if (status == VMIG_CALL) expect("the pick is as it was", pick, 6);
+}
+
+/* What waits to be asked is named, in each state in which it may be: also while RAM is lent, where it is not handed out. */
+static void named(void)
+{
+    static uint8_t ram[PAGES * 4096];
+    struct guest g;
+    vmig_ram slot = VMIG_NO_RAM;
+    vmig_call call;
+
+    begin_over(&g, ram, sizeof ram);
+    is_next(&g, "nothing", VMIG_IDLE);
+    request(&g, OUT, 3, 2), request(&g, OUT, 4, 1);
+    is_next(&g, "a step", VMIG_WORK);
+    serve(&g.m);
+    is_next(&g, "a call", VMIG_CALL);
+    is_next(&g, "it was not handed out", VMIG_CALL);
+    expect("begin", vmig_send_begin(&g.m), VMIG_OK);
+    is_next(&g, "of one that is sent", VMIG_CALL);
+    expect("lend", vmig_lend(&g.m, &slot), VMIG_OK);
+    is_next(&g, "while it is lent", VMIG_CALL);
+    expect("back", give_back_list(&g.m, &slot, NULL, 0), VMIG_OK);
+    call = asked(&g, VMIG_DISK_WRITE, 3, 2);
+    is_next(&g, "the other waits for the answer", VMIG_IDLE);
+    expect("lend", vmig_lend(&g.m, &slot), VMIG_OK);
+    expect("a part", done(&g, call, 1), VMIG_OK);
+    is_next(&g, "the rest", VMIG_CALL);
+    expect("back", give_back_list(&g.m, &slot, NULL, 0), VMIG_OK);
+    call = asked(&g, VMIG_DISK_WRITE, 4, 1);
+    expect("done", done(&g, call, 1), VMIG_OK);
+    is_next(&g, "a step ends it", VMIG_WORK);
+    vmig_free(&g.m);
+}
+
+/* The calls that are out, of which the oldest are listed. */
+static void listed(void)
+{
+    struct guest g = {VMIG_NONE, 0};
+    vmig_call calls[3], out[3];
+    size_t count = 77;
+
+    expect("of no machine", vmig_calls_out(&g.m, calls, 3, &count), VMIG_NO_MACHINE);
+    begin(&g, 0, 0, 0);
+    for (uint32_t n = 0; n < 3; n++) request(&g, n == 1 ? OUT : IN, 4 * n, 1 + n);
+    serve(&g.m);
+    expect("none", vmig_calls_out(&g.m, NULL, 0, &count), VMIG_OK);
+    expect("none", count, 0);
+    for (uint32_t n = 0; n < 3; n++) out[n] = asked(&g, n == 1 ? VMIG_DISK_WRITE : VMIG_DISK_READ, 4 * n, 1 + n);
+    for (size_t size = 0; size <= 3; size++) {
+        for (size_t n = 0; n < 3; n++) calls[n] = no_call();
+        expect("calls", vmig_calls_out(&g.m, calls, size, &count), VMIG_OK);
+        expect("all are counted", count, 3);
+        expect("the oldest", (uint64_t)memcmp(calls, out, size * sizeof *calls), 0);
+        if (size < 3) expect("the rest is as it was", calls[size].number, no_call().number);
+    }
+    expect("the second", done(&g, out[1], 2), VMIG_OK);
+    expect("calls", vmig_calls_out(&g.m, calls, 3, &count), VMIG_OK);
+    expect("two", count == 2 && calls[0].number == out[0].number && calls[1].number == out[2].number, 1);
     vmig_free(&g.m);
 }
 
@@ -541,12 +711,15 @@ static void kinds(void)
     expect("its features", read_reg(&m, 0x010) & RO_FEATURE, RO_FEATURE);
     expect("its sector", vmig_sector_read(&m, 0, 0, buf), VMIG_WRONG_KIND);
     expect("of the other", vmig_sector_read(&m, 1, 0, buf), VMIG_OK);
-    expect("it has none to lose", vmig_sync_failed(&m, 0), VMIG_WRONG_KIND);
+    expect("none is lost", description_of(&m).lost, 0);
+    expect("a lost disk", vmig_sync_failed(&m, 0), VMIG_OK);
+    expect("it is lost", description_of(&m).lost, 1);
     expect("nothing is dropped", vmig_drop(&m, 0), VMIG_WRONG_KIND);
     expect("nothing is put in", vmig_input(&m, 0, sector, 1, &number), VMIG_WRONG_KIND);
     expect("no room", vmig_room(&m, 0, &number), VMIG_WRONG_KIND);
     expect("no number", number, 77);
     expect("its reset", vmig_reset(&m), VMIG_OK);
+    expect("it is lost for good", description_of(&m).lost, 1);
     vmig_free(&m);
 }
 
@@ -564,6 +737,14 @@ int main(void)
     nobody_waits();
     sent();
     lent();
+    reset_lent();
+    numbers(0, 4);
+    numbers(UINT64_C(3) << 40, 4);
+    numbers(UINT64_MAX - 2, 2);
+    numbers(UINT64_MAX, 0);
+    numbers_there();
+    named();
+    listed();
     arrivals();
     kinds();
     return ended("outside");

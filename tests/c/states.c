@@ -172,6 +172,10 @@ static vmig_status room_of(vmig_machine *m, int bad) { size_t left; return vmig_
 static vmig_status resize(vmig_machine *m, int bad) { return vmig_resize(m, device(bad, CONSOLE), 1, 1); }
 static vmig_status drop(vmig_machine *m, int bad) { return vmig_drop(m, bad ? DISK : ENTROPY); }
 static vmig_status reset(vmig_machine *m, int bad) { (void)bad; return vmig_reset(m); }
+static vmig_status disk_call(vmig_machine *m, int bad) { vmig_call call; return vmig_disk_call(m, &call, bytes, bad ? 0 : sizeof bytes); }
+static vmig_status disk_done(vmig_machine *m, int bad) { return vmig_disk_done(m, 5, bad ? 0 : 1, bytes, bad ? 1 : 512); }
+static vmig_status disk_failed(vmig_machine *m, int bad) { return vmig_disk_failed(m, (uint64_t)bad); }
+static vmig_status calls_out(vmig_machine *m, int bad) { size_t count; vmig_call call; return vmig_calls_out(m, &call, bad ? 0 : 1, &count); }
 static vmig_status sync_failed(vmig_machine *m, int bad) { return vmig_sync_failed(m, bad ? CONSOLE : DISK); }
 static vmig_status sector_read(vmig_machine *m, int bad) { return vmig_sector_read(m, DISK, bad ? 7 : 0, bytes); }
 static vmig_status save(vmig_machine *m, int bad) { size_t len; return vmig_save(m, bytes, bad ? 0 : sizeof bytes, &len); }
@@ -224,12 +228,16 @@ static const Row ROWS[] = {
     {"vmig_push", push, OF_RAM(VMIG_OK)},
     {"vmig_mark", mark, OF_RAM(VMIG_OK)},
     {"vmig_sync_failed", sync_failed, OF_GUEST(VMIG_OK)},
+    {"vmig_disk_call", disk_call, OF_RAM(VMIG_IDLE)},
+    {"vmig_disk_done", disk_done, OF_GUEST(VMIG_NOT_OUT)},
+    {"vmig_disk_failed", disk_failed, OF_GUEST(VMIG_NOT_OUT)},
     {"vmig_written", written,
      {NO_MACHINE_YET, VMIG_NOT_KNOWN, VMIG_NOT_KNOWN, VMIG_NOT_KNOWN, VMIG_NOT_KNOWN, VMIG_NOT_KNOWN, VMIG_NOT_KNOWN, VMIG_NOT_KNOWN}},
     {"vmig_lend", lend, OF_RAM(VMIG_OK)},
     {"vmig_ram_read", ram_read, OF_LOOK(VMIG_OK)},
     {"vmig_pull", pull, OF_LOOK(VMIG_OK)},
     {"vmig_room", room_of, {NO_MACHINE_YET, VMIG_OK, VMIG_OK, VMIG_OK, VMIG_OK, VMIG_OK, VMIG_OK, VMIG_OK}},
+    {"vmig_calls_out", calls_out, {NO_MACHINE_YET, VMIG_OK, VMIG_OK, VMIG_OK, VMIG_OK, VMIG_OK, VMIG_OK, VMIG_OK}},
     {"vmig_give_back", give_back,
      {NO_MACHINE_YET, VMIG_NOT_LENT, VMIG_NOT_LENT, VMIG_NOT_LENT, VMIG_NOT_LENT, VMIG_OK, VMIG_OK, VMIG_OK}},
     {"vmig_sector_read", sector_read, OF_IDLE},

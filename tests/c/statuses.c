@@ -202,8 +202,8 @@ static void shapes_of(void)
         {.kind = VMIG_BLOCK, .sectors = 1, .frame = 1}, {.kind = VMIG_BLOCK, .sectors = 1, .reserved = {0, 1}},
         {.kind = VMIG_CONSOLE, .sectors = 1}, {.kind = VMIG_CONSOLE, .mac = {0, 0, 0, 0, 0, 1}},
         {.kind = VMIG_ENTROPY, .id = {[19] = 1}}, {.kind = VMIG_ENTROPY, .read_only = 1}, {.kind = VMIG_ENTROPY, .reserved = {1}},
-        {.kind = VMIG_NETWORK, .sectors = 1}, {.kind = VMIG_NETWORK, .id = {1}}, {.kind = VMIG_NETWORK, .frame = 1514},
-        {.kind = VMIG_NETWORK, .read_only = 1}};
+        {.kind = VMIG_NETWORK, .sectors = 1}, {.kind = VMIG_NETWORK, .id = {1}}, {.kind = VMIG_NETWORK, .frame = 1513},
+        {.kind = VMIG_NETWORK, .frame = 1515}, {.kind = VMIG_CONSOLE, .frame = 1514}, {.kind = VMIG_NETWORK, .read_only = 1}};
     vmig_shape many[17] = {{.kind = VMIG_ENTROPY}};
     vmig_machine m = VMIG_NONE;
     vmig_arrival arrival = VMIG_ARRIVAL;
@@ -503,18 +503,31 @@ static void lending(vmig_machine *m)
     expect("a call of a lent machine", vmig_send_begin(m), VMIG_LENT);
 }
 
+/* A bitmap of a part of RAM, and pages beside a list. */
+static vmig_pages part_of(const uint64_t *words, uint32_t first, uint32_t span)
+{
+    vmig_pages pages = vmig_bitmap(words, 1);
+
+    pages.first = first, pages.span = span;
+    return pages;
+}
+
+static vmig_pages and_list(vmig_pages pages, const uint32_t *list, size_t count)
+{
+    pages.list = list, pages.count = count;
+    return pages;
+}
+
 /* Pages that no call takes, each with this status. RAM has two pages. */
 static void refused_pages(vmig_machine *m, vmig_ram *ram)
 {
     static const uint32_t list[] = {1, 2};
     static const uint64_t words[] = {~(uint64_t)0};
-    static const struct { vmig_pages pages; vmig_status status; } cases[] = {
-        {{.zero = 1}, VMIG_NOT_KNOWN}, {{.reserved = {1}}, VMIG_NOT_KNOWN}, {{.reserved = {0, 1}}, VMIG_NOT_KNOWN},
-        {{.all = 2}, VMIG_NOT_KNOWN}, {{.list = list, .count = 2}, VMIG_OUT_OF_RAM}, {{.list = list, .count = 2, .all = 1}, VMIG_OUT_OF_RAM},
-        {{.words = words, .count_words = 1, .span = 65}, VMIG_TOO_SMALL}, {{.words = words, .count_words = 1, .span = 3}, VMIG_OUT_OF_RAM},
-        {{.words = words, .count_words = 1, .first = 1, .span = 2}, VMIG_OUT_OF_RAM},
-        {{.words = words, .count_words = 1, .first = 3}, VMIG_OUT_OF_RAM},
-        {{.words = words, .count_words = 1, .first = UINT32_MAX, .span = UINT32_MAX}, VMIG_TOO_SMALL}};
+    const struct { vmig_pages pages; vmig_status status; } cases[] = {
+        {{.zero = 1}, VMIG_NOT_KNOWN}, {{.reserved = {1}}, VMIG_NOT_KNOWN}, {{.reserved = {0, 1}}, VMIG_NOT_KNOWN}, {{.all = 2}, VMIG_NOT_KNOWN},
+        {vmig_list(list, 2), VMIG_OUT_OF_RAM}, {and_list((vmig_pages)VMIG_ALL_PAGES, list, 2), VMIG_OUT_OF_RAM},
+        {part_of(words, 0, 65), VMIG_TOO_SMALL}, {part_of(words, 0, 3), VMIG_OUT_OF_RAM}, {part_of(words, 1, 2), VMIG_OUT_OF_RAM},
+        {part_of(words, 3, 0), VMIG_OUT_OF_RAM}, {part_of(words, UINT32_MAX, UINT32_MAX), VMIG_TOO_SMALL}};
     uint8_t byte = 77;
     vmig_ram less = {room, 4096};
 
@@ -531,10 +544,10 @@ static void giving_back(vmig_machine *m)
 {
     static const uint32_t list[] = {0, 0};
     static const uint64_t words[] = {~(uint64_t)1, ~(uint64_t)0};
-    static const vmig_pages done[] = {
-        {.all = 1}, {.words = words, .count_words = 1}, {.words = words, .count_words = 2}, {.words = words, .count_words = 1, .span = 2},
-        {.words = words, .count_words = 1, .first = 1, .span = 1}, {.words = words, .count_words = 1, .first = 2},
-        {.list = list, .count = 2, .words = words, .count_words = 1}, {.list = list, .count = 2, .all = 1}};
+    const vmig_pages all = VMIG_ALL_PAGES;
+    const vmig_pages done[] = {
+        all, vmig_bitmap(words, 1), vmig_bitmap(words, 2), part_of(words, 0, 2), part_of(words, 1, 1), part_of(words, 2, 0),
+        and_list(vmig_bitmap(words, 1), list, 2), and_list(all, list, 2)};
     vmig_machine none = VMIG_NONE;
     vmig_ram ram = {room, sizeof room}, less = {room, 4096};
 
@@ -559,10 +572,9 @@ static void names_pages(vmig_machine *m)
 {
     static const uint32_t list[] = {1};
     static const uint64_t both[] = {3}, high[] = {2};
-    static const struct { vmig_pages pages; uint64_t dirty; } cases[] = {
-        {{.count = 0}, 0}, {{.list = list, .count = 1}, 1}, {{.words = both, .count_words = 1}, 2}, {{.words = high, .count_words = 1}, 1},
-        {{.words = both, .count_words = 1, .span = 1}, 1}, {{.words = high, .count_words = 1, .span = 1}, 0},
-        {{.words = both, .count_words = 1, .first = 1}, 1}, {{.list = list, .count = 1, .words = high, .count_words = 1}, 1}, {{.all = 1}, 2}};
+    const struct { vmig_pages pages; uint64_t dirty; } cases[] = {
+        {VMIG_NO_PAGES, 0}, {vmig_list(list, 1), 1}, {vmig_bitmap(both, 1), 2}, {vmig_bitmap(high, 1), 1}, {part_of(both, 0, 1), 1},
+        {part_of(high, 0, 1), 0}, {part_of(both, 1, 0), 1}, {and_list(vmig_bitmap(high, 1), list, 1), 1}, {VMIG_ALL_PAGES, 2}};
     vmig_ram ram = VMIG_NO_RAM;
     vmig_left left;
 

@@ -80,13 +80,13 @@ static void run_lent(void)
 {
     uint32_t list[8], value;
     uint8_t byte = (uint8_t)draw(256);
-    vmig_pages pages = VMIG_NO_PAGES, none = VMIG_NO_PAGES;
+    vmig_pages pages, none = VMIG_NO_PAGES;
     int is_marked = draw(2) == 0;
-    size_t kept;
+    size_t kept, count = 0;
 
-    pages.list = list;
     BOTH("lend", vmig_lend(&h->machine, &h->ram), VMIG_OK);
-    for (uint32_t acts = draw(8); pages.count < acts; take_some()) list[pages.count++] = store();
+    for (uint32_t acts = draw(8); count < acts; take_some()) list[count++] = store();
+    pages = vmig_list(list, count);
     BOTH("input while it is lent", vmig_input(&h->machine, ENTROPY, &byte, 1, &kept), VMIG_OK);
     BOTH("register while it is lent", vmig_reg_read(&h->machine, BLOCK, 0x060, 4, &value), VMIG_OK);
     BOTH("give back", vmig_give_back(&h->machine, &h->ram, is_marked ? &none : &pages), VMIG_OK);

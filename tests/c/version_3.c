@@ -382,13 +382,13 @@ static struct reader read_by_rules(const struct stream *s, uint32_t longest_allo
 
 /* ---- what the library answers ----------------------------------------------------------------------------------------------------- */
 
-/* A machine of one page without a disk may arrive, with frames of so many bytes; 1,514 are what an arrival allows that names none. */
+/* A machine of one page without a disk may arrive, with frames of so many bytes. */
 static vmig_machine waiting(uint32_t longest, uint32_t flags)
 {
     vmig_arrival arrival = VMIG_ARRIVAL;
     vmig_machine m = VMIG_NONE;
 
-    arrival.most_pages = 1, arrival.frame = longest > USUAL ? longest : 0, arrival.flags = flags;
+    arrival.most_pages = 1, arrival.frame = longest, arrival.flags = flags;
     expect("arrive", vmig_arrive(&arrival, &m), VMIG_OK);
     return m;
 }
@@ -484,13 +484,13 @@ static void long_is_written(int is_packed)
     vmig_free(&m);
 }
 
-/* A machine without such a device is written as ever, whatever the flags are. */
-static void plain_is_written(uint32_t flags)
+/* A machine without such a device is written as ever, whatever the flags are, and whether its 1,514 bytes are said outright or not. */
+static void plain_is_written(uint32_t flags, uint32_t usual)
 {
-    static const vmig_shape shapes[] = {{.kind = VMIG_NETWORK, .mac = {2, 0, 0, 0, 0, 9}},
-                                        {.kind = VMIG_BLOCK, .sectors = 1, .read_only = 1, .id = "ABCDEFGHIJKLMNOPQRST"},
-                                        {.kind = VMIG_CONSOLE},
-                                        {.kind = VMIG_ENTROPY}};
+    const vmig_shape shapes[] = {{.kind = VMIG_NETWORK, .mac = {2, 0, 0, 0, 0, 9}, .frame = usual},
+                                 {.kind = VMIG_BLOCK, .sectors = 1, .read_only = 1, .id = "ABCDEFGHIJKLMNOPQRST"},
+                                 {.kind = VMIG_CONSOLE},
+                                 {.kind = VMIG_ENTROPY}};
     struct stream s = plain_stream(), frames = {.len = 0};
     vmig_setup setup = VMIG_SETUP;
     vmig_machine m = VMIG_NONE;
@@ -498,6 +498,7 @@ static void plain_is_written(uint32_t flags)
 
     setup.pages = 1, setup.shapes = shapes, setup.count = 4, setup.flags = flags;
     expect("make", vmig_make(&setup, &m), VMIG_OK);
+    expect("it is described without it", description_of(&m).shapes[0].frame, 0);
     frame(&frames, 0, 14);
     expect("a frame", vmig_input(&m, 0, frames.bytes + 2, 14, &kept), VMIG_OK);
     is_written(&m, &s);
@@ -553,6 +554,7 @@ static void headers(void)
     is_refused(&other, USUAL, 0, ROW, VMIG_STREAM_BAD_SHAPE);
     is_refused(&plain, LONGEST, VMIG_LARGE, PLAIN, VMIG_STREAM_BAD_VERSION);
     is_refused(&plain, USUAL, 0, 8, VMIG_STREAM_BAD_VERSION);
+    is_refused(&plain, 0, 0, 8, VMIG_STREAM_BAD_VERSION);
     is_announced(&today, VMIG_OK, USUAL);
     is_announced(&other, VMIG_STREAM_BAD_SHAPE, 0);
     is_announced(&plain, VMIG_STREAM_BAD_VERSION, 0);
@@ -569,8 +571,10 @@ static void rows(uint32_t allowed)
     for (size_t i = 0; i < sizeof longest / sizeof *longest; i++) {
         struct stream s = header_of(3, 129, longest[i]);
         is_announced(&s, longest[i] <= USUAL ? VMIG_STREAM_BAD_SHAPE : VMIG_OK, longest[i]);
-        is_refused(&s, USUAL, 0, 8, VMIG_STREAM_BAD_VERSION);
-        is_refused(&s, USUAL, VMIG_LARGE, 8, VMIG_STREAM_BAD_VERSION);
+        for (uint32_t flags = 0; flags <= VMIG_LARGE; flags++) {
+            is_refused(&s, 0, flags, 8, VMIG_STREAM_BAD_VERSION);
+            is_refused(&s, USUAL, flags, 8, VMIG_STREAM_BAD_VERSION);
+        }
         if (longest[i] <= USUAL) is_refused(&s, allowed, VMIG_LARGE, LONG, VMIG_STREAM_BAD_SHAPE);
         else if (longest[i] > allowed) is_refused(&s, allowed, VMIG_LARGE, LONG, VMIG_STREAM_TOO_LARGE);
         else is_answered("a frame that is allowed", &s, allowed, 0);
@@ -583,8 +587,9 @@ static void names(void)
     static const struct {
         uint32_t frame, flags;
         vmig_status arrives, shapes;
-    } cases[] = {{0, 0, VMIG_OK, VMIG_OK}, {1, VMIG_LARGE, VMIG_NOT_KNOWN, VMIG_BAD_SHAPE}, {1514, VMIG_LARGE, VMIG_NOT_KNOWN, VMIG_BAD_SHAPE},
-                 {1515, VMIG_LARGE, VMIG_OK, VMIG_OK}, {1515, 0, VMIG_NOT_KNOWN, VMIG_BAD_SHAPE},
+    } cases[] = {{0, 0, VMIG_OK, VMIG_OK}, {1, VMIG_LARGE, VMIG_NOT_KNOWN, VMIG_BAD_SHAPE}, {1513, VMIG_LARGE, VMIG_NOT_KNOWN, VMIG_BAD_SHAPE},
+                 {1513, 0, VMIG_NOT_KNOWN, VMIG_BAD_SHAPE}, {1514, 0, VMIG_OK, VMIG_OK}, {1514, VMIG_LOG, VMIG_OK, VMIG_OK},
+                 {1514, VMIG_LARGE, VMIG_OK, VMIG_OK}, {1515, VMIG_LARGE, VMIG_OK, VMIG_OK}, {1515, 0, VMIG_NOT_KNOWN, VMIG_BAD_SHAPE},
                  {1515, VMIG_LOG, VMIG_NOT_KNOWN, VMIG_BAD_SHAPE}, {65535, VMIG_LARGE | VMIG_LOG, VMIG_OK, VMIG_OK},
                  {65536, VMIG_LARGE, VMIG_NOT_KNOWN, VMIG_BAD_SHAPE}, {65536 + 1515, VMIG_LARGE, VMIG_NOT_KNOWN, VMIG_BAD_SHAPE},
                  {UINT32_MAX, VMIG_LARGE, VMIG_NOT_KNOWN, VMIG_BAD_SHAPE}};
@@ -604,26 +609,39 @@ static void names(void)
         expect("of a console", vmig_make(&setup, &m), cases[i].frame == 0 ? VMIG_OK : VMIG_BAD_SHAPE);
         vmig_free(&m);
         shaped.shapes = &shape, shaped.count = 1;
-        expect("of an arrival that names no frame", vmig_arrive(&shaped, &m), cases[i].frame == 0 ? VMIG_OK : VMIG_BAD_SHAPE);
+        expect("of an arrival that names no frame", vmig_arrive(&shaped, &m), cases[i].shapes);
         vmig_free(&m);
     }
 }
 
-/* The devices that are expected: one of another longest frame is another device. */
+/* An arrival of these flags that expects a network device of one longest frame, and allows another, is fed a header. */
+static void expects_device(const struct stream *s, uint32_t expected, uint32_t allowed, uint32_t flags, vmig_status wanted)
+{
+    vmig_shape shape = {.kind = VMIG_NETWORK, .mac = {2, 0, 0, 0, 0, 9}, .frame = expected};
+    vmig_arrival arrival = VMIG_ARRIVAL;
+    vmig_machine m = VMIG_NONE;
+
+    arrival.most_pages = 1, arrival.flags = flags, arrival.frame = allowed, arrival.shapes = &shape, arrival.count = 1;
+    expect("arrive", vmig_arrive(&arrival, &m), VMIG_OK);
+    expect("its header", vmig_feed(&m, s->bytes, s->len), wanted);
+    vmig_free(&m);
+}
+
+/* The devices that are expected: one of another longest frame is another device. As long frames as one of them has are allowed, and as the
+ * arrival names: the most of both. */
 static void expects(void)
 {
-    static const uint32_t longest[] = {0, 1518, 9017, 9018};
-    struct stream s = header_of(3, 129, LONGEST);
+    static const uint32_t longest[] = {0, USUAL, 1518, LONGEST - 1, LONGEST, LONGEST + 1, 65535};
+    struct stream s = header_of(3, 129, LONGEST), plain = header_of(2, 1, USUAL);
 
-    for (size_t i = 0; i < sizeof longest / sizeof *longest; i++) {
-        vmig_shape shape = {.kind = VMIG_NETWORK, .mac = {2, 0, 0, 0, 0, 9}, .frame = longest[i]};
-        vmig_arrival arrival = VMIG_ARRIVAL;
-        vmig_machine m = VMIG_NONE;
-        arrival.most_pages = 1, arrival.flags = VMIG_LARGE, arrival.frame = LONGEST, arrival.shapes = &shape, arrival.count = 1;
-        expect("arrive", vmig_arrive(&arrival, &m), VMIG_OK);
-        expect("its header", vmig_feed(&m, s.bytes, s.len), longest[i] == LONGEST ? VMIG_OK : VMIG_STREAM_MISMATCH);
-        vmig_free(&m);
-    }
+    for (size_t i = 0; i < sizeof longest / sizeof *longest; i++)
+        for (size_t k = 0; k < sizeof longest / sizeof *longest; k++) {
+            uint32_t most = longest[i] > longest[k] ? longest[i] : longest[k];
+            vmig_status other = longest[i] == LONGEST ? VMIG_OK : VMIG_STREAM_MISMATCH, allowed = most < LONGEST ? VMIG_STREAM_TOO_LARGE : other;
+            expects_device(&s, longest[i], longest[k], VMIG_LARGE, most <= USUAL ? VMIG_STREAM_BAD_VERSION : allowed);
+            expects_device(&plain, longest[i], longest[k], VMIG_LARGE, longest[i] <= USUAL ? VMIG_OK : VMIG_STREAM_MISMATCH);
+            if (most <= USUAL) expects_device(&plain, longest[i], longest[k], 0, VMIG_OK);
+        }
 }
 
 int main(void)
@@ -633,8 +651,10 @@ int main(void)
         long_is_written(is_packed);
         is_read_by_the_rules(&s, LONGEST);
     }
-    plain_is_written(0);
-    plain_is_written(VMIG_LARGE);
+    for (uint32_t flags = 0; flags <= VMIG_LARGE; flags++) {
+        plain_is_written(flags, 0);
+        plain_is_written(flags, USUAL);
+    }
     headers();
     rows(9018);
     rows(1515);

@@ -182,6 +182,77 @@ static void touch_nothing_in_each_state(void)
     munmap(ram, sizeof room);
 }
 
+/* ---- disks outside ------------------------------------------------------------------------------------------------------------- */
+
+enum { HEADER = 0x7000, VERDICT = 0x7800, ASKED = 4, WRITE_ZEROES = 1 << 14 };
+
+/* The driver asks its disk for a read, a write, a clearing and a flush, of a sector of its own each. */
+static void ask_four(vmig_machine *m)
+{
+    static const uint32_t types[ASKED] = {0, 1, 13, 4};
+
+    set_up_with(m, 1, WRITE_ZEROES);
+    for (uint32_t n = 0; n < ASKED; n++) {
+        uint32_t header = HEADER + 0x40 * n, bytes = DATA + 0x400 * n, base = 3 * n, is_flush = types[n] == 4, is_clear = types[n] == 13;
+        put(m, header, types[n], 8);
+        put(m, header + 8, is_flush || is_clear ? 0 : n, 8);
+        put(m, bytes, n, 8);
+        put(m, bytes + 8, 1, 8);
+        put(m, VERDICT + n, 0xff, 1);
+        describe(m, 0, base, header, 16, HAS_NEXT, is_flush ? base + 2 : base + 1);
+        describe(m, 0, base + 1, bytes, is_clear ? 16 : 512, HAS_NEXT | (types[n] == 0 ? WRITABLE : 0), base + 2);
+        describe(m, 0, base + 2, VERDICT + n, 1, WRITABLE, 0);
+        offer(m, 0, n + 1, base);
+    }
+    serve(m);
+}
+
+/* Calls of a disk outside are answered with RAM that nobody can read: all but a read, which waits, and is failed in the second round. */
+static void answer_without_ram(vmig_machine *m, int fails)
+{
+    static uint8_t sector[512];
+    vmig_call calls[ASKED], listed[ASKED];
+    vmig_ram out = VMIG_NO_RAM;
+    size_t count = 0;
+    uint8_t dev = 0, pick = 0;
+
+    ask_four(m);
+    for (uint32_t n = 0; n < ASKED; n++) expect("a call", vmig_disk_call(m, &calls[n], sector, sizeof sector), VMIG_CALL);
+    expect("lend", vmig_lend(m, &out), VMIG_OK);
+    expect("no access", mprotect(out.at, out.len, PROT_NONE) == 0, 1);
+    expect("those that are out", vmig_calls_out(m, listed, ASKED, &count), VMIG_OK);
+    expect("are listed", count == ASKED && memcmp(listed, calls, sizeof calls) == 0, 1);
+    expect("all wait for an answer", vmig_next(m, &dev, &pick), VMIG_IDLE);
+    expect("a read", vmig_disk_done(m, calls[0].number, 1, sector, sizeof sector), VMIG_LENT);
+    for (uint32_t n = 1; n < ASKED; n++) expect("done", vmig_disk_done(m, calls[n].number, calls[n].count, NULL, 0), VMIG_OK);
+    if (fails) expect("failed", vmig_disk_failed(m, calls[0].number), VMIG_OK);
+    expect("a step ends one", vmig_next(m, &dev, &pick), VMIG_WORK);
+    expect("a lost disk", vmig_sync_failed(m, 0), VMIG_OK);
+    expect("access", mprotect(out.at, out.len, PROT_READ | PROT_WRITE) == 0, 1);
+    expect("give back", vmig_give_back(m, &out, &NONE), VMIG_OK);
+    if (!fails) expect("a read", vmig_disk_done(m, calls[0].number, 1, sector, sizeof sector), VMIG_OK);
+    serve(m);
+    for (uint32_t n = 0; n < ASKED; n++) expect("its verdict", get(m, VERDICT + n, 1), fails && n == 0 ? 1 : 0);
+}
+
+static void answer_in_each_state(void)
+{
+    static const vmig_shape shape = {.kind = VMIG_BLOCK_OUTSIDE, .sectors = 8};
+
+    for (int fails = 0; fails < 2; fails++) {
+        vmig_machine m = VMIG_NONE;
+        vmig_setup setup = VMIG_SETUP;
+        void *ram = mmap(NULL, sizeof room, PROT_READ | PROT_WRITE, MAP_PRIVATE | MAP_ANONYMOUS, -1, 0);
+        if (ram == MAP_FAILED) exit(2);
+        setup.ram = (vmig_ram){ram, sizeof room}, setup.shapes = &shape, setup.count = 1;
+        expect("make", vmig_make(&setup, &m), VMIG_OK);
+        if (fails) expect("begin", vmig_send_begin(&m), VMIG_OK);
+        answer_without_ram(&m, fails);
+        vmig_free(&m);
+        munmap(ram, sizeof room);
+    }
+}
+
 int main(void)
 {
     vmig_machine m = make_driven();
@@ -191,5 +262,6 @@ int main(void)
     send_lent(&m);
     vmig_free(&m);
     touch_nothing_in_each_state();
+    answer_in_each_state();
     return ended("while_lent");
 }

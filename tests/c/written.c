@@ -59,7 +59,7 @@ static void are_handed_out(void)
     expect("return", vmig_give_back(&m, &out, &named), VMIG_OK);
     expect("begin", vmig_send_begin(&m), VMIG_OK);
     write_at(&m, 9 * 4096, 4096);
-    named = (vmig_pages)VMIG_NO_PAGES, named.list = two, named.count = 2;
+    named = vmig_list(two, 2);
     expect("push", vmig_push(&m, &named, stream, RAM, seen, PAGES), VMIG_OK);
     pages_are("while sent", &m, 1, (const uint32_t[]){1}, 1);
     expect("stop", vmig_send_stop(&m, &pages, &sectors), VMIG_OK);
@@ -116,9 +116,9 @@ static void are_marked(void)
     expect("left while lent", vmig_send_left(&m, &left), VMIG_OK);
     expect("none is dirty", left.dirty_pages, 0);
     expect("return", vmig_give_back(&m, &out, &none), VMIG_OK);
-    named.list = &page, named.count = 1;
+    named = vmig_list(&page, 1);
     expect("no such page", vmig_mark(&m, &named), VMIG_OUT_OF_RAM);
-    named = none, named.words = &word, named.count_words = 1;
+    named = vmig_bitmap(&word, 1);
     expect("mark", vmig_mark(&m, &named), VMIG_OK);
     expect("left", vmig_send_left(&m, &left), VMIG_OK);
     expect("one is dirty", left.dirty_pages, 1);

@@ -7,12 +7,14 @@
 
 using vmig::lent;
 using vmig::machine;
+using vmig::pages;
 using vmig::status;
 
 static_assert(!std::is_copy_constructible_v<machine> && !std::is_copy_assignable_v<machine>);
 static_assert(std::is_nothrow_move_constructible_v<machine> && std::is_nothrow_move_assignable_v<machine>);
 static_assert(!std::is_copy_constructible_v<lent> && std::is_nothrow_move_constructible_v<lent>);
 static_assert(sizeof(machine) == sizeof(vmig_machine));
+static_assert(!std::is_constructible_v<pages, vmig_pages> && !std::is_default_constructible_v<pages>);
 
 namespace {
 
@@ -50,6 +52,8 @@ void without_ram(Handle &m, status wanted)
     EXPECT(m.reset(), wanted);
     EXPECT(m.next(&dev, &pick), wanted == status::ok ? status::idle : wanted);
     EXPECT(m.sync_failed(0), wanted == status::ok ? status::wrong_kind : wanted);
+    EXPECT(m.disk_failed(0), wanted == status::ok ? status::not_out : wanted);
+    EXPECT(m.disk_done(0, 0, nullptr, 0), wanted == status::ok ? status::not_out : wanted);
 }
 
 // And those that change RAM.
@@ -57,20 +61,20 @@ void in_state(machine &m, status wanted)
 {
     static std::uint8_t message[VMIG_SENT_MAX];
     const std::uint32_t first = 0;
-    vmig_pages named = VMIG_NO_PAGES;
+    const std::uint64_t marked = 1;
     vmig_turn turn = VMIG_TURN;
     std::uint32_t len = 0;
     std::uint8_t byte = 0;
 
-    named.list = &first, named.count = 1;
     without_ram(m, wanted);
     turn.left = 1;
     EXPECT(m.step(0, 0, &byte, 1, &len), wanted == status::ok ? status::idle : wanted);
     EXPECT(m.work(&turn, &byte, 1), wanted == status::ok ? status::too_small : wanted);
     EXPECT(m.work(&turn, message, sizeof message), wanted == status::ok ? status::idle : wanted);
     EXPECT(m.ram_write(0, &byte, 1), wanted);
-    EXPECT(m.mark(named), wanted);
-    EXPECT(m.push(vmig_pages VMIG_NO_PAGES, nullptr, 0, nullptr, 0), wanted == status::ok ? status::too_small : wanted);
+    EXPECT(m.mark(pages::list(&first, 1)), wanted);
+    EXPECT(m.mark(pages::bitmap(&marked, 1, 0, 1).and_list(&first, 1)), wanted);
+    EXPECT(m.push(pages::none(), nullptr, 0, nullptr, 0), wanted == status::ok ? status::too_small : wanted);
 }
 
 // Those that a machine that was stopped answers too, and one whose RAM is lent.
@@ -81,6 +85,7 @@ void looks(Handle &m, status wanted)
     std::uint32_t page = 0;
 
     EXPECT(m.room(0, &room), wanted);
+    EXPECT(m.calls_out(nullptr, 0, &count), wanted);
     EXPECT(m.written(&page, 1, &count), wanted);
     EXPECT(m.lines() == 0);
 }
@@ -100,7 +105,7 @@ void none()
 {
     machine m;
     lent loan;
-    std::uint64_t pages = 0, sectors = 0;
+    std::uint64_t copied = 0, sectors = 0;
     std::uint8_t sector[512] = {};
     std::size_t len = 0;
     vmig_left left;
@@ -113,7 +118,7 @@ void none()
     EXPECT(m.send_begin(), status::no_machine);
     EXPECT(m.send_some(1), status::no_machine);
     EXPECT(m.send_round(), status::no_machine);
-    EXPECT(m.send_stop(&pages, &sectors), status::no_machine);
+    EXPECT(m.send_stop(&copied, &sectors), status::no_machine);
     EXPECT(m.send_abort(), status::no_machine);
     EXPECT(m.send_take(sector, 1, &len), status::no_machine);
     EXPECT(m.send_left(&left), status::no_machine);
@@ -121,7 +126,7 @@ void none()
     EXPECT(m.feed(nullptr, 0), status::no_machine);
     EXPECT(m.finish(), status::no_machine);
     EXPECT(std::move(m).lend(&loan), status::no_machine);
-    EXPECT(std::move(loan).give_back(VMIG_ALL_PAGES, &m), status::no_machine);
+    EXPECT(std::move(loan).give_back(pages::all(), &m), status::no_machine);
     m.free();
 }
 
@@ -159,7 +164,7 @@ void idle_and_lent()
     looks(other, status::ok);
     EXPECT(other.send_left(&left), status::not_sending);
     EXPECT(other.send_take(sector, 1, &len), status::not_sending);
-    EXPECT(std::move(other).give_back(VMIG_NO_PAGES, &m), status::ok);
+    EXPECT(std::move(other).give_back(pages::none(), &m), status::ok);
     EXPECT(m.release(nullptr, 0), status::ok);
     EXPECT(m.describe().state == VMIG_IS_NONE);
 }
@@ -169,7 +174,7 @@ void moved()
 {
     std::vector<std::uint8_t> memory(4 * 4096);
     machine m = made(memory), arrived;
-    std::uint64_t pages = 0, sectors = 0;
+    std::uint64_t copied = 0, sectors = 0;
     std::uint8_t piece[4096];
     std::size_t got = 0;
     vmig_left left;
@@ -187,8 +192,10 @@ void moved()
     EXPECT(m.send_left(&left), status::ok);
     EXPECT(left.due_pages == 1);
     EXPECT(m.save(nullptr, 0, &got), status::sending);
-    EXPECT(m.send_stop(&pages, &sectors), status::ok);
-    EXPECT(pages == 1 && sectors == 0);
+    EXPECT(m.send_stop(&copied, &sectors), status::ok);
+    EXPECT(copied == 1 && sectors == 0);
+    EXPECT(m.send_left(&left), status::ok);
+    EXPECT(left.stop_bytes == 0);
     in_state(m, status::stopped);
     looks_at_ram(m, status::ok);
     EXPECT(arrived.arrive(&arrival), status::ok);
@@ -205,8 +212,8 @@ void moved()
 // One with a page more than the usual is made, and arrives, where that is asked for.
 void large()
 {
-    constexpr std::uint32_t pages = 16385;
-    std::vector<std::uint8_t> memory(std::size_t{pages} * 4096), stream(1 << 20);
+    constexpr std::uint32_t many = 16385;
+    std::vector<std::uint8_t> memory(std::size_t{many} * 4096), stream(1 << 20);
     const vmig_shape shape = {VMIG_CONSOLE, 0, {}, 0, {}, 0, {}};
     vmig_setup setup = VMIG_SETUP;
     vmig_arrival arrival = VMIG_ARRIVAL;
@@ -217,17 +224,17 @@ void large()
     EXPECT(m.make(&setup), status::bad_ram);
     setup.flags = VMIG_LARGE;
     EXPECT(m.make(&setup), status::ok);
-    EXPECT(m.describe().pages == pages && m.describe().flags == VMIG_LARGE);
+    EXPECT(m.describe().pages == many && m.describe().flags == VMIG_LARGE);
     EXPECT(m.save(stream.data(), stream.size(), &len), status::ok);
-    arrival.most_pages = pages - 1, arrival.flags = VMIG_LARGE;
+    arrival.most_pages = many - 1, arrival.flags = VMIG_LARGE;
     EXPECT(arrived.arrive(&arrival), status::ok);
     EXPECT(arrived.feed(stream.data(), len), status::stream_too_large);
     arrived.free();
-    arrival.most_pages = pages;
+    arrival.most_pages = many;
     EXPECT(arrived.arrive(&arrival), status::ok);
     EXPECT(arrived.feed(stream.data(), len), status::whole);
     EXPECT(arrived.finish(), status::ok);
-    EXPECT(arrived.describe().pages == pages && arrived.describe().flags == VMIG_LARGE);
+    EXPECT(arrived.describe().pages == many && arrived.describe().flags == VMIG_LARGE);
 }
 
 // One whose frames are longer arrives where it is said how long they may be.

@@ -3,7 +3,7 @@
 use crate::device::{Device, devices_of, shapes_of};
 use crate::error::{Error, Refused, done};
 use crate::image::{Image, slots_of};
-use crate::machine::{Machine, Parts, is_linked_right};
+use crate::machine::{Machine, Parts, first_number, is_linked_right, new_number};
 use crate::memory::Memory;
 use crate::raw;
 
@@ -73,14 +73,14 @@ impl ArrivalBuilder {
         ArrivalBuilder { most_sectors, ..self }
     }
 
-    /// The most bytes of a frame of its network devices, 1,515 at least, of a machine that may be [`large`](Self::large). Where this is not
-    /// said it is 1,514, and a stream with a [`Device::LongNetwork`] is refused as `StreamBadVersion`.
+    /// The most bytes of a frame of its network devices, unless devices with longer ones are named: 1,514, or more of a machine that may be
+    /// [`large`](Self::large). Where neither is said it is 1,514, and a stream with a [`Device::LongNetwork`] is refused as `StreamBadVersion`.
     pub fn longest_frame(self, longest_frame: u16) -> ArrivalBuilder {
         ArrivalBuilder { longest_frame, ..self }
     }
 
-    /// The most sectors of each disk that is outside ([`Device::Outside`]), unless devices are named. Where neither is said a stream with one is refused
-    /// as `StreamBadVersion`.
+    /// The most sectors of each disk that is outside ([`Device::Outside`]), unless devices are named. Where neither is said a stream with one is
+    /// refused as `StreamBadVersion`.
     pub fn most_outside(self, sectors: u64) -> ArrivalBuilder {
         ArrivalBuilder { most_outside: sectors, ..self }
     }
@@ -132,12 +132,14 @@ impl ArrivalBuilder {
         ArrivalBuilder { flags: self.flags | raw::LOG, ..self }
     }
 
-    /// The arrival begins. Refusals, in their order: `NotKnown` (a longest frame of less than 1,515 bytes, or of no large machine), `BadRam` (the memory is not whole pages, or has too many; or `most_pages` beside it),
-    /// `BadShape`, `BadBase`, `BadImages` (not those of the devices), `NoMemory`.
+    /// The arrival begins. Refusals, in their order: `NotKnown` (a longest frame of less than 1,514 bytes, or of more and no large machine),
+    /// `BadRam` (the memory is not whole pages, or has too many; or `most_pages` beside it), `BadShape`, `BadBase`, `BadImages` (not those of the
+    /// devices), `NoMemory`.
     pub fn begin(mut self) -> Result<Arrival, Refused<ArrivalBuilder>> {
-        match self.arrive() {
-            Ok(held) => Ok(Arrival { machine: Machine::new(held, self.parts) }),
-            Err(error) => Err(Refused { error, value: self }),
+        let number = new_number();
+        match self.arrive(number) {
+            Ok(held) => Ok(Arrival { machine: Machine::new(held, self.parts, number) }),
+            Err(error) => Err(Refused::new(error, self)),
         }
     }
 
@@ -147,7 +149,7 @@ impl ArrivalBuilder {
         self.parts
     }
 
-    fn arrive(&mut self) -> Result<raw::Machine, Error> {
+    fn arrive(&mut self, number: u64) -> Result<raw::Machine, Error> {
         is_linked_right()?;
         let shapes = shapes_of(&self.devices);
         let mut slots = slots_of(&mut self.parts.images);
@@ -165,6 +167,7 @@ impl ArrivalBuilder {
             frame: self.longest_frame.into(),
             most_outside: self.most_outside,
             block: self.block,
+            calls_from: first_number(number),
             ..raw::ARRIVAL
         };
         // SAFETY: the slices are valid for the call, and the handle is of no machine. RAM and images are owned by what the machine's owner
@@ -227,7 +230,7 @@ impl Arrival {
         // SAFETY: as in `feed`.
         match done(unsafe { raw::vmig_finish(&mut self.machine.held) }) {
             Ok(_) => Ok(self.machine),
-            Err(error) => Err(Refused { error, value: self }),
+            Err(error) => Err(Refused::new(error, self)),
         }
     }
 

@@ -3,7 +3,7 @@
 use crate::device::{Device, shapes_of};
 use crate::error::{Error, Refused, done};
 use crate::image::{Image, slots_of};
-use crate::machine::{Machine, Parts, is_linked_right};
+use crate::machine::{Machine, Parts, first_number, is_linked_right, new_number};
 use crate::memory::Memory;
 use crate::raw;
 
@@ -70,8 +70,8 @@ impl MachineBuilder {
         self
     }
 
-    /// Of disks outside ([`Device::Outside`]): the sectors of the largest block that the caller's storage writes whole, 8 over blocks of 4,096 bytes. No two
-    /// calls that are out share such a block. It is 1 where nothing is said.
+    /// Of disks outside ([`Device::Outside`]): the sectors of the largest block that the caller's storage writes whole, 8 over blocks of 4,096 bytes.
+    /// No two calls that are out share such a block. It is 1 where nothing is said.
     pub fn block(self, sectors: u32) -> MachineBuilder {
         MachineBuilder { block: sectors, ..self }
     }
@@ -90,9 +90,10 @@ impl MachineBuilder {
     /// Makes the machine. Refusals, in their order: `BadRam` (not whole pages, none or too many, or `pages` and the memory differ), `BadShape`,
     /// `BadBase`, `BadImages` (contents and images; not one for each disk, or of other lengths), `NoMemory`.
     pub fn build(mut self) -> Result<Machine, Refused<MachineBuilder>> {
-        match self.make() {
-            Ok(held) => Ok(Machine::new(held, self.parts)),
-            Err(error) => Err(Refused { error, value: self }),
+        let number = new_number();
+        match self.make(number) {
+            Ok(held) => Ok(Machine::new(held, self.parts, number)),
+            Err(error) => Err(Refused::new(error, self)),
         }
     }
 
@@ -102,7 +103,7 @@ impl MachineBuilder {
         self.parts
     }
 
-    fn make(&mut self) -> Result<raw::Machine, Error> {
+    fn make(&mut self, number: u64) -> Result<raw::Machine, Error> {
         is_linked_right()?;
         let shapes = shapes_of(&self.devices);
         let mut slots = slots_of(&mut self.parts.images);
@@ -119,6 +120,7 @@ impl MachineBuilder {
             base: self.base,
             flags: self.flags,
             block: self.block,
+            calls_from: first_number(number),
             ..raw::SETUP
         };
         // SAFETY: the slices are valid for the call, and the handle is of no machine. RAM and images are owned by what the machine's owner

@@ -6,6 +6,7 @@ use crate::raw;
 
 /// What is to be done.
 #[derive(Clone, Copy, Debug, PartialEq, Eq, Hash)]
+#[non_exhaustive]
 pub enum DiskWork {
     /// Sectors are read.
     Read,
@@ -22,9 +23,10 @@ pub enum DiskWork {
 
 /// A call of a disk outside, until it is answered: by [`Machine::disk_done`] or [`Machine::disk_failed`], which take it. So none is answered twice.
 ///
-/// It is answered, as failed too, once nothing of it can land any more: a write that lands later lies over what the guest wrote since. One that is dropped
-/// without an answer stays out for ever, and its guest waits: where debug assertions are on that is a panic. [`Call::discard`] says that it is meant.
-#[derive(Debug)]
+/// It is answered, as failed too, once nothing of it can land any more: a write that lands later lies over what the guest wrote since. One that is
+/// dropped without an answer is out still, and its guest waits: [`Machine::calls_out`] has it, so that it can be answered. Its number is of its
+/// machine alone.
+#[derive(Debug, PartialEq, Eq)]
 #[must_use = "it has to be answered"]
 pub struct Call {
     asked: raw::Call,
@@ -78,10 +80,8 @@ impl Call {
         self.asked.durable != 0
     }
 
-    /// It will not be answered: its machine is gone, or its guest is to wait for ever.
-    pub fn discard(self) {
-        std::mem::forget(self);
-    }
+    /// It will not be answered here, as where its machine is gone.
+    pub fn discard(self) {}
 
     fn of(call: raw::Call, machine: u64) -> Result<Call, Error> {
         let what = match call.what {
@@ -95,16 +95,10 @@ impl Call {
     }
 }
 
-impl Drop for Call {
-    fn drop(&mut self) {
-        debug_assert!(std::thread::panicking(), "a call of a disk was dropped, and its guest waits for the answer");
-    }
-}
-
 /// Disks outside.
 impl Machine {
-    /// The next call that a device waits for, if there is one, of at most as many sectors as the buffer has room for, 512 bytes each. Of a write its bytes
-    /// are in the buffer. Call it after each turn until there is none, and after each answer make a turn.
+    /// The next call that a device waits for, if there is one, of at most as many sectors as the buffer has room for, 512 bytes each. Of a write its
+    /// bytes are in the buffer. Call it after each turn until there is none, and after each answer make a turn.
     ///
     /// ```no_run
     /// use vmig::{Call, DiskWork, Machine};
@@ -118,9 +112,10 @@ impl Machine {
     ///         DiskWork::Write => file.write_all_at(&buf[..call.len()], at)?,
     ///         DiskWork::Clear => (0..u64::from(call.count())).try_for_each(|k| file.write_all_at(&[0; 512], at + 512 * k))?,
     ///         DiskWork::Flush => file.sync_data()?,
+    ///         _ => return Err(io::ErrorKind::Unsupported.into()),     // of a later version of this crate
     ///     }
     ///     if call.is_durable() {
-    ///         file.sync_data()?;      // one that failed is for good: a whole host fails each later flush
+    ///         file.sync_data()?;      // where one fails a whole host calls `Machine::sync_failed`, for good
     ///     }
     ///     Ok(call.count())
     /// }
@@ -136,10 +131,7 @@ impl Machine {
     ///             }
     ///             Err(_) => machine.disk_failed(call),
     ///         };
-    ///         answered.map_err(|refused| {
-    ///             refused.value.discard();
-    ///             refused.error
-    ///         })?;
+    ///         answered.map_err(|refused| refused.error)?;
     ///     }
     ///     Ok(())
     /// }
@@ -155,13 +147,15 @@ impl Machine {
         }
     }
 
-    /// This number of its sectors were done, from the first one on: one at least, and of a flush none. Of a read their bytes are handed in, of others none. What
-    /// lacks is asked for anew, by another call. It is Ok too where the device asked for a reset meanwhile, and nobody waits any more.
+    /// This number of its sectors were done, from the first one on: one at least, and of a flush none. Of a read their bytes are handed in, of others
+    /// none. What lacks is asked for anew, by another call. It is Ok too where the device asked for a reset meanwhile, and nobody waits any more; and
+    /// where the disk is lost ([`Machine::sync_failed`]) and this says that something is durable: that counts as failed.
     ///
-    /// Refused, and the call is handed back: `NotOut` (it is one of another machine), `TooSmall` or `TooLong` (not as many sectors or bytes), `Stopped`.
+    /// Refused, and the call is handed back: `NotOut` (it is one of another machine), `TooSmall` or `TooLong` (not as many sectors or bytes),
+    /// `Stopped`.
     pub fn disk_done(&mut self, call: Call, count: u32, bytes: &[u8]) -> Result<(), Refused<Call>> {
         if call.machine != self.number {
-            return Err(Refused { error: Error::NotOut, value: call });
+            return Err(Refused::new(Error::NotOut, call));
         }
         // SAFETY: see `disk_call`.
         answered(call, |number| unsafe { raw::vmig_disk_done(&mut self.held, number, count, bytes.as_ptr(), bytes.len()) })
@@ -170,26 +164,27 @@ impl Machine {
     /// It failed, and nothing of it can land any more: the guest reads an error. A time-out is no answer.
     pub fn disk_failed(&mut self, call: Call) -> Result<(), Refused<Call>> {
         if call.machine != self.number {
-            return Err(Refused { error: Error::NotOut, value: call });
+            return Err(Refused::new(Error::NotOut, call));
         }
         // SAFETY: see `disk_call`.
         answered(call, |number| unsafe { raw::vmig_disk_failed(&mut self.held, number) })
     }
 
-    /// How many calls were handed out and not answered.
-    #[must_use]
-    pub fn calls_out(&self) -> u32 {
-        self.describe().calls_out
+    /// The calls that were handed out and are not answered, as they were handed out, oldest first. So one that was dropped, as by a `?`, can be
+    /// answered. Of one that is held elsewhere too the first answer counts, and the other is `NotOut`.
+    pub fn calls_out(&self) -> Result<Vec<Call>, Error> {
+        let mut calls = vec![raw::Call::default(); self.describe().calls_out as usize];
+        let mut count = 0;
+        // SAFETY: see `disk_call`.
+        done(unsafe { raw::vmig_calls_out(&self.held, calls.as_mut_ptr(), calls.len(), &mut count) })?;
+        calls.into_iter().map(|call| Call::of(call, self.number)).collect()
     }
 }
 
 /// The call is spent by an answer that is taken.
 fn answered(call: Call, answer: impl FnOnce(u64) -> u32) -> Result<(), Refused<Call>> {
     match done(answer(call.asked.number)) {
-        Ok(_) => {
-            call.discard();
-            Ok(())
-        }
-        Err(error) => Err(Refused { error, value: call }),
+        Ok(_) => Ok(()),
+        Err(error) => Err(Refused::new(error, call)),
     }
 }

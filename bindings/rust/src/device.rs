@@ -13,11 +13,12 @@ pub enum Device {
         mac: [u8; 6],
     },
 
-    /// A network device for longer frames, of a large machine. It offers its driver MTU, of 18 bytes less than the longest frame.
+    /// A network device for longer frames, of a large machine. It offers its driver MTU, of 18 bytes less than the longest frame. One whose longest
+    /// frame has 1,514 bytes is a [`Device::Network`], and is told as one.
     LongNetwork {
         /// The address of its card.
         mac: [u8; 6],
-        /// How many bytes its longest frame has: 1,515 at least.
+        /// How many bytes its longest frame has: 1,514 at least.
         longest: u16,
     },
 

@@ -209,8 +209,8 @@ impl std::error::Error for Error {}
 
 /// A call that was refused, and the value that it took, as it was: a machine with its guest, a loan or what was to become one.
 ///
-/// It does not become an [`Error`] by itself, which would drop the value. In a `Box<dyn std::error::Error>` the value is kept, and
-/// `downcast` finds it.
+/// It does not become an [`Error`] by itself, which would drop the value. In a `Box<dyn std::error::Error + Send + Sync>`, and in an error of the
+/// crate anyhow, the value is kept, and `downcast` finds it.
 ///
 /// ```
 /// use vmig::{Device, Error, Machine, Memory};
@@ -219,7 +219,7 @@ impl std::error::Error for Error {}
 /// memory[0] = 7;
 /// let refused = Machine::builder().memory(memory).base(1).device(Device::Entropy).build().unwrap_err();
 /// assert_eq!(refused.error, Error::BadBase);
-/// let machine = refused.value.base(0x1000).build()?;
+/// let machine = refused.into_value().base(0x1000).build()?;
 /// assert_eq!(machine.into_parts().memory.expect("memory of this program")[0], 7);
 /// # Ok::<(), Box<dyn std::error::Error>>(())
 /// ```
@@ -227,11 +227,28 @@ impl std::error::Error for Error {}
 pub struct Refused<T> {
     /// Why it was refused.
     pub error: Error,
-    /// The value.
-    pub value: T,
+    // Out of reach of a shared reference: see below.
+    value: T,
 }
 
+// SAFETY: by a shared reference nothing of the value is reached, so threads that share one do not share a machine.
+unsafe impl<T: Send> Sync for Refused<T> {}
+
 impl<T> Refused<T> {
+    pub(crate) const fn new(error: Error, value: T) -> Refused<T> {
+        Refused { error, value }
+    }
+
+    /// The value.
+    pub fn into_value(self) -> T {
+        self.value
+    }
+
+    /// The value, where it stays.
+    pub const fn value_mut(&mut self) -> &mut T {
+        &mut self.value
+    }
+
     /// Why it was refused, and the value.
     pub fn into_parts(self) -> (Error, T) {
         (self.error, self.value)
@@ -346,9 +363,9 @@ mod tests {
 
     #[test]
     fn errors_are_errors_of_the_standard_library() {
-        let refused = Refused { error: Error::Lent, value: vec![1] };
+        let refused = Refused::new(Error::Lent, vec![1]);
         assert_eq!((refused.to_string(), format!("{refused:?}")), ("the RAM is lent".into(), "Refused { error: Lent, .. }".into()));
-        let boxed: Box<dyn std::error::Error> = refused.into();
+        let boxed: Box<dyn std::error::Error + Send + Sync> = refused.into();
         assert_eq!(boxed.source().expect("an error").to_string(), "the RAM is lent");
         let (error, value) = boxed.downcast::<Refused<Vec<i32>>>().expect("what was boxed").into_parts();
         assert_eq!((error, value), (Error::Lent, vec![1]));

@@ -1,5 +1,6 @@
 //! A machine whose RAM is lent to the caller.
 
+use crate::call::Call;
 use crate::device::Device;
 use crate::error::{Error, Refused, SyncError, done};
 use crate::machine::{Machine, Next, Pick, State};
@@ -55,7 +56,7 @@ impl Machine {
         // SAFETY: the handle is of this machine.
         match done(unsafe { raw::vmig_lend(&mut self.held, &mut ram) }) {
             Ok(_) => Ok(Lent { machine: self, ram }),
-            Err(error) => Err(Refused { error, value: self }),
+            Err(error) => Err(Refused::new(error, self)),
         }
     }
 }
@@ -91,7 +92,7 @@ impl Lent {
         // SAFETY: the handle is of this machine, its RAM is where it was lent, and the list and the bitmap are valid for the call.
         match done(unsafe { raw::vmig_give_back(&mut self.machine.held, &mut self.ram, &written.raw()) }) {
             Ok(_) => Ok(self.machine),
-            Err(error) => Err(Refused { error, value: self }),
+            Err(error) => Err(Refused::new(error, self)),
         }
     }
 }
@@ -122,9 +123,19 @@ impl Lent {
     }
 
     /// As [`Machine::calls_out`].
-    #[must_use]
-    pub fn calls_out(&self) -> u32 {
+    pub fn calls_out(&self) -> Result<Vec<Call>, Error> {
         self.machine.calls_out()
+    }
+
+    /// As [`Machine::disk_done`], of all but a read, which is `Lent`. So what is out is answered before a driver's reset, and no processor comes out
+    /// for it.
+    pub fn disk_done(&mut self, call: Call, count: u32, bytes: &[u8]) -> Result<(), Refused<Call>> {
+        self.machine.disk_done(call, count, bytes)
+    }
+
+    /// As [`Machine::disk_failed`].
+    pub fn disk_failed(&mut self, call: Call) -> Result<(), Refused<Call>> {
+        self.machine.disk_failed(call)
     }
 
     /// As [`Machine::is_logged`].
@@ -174,7 +185,7 @@ impl Lent {
         self.machine.reset()
     }
 
-    /// As [`Machine::next`]. RAM is given back before the step.
+    /// As [`Machine::next`]. RAM is given back before the step, and before a call of a disk is asked for.
     pub fn next(&self, after: Pick) -> Result<Next, Error> {
         self.machine.next(after)
     }

@@ -158,6 +158,8 @@
 //! }
 //! ```
 
+#[cfg(vmig_absent)]
+mod absent;
 mod arrival;
 mod builder;
 mod call;

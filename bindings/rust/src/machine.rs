@@ -17,7 +17,7 @@ pub struct Machine {
     pub(crate) held: raw::Machine,
     // Where its RAM and its disks lie, if not in memory of the library. They are dropped after the machine was freed.
     pub(crate) parts: Parts,
-    // No other machine of this process has it: a call of a disk is of one machine.
+    // No other machine of this process has it: a call of a disk is of one machine, and its numbers begin there.
     pub(crate) number: u64,
 }
 
@@ -46,8 +46,10 @@ pub struct Pick {
 
 /// What the devices have to do next.
 #[derive(Clone, Copy, Debug, PartialEq, Eq, Hash)]
+#[non_exhaustive]
 pub enum Next {
-    /// No step of any device has anything to do.
+    /// No step of any device has anything to do, and no call of a disk outside may be handed out: one that waits has to wait for an answer of
+    /// another.
     Idle,
 
     /// This step.
@@ -56,10 +58,14 @@ pub enum Next {
     /// This step, and the guest takes what it wrote to the disk of this device for durable by it: bring the disk to its file before, by
     /// [`Machine::sync`], and make the step only if that did not fail.
     Sync(Pick),
+
+    /// No step of any device has anything to do, and a call of the disk outside of this device waits to be asked for, by [`Machine::disk_call`].
+    Call(u8),
 }
 
 /// What a device did in a step.
 #[derive(Clone, Copy, Debug, PartialEq, Eq, Hash)]
+#[non_exhaustive]
 #[must_use = "a message of the guest may be in it"]
 pub enum Step<'a> {
     /// It found nothing to do.
@@ -137,6 +143,18 @@ fn is_right(linked: u32) -> bool {
     linked >> 16 == wanted >> 16 && linked >= wanted
 }
 
+/// A number that no other machine of this process has.
+pub(crate) fn new_number() -> u64 {
+    static NEXT: AtomicU64 = AtomicU64::new(1);
+    NEXT.fetch_add(1, Ordering::Relaxed)
+}
+
+/// The number of the first call of the machine with this number: each has 2^40 of its own, so an answer of another machine meets nobody, nor does one
+/// of a machine that is gone.
+pub(crate) fn first_number(machine: u64) -> u64 {
+    machine << 40
+}
+
 impl Drop for Machine {
     fn drop(&mut self) {
         // SAFETY: the handle is one of the library, or all zeros.
@@ -146,9 +164,8 @@ impl Drop for Machine {
 
 /// Its life.
 impl Machine {
-    pub(crate) fn new(held: raw::Machine, parts: Parts) -> Machine {
-        static NEXT: AtomicU64 = AtomicU64::new(0);
-        Machine { held, parts, number: NEXT.fetch_add(1, Ordering::Relaxed) }
+    pub(crate) fn new(held: raw::Machine, parts: Parts, number: u64) -> Machine {
+        Machine { held, parts, number }
     }
 
     /// How a machine is made.
@@ -220,7 +237,7 @@ impl Machine {
         self.describe().flags & raw::LOG != 0
     }
 
-    /// Whether the disk of a device is lost, by [`Machine::sync`] or [`Machine::sync_failed`].
+    /// Whether the disk of a device, in the machine or outside, is lost, by [`Machine::sync`] or [`Machine::sync_failed`].
     #[must_use]
     pub fn is_lost(&self, dev: u8) -> bool {
         self.describe().lost.checked_shr(dev.into()).unwrap_or(0) & 1 == 1
@@ -255,8 +272,8 @@ impl Machine {
         unsafe { raw::vmig_lines(&self.held) }
     }
 
-    /// The host puts bytes in: entropy, text for a console, or one frame, of 14 bytes to the longest of its device. It tells how many were kept: the first ones, a
-    /// frame whole or not at all.
+    /// The host puts bytes in: entropy, text for a console, or one frame, of 14 bytes to the longest of its device. It tells how many were kept: the
+    /// first ones, a frame whole or not at all.
     pub fn input(&mut self, dev: u8, bytes: &[u8]) -> Result<usize, Error> {
         let mut kept = 0;
         // SAFETY: see `describe`; the slice is valid for the call, as those of the calls below are.
@@ -293,14 +310,16 @@ impl Machine {
 
 /// Work of the devices: [`Machine::work`] makes a turn of it, and the other calls make it step by step.
 impl Machine {
-    /// A step that has something to do: the first in turn after this one. Begin with `Pick::default()`, and hand in the last one that was
-    /// named: so no device keeps the others from their work.
+    /// A step that has something to do: the first in turn after this one. Begin with `Pick::default()`, and hand in the last one that was named: so
+    /// no device keeps the others from their work. Where no step has, whether a call of a disk outside waits to be asked for: so a host that goes on
+    /// only where this is not [`Next::Idle`] leaves no guest waiting.
     pub fn next(&self, after: Pick) -> Result<Next, Error> {
         let Pick { mut dev, mut pick } = after;
         // SAFETY: see `describe`.
         Ok(match done(unsafe { raw::vmig_next(&self.held, &mut dev, &mut pick) })? {
             raw::WORK => Next::Work(Pick { dev, pick }),
             raw::SYNC => Next::Sync(Pick { dev, pick }),
+            raw::CALL => Next::Call(dev),
             raw::IDLE => Next::Idle,
             _ => return Err(Error::Unknown),
         })
@@ -356,6 +375,11 @@ impl Machine {
     /// The disk could not be brought to where the caller keeps it: it is lost from then on, for good. Each later flush of it fails, and a
     /// write whose driver did not accept the feature FLUSH does not end. Never try again in the hope that it will do: the system tells the
     /// error once.
+    ///
+    /// Of a [`Device::Outside`]: its storage may have lost writes that it answered, as where a sync failed, a connection broke, a server restarted or
+    /// a cache was dropped. From then on no answer of a flush, or of a call that is durable, counts as done, also of one that is out: its request
+    /// ends with an error, whatever [`Machine::disk_done`] says. All else is served as ever. A machine that arrives over the same storage is not
+    /// told: its host says it here, after [`Arrival::finish`](crate::Arrival::finish), before the guest runs.
     pub fn sync_failed(&mut self, dev: u8) -> Result<(), Error> {
         // SAFETY: see `describe`.
         done(unsafe { raw::vmig_sync_failed(&mut self.held, dev) }).map(drop)
@@ -393,9 +417,10 @@ impl Machine {
         done(unsafe { raw::vmig_mark(&mut self.held, &written.raw()) }).map(drop)
     }
 
-    /// Hands out the numbers of the pages that [`Machine::step`], [`Machine::write_ram`] and [`Machine::push`] wrote, and forgets them: as many
-    /// as the slice has room for, ascending. It tells how many; where these are fewer than there is room for, they were all. Exactly these: not
-    /// those that the caller named, and none that arrived. For a host that translates code, or shows a frame buffer.
+    /// Hands out the numbers of the pages that [`Machine::step`], [`Machine::work`], [`Machine::write_ram`], [`Machine::push`] and
+    /// [`Machine::disk_done`] wrote, and forgets them: as many as the slice has room for, ascending. It tells how many; where these are fewer than
+    /// there is room for, they were all. Exactly these: not those that the caller named, and none that arrived. For a host that translates code, or
+    /// shows a frame buffer.
     ///
     /// `NotKnown` where it was made, or arrived, without [`MachineBuilder::log_written`].
     pub fn hand_out(&mut self, pages: &mut [u32]) -> Result<usize, Error> {
@@ -440,8 +465,8 @@ mod tests {
 
     #[test]
     fn a_library_of_this_major_version_or_a_later_minor_one_is_right() {
-        assert!(is_right(0x1_0000) && is_right(0x1_0001) && is_right(0x1_0100));
-        assert!(!is_right(0x0_0900) && !is_right(0x2_0000));
+        assert!(is_right(0x1_0100) && is_right(0x1_0101) && is_right(0x1_0200));
+        assert!(!is_right(0x0_0900) && !is_right(0x1_0000) && !is_right(0x2_0000));
         assert!(is_right(crate::version()));
     }
 }

@@ -16,7 +16,7 @@ pub struct Left {
     pub dirty_pages: u64,
     /// Written since they were sent.
     pub dirty_sectors: u64,
-    /// A stop would write at most so many bytes.
+    /// A stop would write at most so many bytes; 0 of a stopped machine.
     pub stop_bytes: u64,
 }
 

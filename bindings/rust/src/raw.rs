@@ -26,7 +26,7 @@ pub struct Shape {
     pub sectors: u64,
     /// Of a disk: the id that it returns to a driver.
     pub id: [u8; 20],
-    /// Of a network device: how many bytes its longest frame has; 0: 1,514.
+    /// Of a network device: how many bytes its longest frame has; 0 is 1,514.
     pub frame: u32,
     /// 0.
     pub reserved: [u64; 2],
@@ -126,8 +126,10 @@ pub struct Setup {
     pub flags: u32,
     /// Of disks outside: sectors of the largest block of the caller's storage; 0 is 1.
     pub block: u32,
+    /// Of disks outside: the number of the first call.
+    pub calls_from: u64,
     /// 0.
-    pub reserved: [u64; 4],
+    pub reserved: [u64; 3],
 }
 
 /// No machine yet: the version of the struct, and else zeros.
@@ -144,7 +146,8 @@ pub const SETUP: Setup = Setup {
     base: 0,
     flags: 0,
     block: 0,
-    reserved: [0; 4],
+    calls_from: 0,
+    reserved: [0; 3],
 };
 
 /// How a machine arrives: begin with `ARRIVAL`, which allows nothing.
@@ -171,7 +174,7 @@ pub struct Arrival {
     pub base: u64,
     /// `LARGE`, `LOG`, both, or 0.
     pub flags: u32,
-    /// How many bytes the longest frame of a network device may have; 0: 1,514.
+    /// How many bytes the longest frame of a network device may have, unless shapes name a longer one; 0 is 1,514.
     pub frame: u32,
     /// The most sectors of each disk outside; 0: none, unless shapes name them.
     pub most_outside: u64,
@@ -179,8 +182,10 @@ pub struct Arrival {
     pub block: u32,
     /// 0.
     pub zero: u32,
+    /// Of disks outside: the number of the first call.
+    pub calls_from: u64,
     /// 0.
-    pub reserved: [u64; 2],
+    pub reserved: [u64; 1],
 }
 
 /// It allows nothing: the version of the struct, and else zeros.
@@ -199,7 +204,8 @@ pub const ARRIVAL: Arrival = Arrival {
     most_outside: 0,
     block: 0,
     zero: 0,
-    reserved: [0; 2],
+    calls_from: 0,
+    reserved: [0; 1],
 };
 
 /// What a handle has, or what a stream announces.
@@ -262,7 +268,7 @@ pub struct Turn {
 
 /// A call of a disk outside.
 #[repr(C)]
-#[derive(Clone, Copy, Debug, Default)]
+#[derive(Clone, Copy, Debug, Default, PartialEq, Eq)]
 pub struct Call {
     /// No other call of the machine has it.
     pub number: u64,
@@ -294,7 +300,7 @@ pub struct Left {
     pub dirty_pages: u64,
     /// Written since they were sent.
     pub dirty_sectors: u64,
-    /// A stop would write at most so many bytes.
+    /// A stop would write at most so many bytes; 0 of a stopped machine.
     pub stop_bytes: u64,
     /// 0.
     pub reserved: [u64; 3],
@@ -373,7 +379,7 @@ pub const NO_MEMORY: u32 = 10;
 pub const TOO_SMALL: u32 = 11;
 /// Not 1 to 16 devices, or one beyond the limits, or of an unknown kind.
 pub const BAD_SHAPE: u32 = 12;
-/// Contents or images that do not fit the disks; a slot that is not `NO_IMAGE`.
+/// Contents or images that do not fit the disks; release: a slot that has sectors.
 pub const BAD_IMAGES: u32 = 15;
 /// The machine is not being sent.
 pub const NOT_SENDING: u32 = 17;
@@ -391,9 +397,9 @@ pub const LENT: u32 = 23;
 pub const NOT_LENT: u32 = 24;
 /// RAM is in memory of the library, and is never lent.
 pub const NOT_YOURS: u32 = 25;
-/// Not 1 to 16,384 whole pages, with `LARGE` to 4,294,967,295, or not as asked for or lent; lend: not `NO_RAM`.
+/// Not 1 to 16,384 whole pages, with `LARGE` to 4,294,967,295, or not as asked for or lent; lend: its len is not 0.
 pub const BAD_RAM: u32 = 26;
-/// A struct of another version, a flag, or a word that has to be 0.
+/// A struct of another version, an unknown flag, or a word that has to be 0 and is not.
 pub const NOT_KNOWN: u32 = 27;
 /// No call of this number is out.
 pub const NOT_OUT: u32 = 28;
@@ -433,7 +439,7 @@ pub const STREAM_NO_MEMORY: u32 = 47;
 pub const STREAM_FAILED: u32 = 48;
 /// At the header, before memory is taken: more than the arrival allows.
 pub const STREAM_TOO_LARGE: u32 = 49;
-/// Step: nothing to do; next: no step has anything to do.
+/// Step: nothing to do; next: no step has anything to do, and no call of a disk outside may be handed out.
 pub const IDLE: u32 = 65;
 /// A block device took a request.
 pub const TAKEN: u32 = 66;
@@ -461,7 +467,7 @@ pub const WORK: u32 = 78;
 pub const MORE: u32 = 79;
 /// Next: the step that it names needs its disk durable before.
 pub const SYNC: u32 = 80;
-/// `disk_call`: there is one.
+/// `disk_call`: there is one; next: no step has anything to do, and there is one.
 pub const CALL: u32 = 81;
 /// Feed: the stream has ended, and is right: call `vmig_finish`.
 pub const WHOLE: u32 = 82;
@@ -499,7 +505,7 @@ unsafe extern "C" {
     pub fn vmig_step(machine: *mut Machine, dev: u8, pick: u8, buf: *mut u8, size: usize, len: *mut u32) -> u32;
     /// A turn of the devices.
     pub fn vmig_work(machine: *mut Machine, turn: *mut Turn, buf: *mut u8, size: usize) -> u32;
-    /// The disk of this device could not be brought to its file: it is lost.
+    /// The disk of this device is lost: it could not be brought to its file, or its storage may have lost what it answered.
     pub fn vmig_sync_failed(machine: *mut Machine, dev: u8) -> u32;
     /// The next call of a disk outside.
     pub fn vmig_disk_call(machine: *mut Machine, call: *mut Call, buf: *mut u8, size: usize) -> u32;
@@ -507,6 +513,8 @@ unsafe extern "C" {
     pub fn vmig_disk_done(machine: *mut Machine, number: u64, count: u32, bytes: *const u8, len: usize) -> u32;
     /// It failed.
     pub fn vmig_disk_failed(machine: *mut Machine, number: u64) -> u32;
+    /// The calls that are out.
+    pub fn vmig_calls_out(machine: *const Machine, calls: *mut Call, size: usize, count: *mut usize) -> u32;
     /// Reads a sector of a disk.
     pub fn vmig_sector_read(machine: *const Machine, dev: u8, sector: u64, buf: *mut [u8; 512]) -> u32;
     /// Reads RAM.

@@ -17,6 +17,7 @@ pub struct Turn {
 
 /// Why a call of [`Machine::work`] ended.
 #[derive(Clone, Copy, Debug, PartialEq, Eq, Hash)]
+#[non_exhaustive]
 #[must_use = "a message of the guest may be in it"]
 pub enum TurnEnd<'a> {
     /// No step of any device has anything to do.

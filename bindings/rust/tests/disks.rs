@@ -2,7 +2,7 @@
 
 mod common;
 use common::{QUEUE_READY, Ring, STATUS, bytes, ready, request, work, write};
-use vmig::{Arrival, Call, Device, DiskWork, Error, Machine, Memory, Pages, State, announced};
+use vmig::{Arrival, Call, Device, DiskWork, Error, Machine, Memory, Next, Pages, Pick, State, announced};
 
 const FIRST: u64 = 0x1000;
 const BUFFER: u64 = 0x8000;
@@ -40,6 +40,10 @@ fn call(machine: &mut Machine, buf: &mut [u8]) -> Call {
     machine.disk_call(buf).unwrap().expect("a request waits")
 }
 
+fn out(machine: &Machine) -> usize {
+    machine.calls_out().unwrap().len()
+}
+
 #[test]
 fn a_read_is_given_its_bytes_in_parts() {
     let (mut machine, mut ring) = made(0);
@@ -48,9 +52,10 @@ fn a_read_is_given_its_bytes_in_parts() {
     let first = call(&mut machine, &mut buf);
     assert_eq!((first.dev(), first.what(), first.first(), first.count(), first.len()), (0, DiskWork::Read, 3, 2, 1024));
     assert!(!first.is_durable() && !first.is_empty());
-    assert_eq!((machine.calls_out(), machine.disk_call(&mut buf).unwrap().is_none()), (1, true));
+    assert_eq!((machine.calls_out().unwrap(), machine.disk_call(&mut buf).unwrap()), (vec![first], None));
+    let first = machine.calls_out().unwrap().remove(0);
     machine.disk_done(first, 1, &[5; 512]).unwrap();
-    assert_eq!((machine.calls_out(), work(&mut machine)), (0, vec![]));
+    assert_eq!((out(&machine), work(&mut machine)), (0, vec![]));
 
     let second = call(&mut machine, &mut buf);
     assert_eq!((second.first(), second.count()), (4, 2));
@@ -106,14 +111,14 @@ fn an_answer_that_does_not_fit_hands_the_call_back() {
     for (count, len) in [(0, 0), (1, 511), (2, 512), (2, 1025), (3, 1536)] {
         let refused = machine.disk_done(held, count, &vec![1; len]).unwrap_err();
         assert!([Error::TooSmall, Error::TooLong].contains(&refused.error), "{count} sectors, {len} bytes: {}", refused.error);
-        held = refused.value;
+        held = refused.into_value();
     }
-    let refused = other.disk_done(held, 2, &buf).unwrap_err();
-    assert_eq!((refused.error, refused.value.count()), (Error::NotOut, 2));
-    let refused = other.disk_failed(refused.value).unwrap_err();
-    assert_eq!((refused.error, machine.calls_out(), bytes(&machine, BUFFER, 4)), (Error::NotOut, 1, vec![0; 4]));
-    machine.disk_done(refused.value, 2, &[9; 1024]).unwrap();
-    assert_eq!((machine.calls_out(), bytes(&machine, BUFFER + 1020, 4)), (0, vec![9; 4]));
+    let mut refused = other.disk_done(held, 2, &buf).unwrap_err();
+    assert_eq!((refused.error, refused.value_mut().count()), (Error::NotOut, 2));
+    let refused = other.disk_failed(refused.into_value()).unwrap_err();
+    assert_eq!((refused.error, out(&machine), bytes(&machine, BUFFER, 4)), (Error::NotOut, 1, vec![0; 4]));
+    machine.disk_done(refused.into_value(), 2, &[9; 1024]).unwrap();
+    assert_eq!((out(&machine), bytes(&machine, BUFFER + 1020, 4)), (0, vec![9; 4]));
 }
 
 #[test]
@@ -182,37 +187,99 @@ fn a_machine_moves_with_requests_and_without_sectors() {
     }
 }
 
-#[test]
-fn a_lent_machine_keeps_its_calls() {
+/// A machine over memory, with a read and a write that are out.
+fn two_out() -> (Machine, Call, Call) {
     let mut machine = Machine::builder().memory(Memory::zeros(16).unwrap()).device(Device::outside(64)).build().unwrap();
     let mut ring = Ring::new(0, 0, FIRST);
     ready(&mut machine, 0, &[&ring]);
     ask(&mut machine, &mut ring, IN, 0, 1);
-    let held = call(&mut machine, &mut [0; 512]);
+    ask(&mut machine, &mut ring, OUT, 4, 1);
+    let (read, written) = (call(&mut machine, &mut [0; 512]), call(&mut machine, &mut [0; 512]));
+    (machine, read, written)
+}
+
+#[test]
+fn a_lent_machine_answers_all_but_reads() {
+    let (machine, read, written) = two_out();
     let mut lent = machine.lend().unwrap();
     assert_eq!((lent.write_register(0, STATUS, 4, 0), lent.reset()), (Err(Error::CallsOut), Err(Error::CallsOut)));
+    let refused = lent.disk_done(read, 1, &[4; 512]).unwrap_err();
+    assert_eq!((refused.error, lent.next(Pick::default())), (Error::Lent, Ok(Next::Idle)));
+    lent.disk_done(written, 1, &[]).unwrap();
     let mut machine = lent.give_back(Pages::NONE).unwrap();
-    machine.disk_done(held, 1, &[4; 512]).unwrap();
-    assert_eq!((work(&mut machine), bytes(&machine, BUFFER, 512)), (vec!["Completed(513)".to_owned()], vec![4; 512]));
+    machine.disk_done(refused.into_value(), 1, &[4; 512]).unwrap();
+    assert_eq!((work(&mut machine).len(), bytes(&machine, BUFFER, 512), bytes(&machine, VERDICT + 4, 1)), (2, vec![4; 512], vec![0]));
+}
+
+#[test]
+fn a_driver_resets_its_disk_while_ram_is_lent() {
+    let (machine, read, written) = two_out();
+    let mut lent = machine.lend().unwrap();
+    drop((read, written));
+    for call in lent.calls_out().unwrap() {
+        lent.disk_failed(call).unwrap();
+    }
+    assert_eq!((lent.write_register(0, STATUS, 4, 0), lent.calls_out().unwrap().len()), (Ok(None), 0));
+}
+
+#[test]
+fn a_call_that_is_dropped_is_found() {
+    let (mut machine, read, written) = two_out();
+    let same = format!("{read:?} {written:?}");
+    drop(read);
+    written.discard();
+    let found = machine.calls_out().unwrap();
+    assert_eq!(format!("{:?} {:?}", found[0], found[1]), same);
+    let twice = machine.calls_out().unwrap();
+    for call in found {
+        machine.disk_failed(call).unwrap();
+    }
+    for call in twice {
+        assert_eq!(machine.disk_failed(call).unwrap_err().error, Error::NotOut);
+    }
+    assert_eq!((work(&mut machine).len(), bytes(&machine, VERDICT, 1), bytes(&machine, VERDICT + 4, 1)), (2, vec![1], vec![1]));
+}
+
+#[test]
+fn what_waits_to_be_asked_is_named() {
+    let (mut machine, mut ring) = made(0);
+    assert_eq!(machine.next(Pick::default()), Ok(Next::Idle));
+    ask(&mut machine, &mut ring, OUT, 3, 1);
+    assert_eq!(machine.next(Pick::default()), Ok(Next::Call(0)));
+    let first = call(&mut machine, &mut [0; 512]);
+    ask(&mut machine, &mut ring, IN, 3, 1);
+    assert_eq!(machine.next(Pick::default()), Ok(Next::Idle), "it waits for the answer");
+    machine.disk_done(first, 1, &[]).unwrap();
+    assert_eq!(work(&mut machine), ["Completed(1)"]);
+    assert_eq!(machine.next(Pick::default()), Ok(Next::Call(0)));
+}
+
+#[test]
+fn of_a_lost_disk_nothing_is_told_durable() {
+    for (features, written) in [(0, 1), (FLUSH_FEATURE, 0)] {
+        let (mut machine, mut ring) = made(features);
+        for (kind, sector, count) in [(IN, 2, 1), (OUT, 5, 1), (FLUSH, 0, 0)] {
+            ask(&mut machine, &mut ring, kind, sector, count);
+        }
+        let calls: Vec<_> = std::iter::from_fn(|| machine.disk_call(&mut [0; 512]).unwrap()).collect();
+        machine.sync_failed(0).unwrap();
+        for call in calls {
+            let (count, read) = (call.count(), if call.what() == DiskWork::Read { 512 } else { 0 });
+            machine.disk_done(call, count, &[3; 512][..read]).unwrap();
+        }
+        assert_eq!((work(&mut machine).len(), machine.is_lost(0)), (3, true));
+        let verdicts = [2, 5, 0].map(|sector| bytes(&machine, VERDICT + sector, 1)[0]);
+        assert_eq!(verdicts, [0, written, 1]);
+    }
 }
 
 #[test]
 fn it_has_no_disk_of_the_machine() {
     let (mut machine, _) = made(0);
-    assert_eq!(machine.sync_failed(0), Err(Error::WrongKind));
     assert_eq!(machine.read_sector(0, 0, &mut [0; 512]), Err(Error::WrongKind));
     assert_eq!(machine.drop_input(0), Err(Error::WrongKind));
     assert_eq!(machine.input(0, b"bytes"), Err(Error::WrongKind));
     assert!(Machine::builder().pages(1).device(Device::outside(0)).build().is_err());
     assert!(Machine::builder().pages(1).device(Device::outside((1 << 54) + 1)).build().is_err());
     assert!(Machine::builder().pages(1).device(Device::outside(1 << 54)).build().is_ok());
-}
-
-#[test]
-#[cfg(debug_assertions)]
-#[should_panic(expected = "its guest waits for the answer")]
-fn a_call_that_is_dropped_is_told() {
-    let (mut machine, mut ring) = made(0);
-    ask(&mut machine, &mut ring, IN, 0, 1);
-    drop(call(&mut machine, &mut [0; 512]));
 }

@@ -1,4 +1,6 @@
-//! The example `host`, as a program: its guest runs, moves to another process, and goes on where a line breaks.
+//! The example `host`, as a program: its guest runs, moves to another process, and goes on where a line breaks. Without the
+//! library it has none of these tests.
+#![cfg(not(vmig_absent))]
 
 use std::fs;
 use std::io::{BufRead, BufReader, Read};

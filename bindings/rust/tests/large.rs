@@ -17,7 +17,7 @@ fn ram_is_large_where_that_is_asked_for() {
     for builder in [Machine::builder().pages(PAGES), Machine::builder().memory(Memory::zeros(PAGES).unwrap())] {
         let refused = builder.device(Device::Console).build().unwrap_err();
         assert_eq!(refused.error, Error::BadRam);
-        let mut machine = refused.value.large().build().unwrap();
+        let mut machine = refused.into_value().large().build().unwrap();
         assert_eq!((machine.pages(), machine.is_large(), machine.is_logged()), (PAGES, true, false));
         assert_eq!((machine.write_ram(AT + 4095, b"z"), machine.write_ram(AT + 4096, b"z")), (Ok(()), Err(Error::OutOfRam)));
         assert_eq!(bytes(&machine, AT + 4095, 1), b"z");
@@ -31,7 +31,7 @@ fn a_disk_is_large_where_that_is_asked_for() {
     let with_disk = || Machine::builder().pages(1).device(Device::disk(SECTORS)).image(Image::zeros(SECTORS).unwrap());
     let refused = with_disk().build().unwrap_err();
     assert_eq!(refused.error, Error::BadShape);
-    let machine = refused.value.large().build().unwrap();
+    let machine = refused.into_value().large().build().unwrap();
     let mut sector = [4; 512];
     assert_eq!((machine.read_sector(0, SECTORS - 1, &mut sector), sector), (Ok(true), [0; 512]));
     assert_eq!(machine.read_sector(0, SECTORS, &mut sector), Err(Error::NoSector));
@@ -45,20 +45,35 @@ fn long_frames_arrive_where_they_are_allowed() {
     let long = Device::LongNetwork { mac: [2, 0, 0, 0, 0, 1], longest: 9018 };
     let refused = Machine::builder().pages(1).device(long).build().unwrap_err();
     assert_eq!(refused.error, Error::BadShape);
-    let mut machine = refused.value.large().build().unwrap();
+    let mut machine = refused.into_value().large().build().unwrap();
     assert_eq!((machine.room(0), machine.message_len(), machine.devices()), (Ok(10), 9018, Ok(vec![long])));
     assert_eq!((machine.input(0, &[1; 9018]), machine.input(0, &[1; 9019])), (Ok(9018), Err(Error::BadFrame)));
     let stream = machine.save().unwrap();
     assert_eq!(announced(&stream).unwrap().unwrap().devices, [long]);
     let usual = || Arrival::builder().most_pages(1);
     assert_eq!(usual().longest_frame(9018).begin().unwrap_err().error, Error::NotKnown);
-    assert_eq!(usual().large().longest_frame(1514).begin().unwrap_err().error, Error::NotKnown);
-    assert_eq!(usual().large().device(long).begin().unwrap_err().error, Error::BadShape);
+    assert_eq!(usual().large().longest_frame(1513).begin().unwrap_err().error, Error::NotKnown);
+    assert_eq!(usual().device(long).begin().unwrap_err().error, Error::BadShape);
     assert_eq!(usual().large().begin().unwrap().feed(&stream), Err(Error::StreamBadVersion));
+    assert_eq!(usual().large().longest_frame(1514).begin().unwrap().feed(&stream), Err(Error::StreamBadVersion));
+    assert_eq!(usual().large().device(long).begin().unwrap().feed(&stream), Ok(true));
     assert_eq!(usual().large().longest_frame(9017).begin().unwrap().feed(&stream), Err(Error::StreamTooLarge));
     let mut arrival = usual().large().longest_frame(9018).device(long).begin().unwrap();
     assert_eq!(arrival.feed(&stream), Ok(true));
     assert_eq!(arrival.finish().unwrap().save().unwrap(), stream);
+}
+
+/// 1,514 bytes are those of a usual device, also where they are said outright.
+#[test]
+fn the_usual_frame_may_be_said_outright() {
+    let (mac, arrives) = ([2, 0, 0, 0, 0, 1], || Arrival::builder().most_pages(1).longest_frame(1514));
+    let machine = Machine::builder().pages(1).device(Device::LongNetwork { mac, longest: 1514 }).build().unwrap();
+    assert_eq!((machine.message_len(), machine.devices()), (1514, Ok(vec![Device::Network { mac }])));
+    let stream = machine.save().unwrap();
+    for device in [Device::Network { mac }, Device::LongNetwork { mac, longest: 1514 }] {
+        assert_eq!(arrives().device(device).begin().unwrap().feed(&stream), Ok(true));
+        assert_eq!(arrives().large().device(device).begin().unwrap().feed(&stream), Ok(true));
+    }
 }
 
 /// The stream of a large machine whose device has a queue and a buffer in the last pages, and whose last page was written.
@@ -90,7 +105,7 @@ fn it_arrives_within_what_is_allowed() {
     }
     let refused = Arrival::builder().memory(Memory::zeros(PAGES).unwrap()).begin().unwrap_err();
     assert_eq!(refused.error, Error::BadRam);
-    for builder in [refused.value.large(), usual().large().most_pages(PAGES)] {
+    for builder in [refused.into_value().large(), usual().large().most_pages(PAGES)] {
         let mut arrival = builder.log_written().begin().unwrap();
         assert_eq!(arrival.feed(&stream), Ok(true));
         serves_there(arrival.finish().unwrap());

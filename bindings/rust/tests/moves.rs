@@ -33,7 +33,8 @@ fn a_machine_is_sent_in_rounds() {
 
     assert_eq!((machine.send_some(1), machine.send_round()), (Ok(false), Ok(true)));
     assert_eq!(machine.send_left().unwrap().due_pages, 3);
-    assert_eq!(machine.send_stop(), Ok((3, 0)));
+    assert_ne!(machine.send_left().unwrap().stop_bytes, 0);
+    assert_eq!((machine.send_stop(), machine.send_left().unwrap().stop_bytes), (Ok((3, 0)), 0));
     assert!(carry(&mut machine, &mut arrival));
     assert_eq!((arrival.rounds(), arrival.fault(), arrival.announced().unwrap().unwrap().pages), (2, None, 16));
     let arrived = arrival.finish().unwrap();

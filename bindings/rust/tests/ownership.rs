@@ -5,7 +5,7 @@ mod common;
 use common::{CARD, bytes, made};
 use std::ptr::NonNull;
 use std::thread;
-use vmig::{Arrival, Device, Error, Image, Lent, Machine, Memory, Pages, Refused};
+use vmig::{Arrival, ArrivalBuilder, Call, Device, Error, Image, Lent, Machine, MachineBuilder, Memory, Pages, Refused, SyncError};
 
 /// A machine with RAM and a disk of its caller's, whose first bytes are 7 and 8.
 fn over_mine() -> Machine {
@@ -25,7 +25,7 @@ fn a_refused_setup_gives_back_what_it_was_given() {
     let refused = builder.build().unwrap_err();
     assert_eq!(refused.error, Error::BadImages);
     let (memory, mut images) = {
-        let parts = refused.value.into_parts();
+        let parts = refused.into_value().into_parts();
         (parts.memory.unwrap(), parts.images)
     };
     assert_eq!((memory[4095], images[0][1023], images[0].sectors()), (1, 2, 2));
@@ -39,20 +39,37 @@ fn a_refused_setup_gives_back_what_it_was_given() {
 fn a_refused_setup_can_be_mended() {
     let refused = Machine::builder().memory(Memory::zeros(1).unwrap()).build().unwrap_err();
     assert_eq!(refused.error, Error::BadShape);
-    assert_eq!(refused.value.device(Device::Console).build().unwrap().pages(), 1);
+    assert_eq!(refused.into_value().device(Device::Console).build().unwrap().pages(), 1);
 }
 
 #[test]
 fn a_refusal_in_a_box_still_has_the_machine() {
-    fn lent(machine: Machine) -> Result<Lent, Box<dyn std::error::Error>> {
+    fn lent(machine: Machine) -> Result<Lent, Box<dyn std::error::Error + Send + Sync>> {
         Ok(machine.lend()?)
     }
     let mut machine = made(&[Device::Console]);
     machine.write_ram(0, b"guest").unwrap();
     let error = lent(machine).unwrap_err();
     assert_eq!(error.source().unwrap().downcast_ref::<Error>(), Some(&Error::NotYours));
-    let refused: Box<Refused<Machine>> = error.downcast().unwrap();
-    assert_eq!(bytes(&refused.value, 0, 5), b"guest");
+    let mut refused: Box<Refused<Machine>> = error.downcast().unwrap();
+    assert_eq!(bytes(refused.value_mut(), 0, 5), b"guest");
+}
+
+/// What a `?` needs of an error, to become one of the crate anyhow or of another thread.
+#[test]
+fn each_error_is_one_of_all_threads() {
+    fn is_error<E: std::error::Error + Send + Sync + 'static>() {}
+    is_error::<Error>();
+    is_error::<SyncError>();
+    is_error::<Refused<Machine>>();
+    is_error::<Refused<Lent>>();
+    is_error::<Refused<Arrival>>();
+    is_error::<Refused<MachineBuilder>>();
+    is_error::<Refused<ArrivalBuilder>>();
+    is_error::<Refused<Call>>();
+    let refused = made(&[Device::Console]).lend().map(drop).unwrap_err();
+    let told = thread::spawn(move || refused.to_string()).join().unwrap();
+    assert_eq!(told, Error::NotYours.to_string());
 }
 
 #[test]
@@ -134,7 +151,7 @@ fn an_arrival_that_failed_is_dropped_or_given_up() {
         if drops {
             drop(refused);
         } else {
-            assert_eq!(refused.value.into_parts().memory.unwrap()[0], 7);
+            assert_eq!(refused.into_value().into_parts().memory.unwrap()[0], 7);
         }
     }
 }

@@ -23,8 +23,8 @@ fn fault_of(stream: &[u8], piece: usize) -> (Error, u64) {
     let fault = arrival.fault().expect("it was refused");
     assert_eq!((told, arrival.is_whole()), (Some(fault.0), false));
     assert_eq!(arrival.feed(b"more"), Err(Error::StreamFailed));
-    let refused = arrival.finish().unwrap_err();
-    assert_eq!((refused.error, refused.value.fault()), (Error::StreamFailed, Some(fault)));
+    let mut refused = arrival.finish().unwrap_err();
+    assert_eq!((refused.error, refused.value_mut().fault()), (Error::StreamFailed, Some(fault)));
     fault
 }
 
@@ -80,7 +80,7 @@ fn a_stream_without_its_end_is_refused() {
     assert_eq!(arrival.announced().unwrap().unwrap().devices, [Device::Entropy]);
     let refused = arrival.finish().unwrap_err();
     assert_eq!(refused.error, Error::StreamTruncated);
-    let mut arrival = refused.value;
+    let mut arrival = refused.into_value();
     assert_eq!(arrival.feed(&stream()[124..]), Err(Error::StreamFailed));
 }
 
@@ -128,7 +128,7 @@ fn an_arrival_is_refused() {
     ] {
         let refused = builder.begin().unwrap_err();
         assert_eq!(refused.error, error);
-        let parts = refused.value.into_parts();
+        let parts = refused.into_value().into_parts();
         assert_eq!(parts.memory.is_some(), error == Error::BadRam);
         assert_eq!(parts.images.len(), usize::from(error == Error::BadImages));
     }
@@ -210,15 +210,15 @@ fn a_move_out_of_order_is_refused() {
     assert_eq!((machine.state(), machine.send_begin()), (State::Stopped, Err(Error::Stopped)));
     assert_eq!((machine.next(Pick::default()), machine.write_ram(0, &[])), (Err(Error::Stopped), Err(Error::Stopped)));
     assert_eq!((machine.reset(), machine.input(0, b"x")), (Err(Error::Stopped), Err(Error::Stopped)));
-    let mut machine = machine.lend().map(|_| ()).unwrap_err().value;
+    let mut machine = machine.lend().map(|_| ()).unwrap_err().into_value();
     machine.send_abort().unwrap();
     assert_eq!(machine.state(), State::Idle);
 }
 
 #[test]
 fn a_loan_is_refused() {
-    let refused = made(&[Device::Console]).lend().unwrap_err();
-    assert_eq!((refused.error, refused.value.pages()), (Error::NotYours, 16));
+    let mut refused = made(&[Device::Console]).lend().unwrap_err();
+    assert_eq!((refused.error, refused.value_mut().pages()), (Error::NotYours, 16));
 
     let machine = Machine::builder().memory(Memory::zeros(65).unwrap()).device(Device::Console).build().unwrap();
     let mut lent = machine.lend().unwrap();
@@ -231,7 +231,7 @@ fn a_loan_is_refused() {
     ] {
         let refused = lent.give_back(pages).unwrap_err();
         assert_eq!(refused.error, error);
-        lent = refused.value;
+        lent = refused.into_value();
         assert_eq!((lent.ram()[9], lent.pages()), (8, 65));
     }
     assert!(lent.give_back(Pages::bitmap(&[1, 0])).is_ok());

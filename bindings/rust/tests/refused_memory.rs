@@ -53,7 +53,7 @@ fn a_machine_is_not_made() {
     let builder = Machine::builder().pages(1024).device(Device::Console);
     let refused = without(1 << 16, || builder.build()).unwrap_err();
     assert_eq!(refused.error, Error::NoMemory);
-    assert_eq!(refused.value.build().unwrap().pages(), 1024);
+    assert_eq!(refused.into_value().build().unwrap().pages(), 1024);
 }
 
 fn a_move_fails_and_another_succeeds() {
@@ -88,9 +88,9 @@ fn an_arrival_fails_and_another_succeeds() {
 fn a_loan_stays() {
     let machine = Machine::builder().memory(Memory::zeros(4096).unwrap()).device(Device::Console).build().unwrap();
     let lent = machine.lend().unwrap();
-    let refused = without(4096, || lent.give_back(Pages::ALL)).unwrap_err();
-    assert_eq!((refused.error, refused.value.pages()), (Error::NoMemory, 4096));
-    assert_eq!(refused.value.give_back(Pages::list(&[4095])).unwrap().pages(), 4096);
+    let mut refused = without(4096, || lent.give_back(Pages::ALL)).unwrap_err();
+    assert_eq!((refused.error, refused.value_mut().pages()), (Error::NoMemory, 4096));
+    assert_eq!(refused.into_value().give_back(Pages::list(&[4095])).unwrap().pages(), 4096);
 }
 
 /// A console sends more than memory is given for. The step is told where it is the first of a call, and is made once there is memory.

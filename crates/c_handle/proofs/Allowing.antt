@@ -77,7 +77,7 @@ unfit_by false false false is some = absurd cc
 
 pub is_ram_of : (e : Expected) → arrival.arrival_refusal_of e ≡ None → IsNoneOrRam e.ram
 is_ram_of e fine some =
-    let limits = arrival_limits e.flags e.frame in
+    let limits = arrival_limits e.flags (arrival.frame_allowed e) in
     let good : arrival.is_unfit_ram limits e.most_pages (length e.ram.content) ≡ false = second_test _ _ _ _ _ (not (arrival.is_known_arrival e)) (arrival.is_unfit_ram limits e.most_pages (length e.ram.content)) (arrival.are_unfit_shapes limits e.shapes.now)
     (not (is_base e.base (length e.ram.content))) (arrival.are_other_images e) fine in
     in_greatest e.flags (length e.ram.content) (unfit_by (length e.ram.content == 0) (e.most_pages == 0) (is_ram limits (length e.ram.content)) good some)

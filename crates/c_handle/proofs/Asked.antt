@@ -1,11 +1,12 @@
 -- What the requests of a machine ask of its disks outside.
-use Rattle.std.proofs.Common.{◌≡◌, ◌+◌, ◌-◌, ◌*◌, ◌/◌, ◌<◌, ◌≤◌, ◌&&◌, ◌∙◌, ℕ, zero, suc, min, not, nat_lt, cond, Bool, true, false, List, [], ◌∷◌, ◌++◌, drop, get_or, length, length-take, map, slice_get, take, take-append-drop, Option, Some, None, option_map, IfSome, refl, sym, ap, subst, arith, if◌then◌else◌}
+use Rattle.std.proofs.Common.{◌≡◌, ◌+◌, ◌-◌, ◌*◌, ◌<◌, ◌≤◌, ◌&&◌, ◌∙◌, ℕ, zero, suc, min, nat_lt, cond, Bool, true, false, List, [], ◌∷◌, ◌++◌, drop, get_or, length, length-take, map, replicate, slice_get, take, take-append-drop, Option, Some, None, option_map, IfSome, refl, sym, ap, arith, if◌then◌else◌}
 use Rattle.std.specs.Prelude.{IsSomeAnd}
 use Rattle.std.proofs.lemmas.Bool.Decides.{nat_tests}
-use Rattle.std.proofs.lemmas.List.{append-nil, drop_all}
-use Rattle.mmio.specs.State.{Registers, queue_at}
+use Rattle.std.proofs.lemmas.List.{append-nil, drop_all, length-replicate}
+use Rattle.mmio.specs.State.{queue_at}
 use Rattle.mmio.specs.Status.{is_running}
 use Rattle.mmio.specs.declared.queue.Queue.{Queue}
+use Rattle.blk.proofs.Zeros.{zero_bytes}
 use Rattle.blk.specs.Block.{limits_of}
 use Rattle.blk.specs.Outside.{disk_call, disk_call_in, units_left, written_bytes}
 use Rattle.blk.specs.Request.{is_good, is_open}
@@ -34,7 +35,11 @@ use Rattle.machine.specs.declared.kind.Kind.TheVariants as kind
 use Rattle.machine.specs.declared.outside_call.OutsideCall.{OutsideCall}
 use Rattle.machine.specs.declared.shape.Shape.{Shape}
 use Rattle.machine.specs.declared.shape.Shape.TheVariants as shapes
-use Rattle.c_handle.specs.DiskCalls.{IsAllowed, IsAskedFor, asker_of, bytes_of, filled_by, filled_with}
+use Rattle.guestmem.specs.Memory.{Memory}
+use Rattle.guestmem.specs.declared.limits.TheConstants.{PAGES_GREATEST}
+use Rattle.machine.specs.Parked.{ParkedSeen, WhateverRam, back_with}
+use Rattle.machine.specs.Seen.{state_of}
+use Rattle.c_handle.specs.DiskCalls.{IsAllowed, IsAskedFor, asker_lent, asker_of, bytes_of, filled_by, filled_with}
 
 -- A device has 8 requests at most.
 few_by : (found : Option Queue) (base len : ℕ) (packed : Bool) (block : Block) (features : ℕ) → IsSomeAnd found (λ (q : Queue). AreRequestsOf base len packed q (limits_of block features) block.requests) → length block.requests ≤ 8
@@ -109,6 +114,11 @@ pub few_askers : (m : MachineState) (place : Place) (found : Option ℕ) (k : �
 few_askers m place found k sound asks is =
     let below : k < length (get_or (asked_of m) place.dev []) = asker_within (get_or (asked_of m) place.dev []) place.call k (sym asks ∙ is) in
     omega (arith, below, few_requests m place.dev sound)
+
+pub few_lent_askers : (p : ParkedSeen) (place : Place) (found : Option ℕ) (k : ℕ) → 1 ≤ length p.versions → length p.versions ≤ PAGES_GREATEST → WhateverRam p (λ m. IsSound (state_of (back_with p m))) → found ≡ asker_lent p place → found ≡ Some k → k < 8
+few_lent_askers p place found k some few sound asks is =
+    let m : Memory = record { bytes = replicate (4096 * length p.versions) 0; versions = p.versions; place = None } in
+    few_askers (state_of (back_with p m)) place found k (sound m (record { pages = length-replicate (4096 * length p.versions) 0; some = some; few = few }) (zero_bytes (4096 * length p.versions)) refl) asks is
 
 -- A call that is handed out is what a request asks for, or its first sectors.
 record IsCut (requests : List Request) (k most : ℕ) (call : DiskCall) : Type 0 where

@@ -1,6 +1,6 @@
 -- Flushes that fail in place of their step.
-use Rattle.std.proofs.Common.{◌≡◌, ◌≤◌, ◌<◌, ℕ, Bool, true, false, [], length, refl, sym, ap, ◌∙◌, subst, arith, true≢false}
-use Rattle.std.specs.Prelude.{Option, Some, None, MatchOption, Result, Ok, Err, is_some, slice_set}
+use Rattle.std.proofs.Common.{◌≡◌, ◌≤◌, ◌<◌, ℕ, Bool, true, false, [], length, refl, sym, ap, ◌∙◌, subst, arith}
+use Rattle.std.specs.Prelude.{Option, Some, None, MatchOption, Result, Ok, Err, slice_set}
 use Rattle.std.proofs.lemmas.List.{get_or-set_same}
 use Rattle.guestmem.specs.Memory.{Memory}
 use Rattle.machine.specs.Seen.{DeviceSeen, Seen, no_marks, state_of}
@@ -15,7 +15,7 @@ use Rattle.sender.specs.declared.phase.Phase.TheVariants as phases
 use Rattle.wire.specs.Sinks.{over_writer}
 use Rattle.sender.specs.Taking.{untaken}
 use Rattle.sender.proofs.Behind.{failure_stays_behind}
-use Rattle.c_handle.specs.Durable.{Failed, FailedIsLost, FailsSync, FailsUnless, FailedMirrors, FailedStaysPlain, HasLost, Loses, RefusedFailsNothing, loss_refusal}
+use Rattle.c_handle.specs.Durable.{FailedIsLost, FailsSync, FailsUnless, FailedMirrors, FailedStaysPlain, HasLost, Loses, RefusedFailsNothing, loss_refusal}
 use Rattle.c_handle.specs.Kept.{KeptSeen, is_lost}
 use Rattle.c_handle.specs.Mirror.{Mirrors, is_closed}
 use Rattle.c_handle.specs.OnHandle.{Refuses, Unless}

@@ -1,17 +1,18 @@
 -- Calls of disks outside, by cases on the state of what a handle has.
-use Rattle.std.proofs.Common.{◌≡◌, ◌+◌, ◌≤◌, ◌<◌, arith, length, ℕ, Bool, true, false, List, refl, sym, ap, ◌∙◌, subst, inl, inr, true≢false}
-use Rattle.std.specs.Prelude.{Option, Some, None, is_some}
+use Rattle.std.proofs.Common.{◌≡◌, ◌≤◌, ◌<◌, arith, length, ℕ, Bool, true, false, List, refl, sym, ◌∙◌, subst, inl, inr}
+use Rattle.std.specs.Prelude.{Option, Some, None, ◌&&◌, if◌then◌else◌, slice_get}
 use Rattle.blk.specs.declared.outside.DiskCall.{DiskCall}
 use Rattle.disk_calls.specs.Calls.{AllCalls, without}
 use Rattle.disk_calls.specs.declared.calls.Place.{Place}
 use Rattle.machine.specs.Seen.{Seen, state_of}
 use Rattle.machine.specs.declared.event.DiskAnswer.{DiskAnswer}
+use Rattle.machine.specs.declared.event.DiskAnswer.TheVariants as answers
 use Rattle.sender.specs.LiveState.{LiveSeen}
-use Rattle.c_handle.specs.DiskCalls.{HandsFrom, HandsUnless, HasHandedNone, IsOut, MeetsStill, asker_of, handing_refusal}
+use Rattle.c_handle.specs.DiskCalls.{HandsFrom, HandsUnless, HasHandedNone, IsOut, MeetsStill, asker_of, counted_as, counts_in, done_with, fits_done, handing_refusal, puts_bytes}
 use Rattle.machine.specs.State.{MachineState}
-use Rattle.c_handle.specs.Kept.{KeptSeen, State, Still, Moving, Arriving, Lent}
+use Rattle.c_handle.specs.Kept.{KeptSeen, LoanSeen, State, Still, Moving, Arriving, Lent, is_lost}
 use Rattle.c_handle.specs.Outside as outside
-use Rattle.c_handle.specs.Outside.{Answers, AnswersIf, AnswersKept, HandsCall, HandsKept, HasAnswered, HasNotAnswered, Meets, MeetsMoving, RefusedAnswersNothing, RefusedHandsNothing, Unfound, answer_refusal}
+use Rattle.c_handle.specs.Outside.{Answers, AnswersIf, AnswersKept, HandsCall, HandsKept, HasAnswered, HasNotAnswered, Meets, MeetsLent, MeetsMoving, RefusedAnswersNothing, RefusedHandsNothing, Unfound, answer_refusal, counted_answer, devices_of, is_lent, lent_refusal, unfit}
 use Rattle.c_handle.specs.OnHandle.{Unless}
 use Rattle.c_handle.specs.Resetting.{stop_refusal}
 use Rattle.c_handle.specs.declared.outside.Call.{Call}
@@ -35,15 +36,72 @@ pub meets_moving : (place : Place) (answer : DiskAnswer) (k : State) (l next : L
 meets_moving place answer k l next log new_log found is asks meets =
     subst (λ (x : State). Meets place answer x log (Moving next) new_log) (sym is) (subst (λ (o : Option ℕ). MeetsMoving o answer l log place.dev next new_log) asks meets)
 
+pub meets_lent : (place : Place) (answer : DiskAnswer) (k : State) (x next : LoanSeen) (log : Option (List Bool)) → k ≡ Lent x → MeetsLent place answer x next → Meets place answer k log (Lent next) log
+meets_lent place answer k x next log is meets = subst (λ (s : State). Meets place answer s log (Lent next) log) (sym is) (meets, refl)
+
+-- While RAM is lent no bytes are put into it.
+pub puts_none : (k : State) (x : LoanSeen) (answer : DiskAnswer) → k ≡ Lent x → unfit k answer true ≡ None → puts_bytes answer ≡ false
+puts_none k x (answers.Gave bytes) is fits = let here : unfit (Lent x) (answers.Gave bytes) true ≡ None = subst (λ (s : State). unfit s (answers.Gave bytes) true ≡ None) is fits in absurd cc
+puts_none k x (answers.Did count) is fits = refl
+puts_none k x answers.Failed is fits = refl
+
+pub goes_lent : (k : State) (x : LoanSeen) → k ≡ Lent x → answer_refusal k ≡ None → lent_refusal x ≡ None
+goes_lent k x is goes = subst (λ (s : State). answer_refusal s ≡ None) is goes
+
+-- What counts as a failure fits as the answer did.
+no_bytes : (lent : Bool) → (lent && false) ≡ false
+no_bytes true = refl
+no_bytes false = refl
+
+failure_taken : (k : State) → unfit k answers.Failed true ≡ None
+failure_taken k = rw (no_bytes (is_lent k)) refl
+
+taken_whole : (lent puts fits : Bool) → (if lent && puts then Some 23 else outside.misfit fits) ≡ None → (if lent && puts then Some 23 else outside.misfit true) ≡ None
+taken_whole true true fits none = none
+taken_whole true false fits none = refl
+taken_whole false puts fits none = refl
+
+counted_fits : (counts : Bool) (k : State) (answer : DiskAnswer) (fits : Bool) → unfit k answer fits ≡ None → unfit k (counted_as counts answer) true ≡ None
+counted_fits true k answer fits none = taken_whole (is_lent k) (puts_bytes answer) fits none
+counted_fits false k answer fits none = failure_taken k
+
+pub fits_as_counted : (k : KeptSeen) (place : Place) (answer counted : DiskAnswer) (fits : Bool) → counted ≡ counted_answer k place answer → unfit k.state answer fits ≡ None → unfit k.state counted true ≡ None
+fits_as_counted k place answer counted fits is none =
+    subst (λ (a : DiskAnswer). unfit k.state a true ≡ None) (sym is) (counted_fits (counts_in (is_lost k place.dev) (slice_get (devices_of k.state) place.dev) place.call) k.state answer fits none)
+
+pub failure_fits : (k : State) (answer : DiskAnswer) → answer ≡ answers.Failed → unfit k answer true ≡ None
+failure_fits k answer is = subst (λ (a : DiskAnswer). unfit k a true ≡ None) (sym is) (failure_taken k)
+
+failed_counts : (counts : Bool) → counted_as counts answers.Failed ≡ answers.Failed
+failed_counts true = refl
+failed_counts false = refl
+
 -- By whether the call is out, and the answer is one to it.
-pub answered : (k : KeptSeen) (number : ℕ) (fits : DiskCall → Bool) (answer : DiskCall → DiskAnswer) (place : Place) (next : State) (log : Option (List Bool)) (calls : AllCalls) → answer_refusal k.state ≡ None → IsOut k.calls number place → fits place.call ≡ true
-    → Meets place (answer place.call) k.state k.written next log → calls ≡ without k.calls place.dev place.i → AnswersKept k number fits answer 0 next log calls
+pub answered : (k : KeptSeen) (number : ℕ) (fits : DiskCall → Bool) (answer : DiskCall → DiskAnswer) (place : Place) (next : State) (log : Option (List Bool)) (calls : AllCalls) → answer_refusal k.state ≡ None → IsOut k.calls number place
+    → unfit k.state (answer place.call) (fits place.call) ≡ None → Meets place (counted_answer k place (answer place.call)) k.state k.written next log → calls ≡ without k.calls place.dev place.i → AnswersKept k number fits answer 0 next log calls
 answered k number fits answer place next log calls none out fit meets are =
     rw none (inl (record { place = place; is_out = out; answered = rw fit (record { status_is = refl; meets = meets; calls_are = are }) }))
 
-pub misfit : (k : KeptSeen) (number : ℕ) (fits : DiskCall → Bool) (answer : DiskCall → DiskAnswer) (place : Place) → answer_refusal k.state ≡ None → IsOut k.calls number place → fits place.call ≡ false → AnswersKept k number fits answer 3 k.state k.written k.calls
-misfit k number fits answer place none out fit =
-    rw none (inl (record { place = place; is_out = out; answered = rw fit (record { status_is = refl; state_same = refl; log_same = refl; calls_same = refl }) }))
+pub answered_as : (k : KeptSeen) (number count : ℕ) (bytes : List ℕ) (fits : Bool) (given counted : DiskAnswer) (place : Place) (next : State) (log : Option (List Bool)) (calls : AllCalls) → answer_refusal k.state ≡ None → IsOut k.calls number place
+    → given ≡ done_with count bytes place.call → fits ≡ fits_done count bytes place.call → unfit k.state given fits ≡ None → counted ≡ counted_answer k place given → Meets place counted k.state k.written next log
+    → calls ≡ without k.calls place.dev place.i → AnswersKept k number (fits_done count bytes) (done_with count bytes) 0 next log calls
+answered_as k number count bytes fits given counted place next log calls none out gives fit taken is meets are =
+    let taken_so : unfit k.state (done_with count bytes place.call) (fits_done count bytes place.call) ≡ None = subst (λ (a : DiskAnswer). unfit k.state a (fits_done count bytes place.call) ≡ None) gives (subst (λ (b : Bool). unfit k.state given b ≡ None) fit taken) in
+    let counted_so : counted ≡ counted_answer k place (done_with count bytes place.call) = subst (λ (a : DiskAnswer). counted ≡ counted_answer k place a) gives is in
+    answered k number (fits_done count bytes) (done_with count bytes) place next log calls none out taken_so (subst (λ (a : DiskAnswer). Meets place a k.state k.written next log) counted_so meets) are
+
+pub failed_as : (k : KeptSeen) (number : ℕ) (given : DiskAnswer) (place : Place) (next : State) (log : Option (List Bool)) (calls : AllCalls) → answer_refusal k.state ≡ None → IsOut k.calls number place → given ≡ answers.Failed
+    → Meets place given k.state k.written next log → calls ≡ without k.calls place.dev place.i → AnswersKept k number (λ call. true) (λ call. answers.Failed) 0 next log calls
+failed_as k number given place next log calls none out is meets are =
+    let counts = counts_in (is_lost k place.dev) (slice_get (devices_of k.state) place.dev) place.call in
+    let counted : given ≡ counted_as counts answers.Failed = is ∙ sym (failed_counts counts) in
+    answered k number (λ call. true) (λ call. answers.Failed) place next log calls none out (failure_taken k.state) (subst (λ (a : DiskAnswer). Meets place a k.state k.written next log) counted meets) are
+
+pub misfit : (k : KeptSeen) (number count : ℕ) (bytes : List ℕ) (fits : Bool) (given : DiskAnswer) (place : Place) (status : ℕ) → answer_refusal k.state ≡ None → IsOut k.calls number place → given ≡ done_with count bytes place.call
+    → fits ≡ fits_done count bytes place.call → unfit k.state given fits ≡ Some status → AnswersKept k number (fits_done count bytes) (done_with count bytes) status k.state k.written k.calls
+misfit k number count bytes fits given place status none out gives fit why =
+    let so : unfit k.state (done_with count bytes place.call) (fits_done count bytes place.call) ≡ Some status = subst (λ (a : DiskAnswer). unfit k.state a (fits_done count bytes place.call) ≡ Some status) gives (subst (λ (b : Bool). unfit k.state given b ≡ Some status) fit why) in
+    rw none (inl (record { place = place; is_out = out; answered = rw so (record { status_is = refl; state_same = refl; log_same = refl; calls_same = refl }) }))
 
 unfound_by : (refusal : Option ℕ) (k : KeptSeen) (number : ℕ) (fits : DiskCall → Bool) (answer : DiskCall → DiskAnswer) (status : ℕ) → Unfound refusal k.calls number status
     → Unless refusal (HasNotAnswered k status k.state k.written k.calls) (AnswersIf k number fits answer status k.state k.written k.calls)
@@ -85,7 +143,7 @@ same_misfit None k place answer status next log calls some h = absurd (omega (ar
 same_answers : (refusal : Option ℕ) (k : KeptSeen) (number : ℕ) (fits : DiskCall → Bool) (answer : DiskCall → DiskAnswer) (status : ℕ) (next : State) (log : Option (List Bool)) (calls : AllCalls) → 1 ≤ status
     → Unless refusal (HasNotAnswered k status next log calls) (AnswersIf k number fits answer status next log calls) → (next ≡ k.state) × (log ≡ k.written) × (calls ≡ k.calls)
 same_answers (Some reason) k number fits answer status next log calls some h = same_not k status reason next log calls h
-same_answers None k number fits answer status next log calls some (inl h) = same_misfit (outside.misfit (fits h.place.call)) k h.place (answer h.place.call) status next log calls some h.answered
+same_answers None k number fits answer status next log calls some (inl h) = same_misfit (unfit k.state (answer h.place.call) (fits h.place.call)) k h.place (answer h.place.call) status next log calls some h.answered
 same_answers None k number fits answer status next log calls some (inr h) = same_not k status 28 next log calls h.1
 
 pub refused_answers_nothing : RefusedAnswersNothing

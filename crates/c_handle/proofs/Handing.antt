@@ -1,7 +1,7 @@
 -- Images that the caller has back.
 use Rattle.std.proofs.Common.{◌≡◌, ◌≤◌, ◌<◌, ◌==◌, ◌+◌, ◌++◌, ℕ, Bool, true, false, nat_lt, List, [], ◌∷◌, refl, sym, ap, ◌∙◌, subst, arith, map, length, drop, get_or, take, true≢false}
 use Prim.Native.Nat.{zero, suc}
-use Rattle.std.specs.Prelude.{Option, Some, None, is_some, IsSome, ◌&&◌, not, slice_set, if◌then◌else◌}
+use Rattle.std.specs.Prelude.{Option, Some, None, IsSome, ◌&&◌, not, slice_set, if◌then◌else◌}
 use Rattle.std.proofs.lemmas.List.{append_assoc, append-nil, drop_more, length-append, length-map, length-set, length-take-le, map-append, take-append-drop, take_more_set}
 use Rattle.std.proofs.lemmas.List.Elements.{All-drop, All-map}
 use Rattle.blk.specs.Sectors.{Sector, sectors_of}
@@ -12,10 +12,10 @@ use Rattle.machine.specs.declared.shape.Shape.{Shape}
 use Rattle.mapped_disk.specs.declared.image.Image.{Image}
 use Rattle.c_machine.specs.Mapping.{contents, counts}
 use Rattle.c_machine.specs.Named.{are_zeros}
-use Rattle.c_handle.specs.Unmapping.{AreHandedBack, HasReleasedFrom, HasUnmapped, Releases, disk_if, disk_in, disks_in, held_by, images_of, release_refusal_of, slots_refusal}
+use Rattle.c_handle.specs.Unmapping.{AreHandedBack, HasUnmapped, disk_if, disk_in, disks_in, held_by, images_of, slots_refusal}
 use Rattle.c_handle.specs.ArrivalSeen.{ArrivalSeen, AtHead, AtBody, Refused, Over}
 use Rattle.c_handle.specs.Awaited.{awaited_sizes, is_over}
-use Rattle.c_handle.specs.Kept.{Arriving, KeptSeen}
+use Rattle.c_handle.specs.Kept.{Arriving}
 use Rattle.c_machine.proofs.Imaging.{eq_of, tested_from}
 use Rattle.c_machine.proofs.MappingImages.{left_more}
 

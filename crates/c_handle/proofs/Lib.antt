@@ -9,6 +9,7 @@ mod Awaited
 mod ByKept
 mod ByParked
 mod ByState
+mod CallLaws
 mod CallTurns
 mod Failing
 mod Filling
@@ -18,10 +19,12 @@ mod Landings
 mod LatePages
 mod Lent
 mod LentSent
+mod ListedCalls
 mod MadeIn
 mod Migration
 mod Mirrored
 mod Mirroring
+mod NextCalls
 mod Options
 mod Outs
 mod Owing

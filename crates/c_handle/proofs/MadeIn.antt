@@ -16,11 +16,11 @@ use Rattle.c_handle.specs.Made.{IsMachineOf, places_of}
 use Rattle.c_machine.proofs.MadeOf.{first_of}
 use Rattle.c_machine.proofs.MappingImages.{disks_good}
 
-machine_in : (s : Setup) (k : KeptSeen) (m : Seen) (images : Bool) → has_images s ≡ images → IsNew images s.flags (places_of s) s.block k → k.state ≡ Still m → IsFirstOf s m → IsMachineOf s k
-machine_in s k m images has new idle first = record { machine = m; new = subst (λ (b : Bool). IsNew b s.flags (places_of s) s.block k) (sym has) new; is_idle = idle; is_first = first }
+machine_in : (s : Setup) (k : KeptSeen) (m : Seen) (images : Bool) → has_images s ≡ images → IsNew images s.flags (places_of s) s.block s.calls_from k → k.state ≡ Still m → IsFirstOf s m → IsMachineOf s k
+machine_in s k m images has new idle first = record { machine = m; new = subst (λ (b : Bool). IsNew b s.flags (places_of s) s.block s.calls_from k) (sym has) new; is_idle = idle; is_first = first }
 
 -- What was made, and the box in which it lies.
-pub made_own : (s : Setup) (k kept : KeptSeen) (m : Seen) (shapes again twice : List Shape) (disks : List (List (List ℕ))) → k ≡ kept → IsNew false s.flags (places_of s) s.block kept → kept.state ≡ Still m → (length s.images.now == 0) ≡ true
+pub made_own : (s : Setup) (k kept : KeptSeen) (m : Seen) (shapes again twice : List Shape) (disks : List (List (List ℕ))) → k ≡ kept → IsNew false s.flags (places_of s) s.block s.calls_from kept → kept.state ≡ Still m → (length s.images.now == 0) ≡ true
     → shapes ≡ shapes_of s.shapes.now → again ≡ shapes → twice ≡ shapes → AreOwnDisks s.contents.now again disks → state_of m ≡ made_machine s.base (first_ram s.pages s.ram) twice (map (λ (d : List (List ℕ)). map Some d) disks)
     → m.memory.place ≡ first_place s.ram → all_marks m ≡ dealt_marks twice (map (λ (d : List (List ℕ)). no_marks) disks) → IsSound (state_of m) → IsMachineOf s k
 made_own s k kept m shapes again twice disks is new idle none asked same also own first place marks sound =
@@ -28,7 +28,7 @@ made_own s k kept m shapes again twice disks is new idle none asked same also ow
     let are : AreOwnDisks s.contents.now (shapes_of s.shapes.now) disks = subst (λ (l : List Shape). AreOwnDisks s.contents.now l disks) (same ∙ asked) own in
     subst (λ (x : KeptSeen). IsMachineOf s x) (sym is) (machine_in s kept m false (ap not none) new idle (first_of s m twice disks disks false (ap not none) all are first place marks sound))
 
-pub made_mapped : (s : Setup) (k kept : KeptSeen) (m : Seen) (shapes again : List Shape) (images : List Image) → k ≡ kept → IsNew true s.flags (places_of s) s.block kept → kept.state ≡ Still m → (length s.images.now == 0) ≡ false
+pub made_mapped : (s : Setup) (k kept : KeptSeen) (m : Seen) (shapes again : List Shape) (images : List Image) → k ≡ kept → IsNew true s.flags (places_of s) s.block s.calls_from kept → kept.state ≡ Still m → (length s.images.now == 0) ≡ false
     → shapes ≡ shapes_of s.shapes.now → again ≡ shapes → images ≡ s.images.now → state_of m ≡ made_machine s.base (first_ram s.pages s.ram) again (map (λ (d : Image). map Some d.content) images)
     → m.memory.place ≡ first_place s.ram → all_marks m ≡ dealt_marks again (map (λ (d : Image). no_marks) images) → IsSound (state_of m) → IsMachineOf s k
 made_mapped s k kept m shapes again images is new idle some asked same are first place marks sound =

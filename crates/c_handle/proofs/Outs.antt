@@ -1,16 +1,16 @@
 -- The calls that are out, of as many devices as a machine can have.
-use Rattle.std.proofs.Common.{◌≡◌, ◌+◌, ◌*◌, ◌<◌, ◌≤◌, ◌-◌, ◌^◌, ◌&&◌, ◌∙◌, ℕ, zero, suc, not, nat_lt, Bool, true, false, List, [], ◌∷◌, ◌++◌, get_or, length, length-set, replicate, set, min, slice_get, take, All, Option, Some, None, IfSome, refl, sym, ap, arith, inl, inr, remove, if◌then◌else◌}
+use Rattle.std.proofs.Common.{◌≡◌, ◌+◌, ◌*◌, ◌<◌, ◌≤◌, ◌^◌, ◌&&◌, ◌∙◌, ℕ, zero, suc, not, nat_lt, Bool, true, false, List, [], ◌∷◌, ◌++◌, get_or, length, length-set, replicate, set, slice_get, take, All, Option, Some, None, refl, sym, ap, arith, inl, inr, remove, if◌then◌else◌}
 use Rattle.std.specs.List.{list_any}
 use Rattle.std.proofs.lemmas.Bool.{cases_lt}
 use Rattle.std.proofs.lemmas.Bool.Decides.{nat_tests}
-use Rattle.std.proofs.lemmas.List.{length-replicate}
 use Rattle.std.proofs.lemmas.Option.{get_or_from_slice_get, slice_get_past, slice_get_within}
-use Rattle.blk.specs.Outside.{disk_call, disk_call_at}
+use Rattle.blk.specs.Outside.{disk_call_at}
 use Rattle.blk.specs.declared.outside.DiskCall.{DiskCall}
 use Rattle.blk.specs.declared.request.Request.{Request}
-use Rattle.disk_calls.specs.Calls.{AllCalls, CallsState, IsAt, IsHandedOut, call_of, call_of_device, with_out, without}
-use Rattle.disk_calls.specs.Handing.{asker, call_at, cut, handed_out, left_overlaps, may_hand_out}
+use Rattle.disk_calls.specs.Calls.{AllCalls, CallsState, IsAt, IsHandedOut, IsNext, call_of, call_of_device, with_out, without}
+use Rattle.disk_calls.specs.Handing.{asker, cut, handed_out, may_hand_out}
 use Rattle.disk_calls.specs.Overlap.{overlap}
+use Rattle.disk_calls.specs.Parts.{MayGoInPart}
 use Rattle.disk_calls.specs.declared.calls.Handed.{Handed}
 use Rattle.disk_calls.specs.declared.out.Out.{Out}
 use Rattle.c_handle.specs.CallsOut.{count_out, of_each, outs_in}
@@ -54,16 +54,22 @@ call_same n most calls asked dev k long =
           rw none refl
     ]
 
+pub next_same : (n most : ℕ) (calls : AllCalls) (asked : List (List Request)) (dev k : ℕ) (call : DiskCall) → length calls.devices ≡ n → IsNext most calls (of_each n asked) dev k call → IsNext most calls asked dev k call
+next_same n most calls asked dev k call long next = record {
+  may = sym (call_same n most calls asked dev k long) ∙ next.may;
+  first = λ j less. sym (call_same n most calls asked dev j long) ∙ next.first j less;
+  steps = next.steps;
+  few = next.few;
+  there = next.there;
+  before = λ i j less. sym (call_same n most calls asked _ j long) ∙ next.before i j less;
+}
+
+pub part_same : (n most : ℕ) (calls : AllCalls) (asked : List (List Request)) (dev k : ℕ) → length calls.devices ≡ n → MayGoInPart most calls (of_each n asked) dev k → MayGoInPart most calls asked dev k
+part_same n most calls asked dev k long may fewer some few = let part = may fewer some few in (part.0, sym (call_same n fewer calls asked dev k long) ∙ part.1)
+
 pub handed_same : (n most : ℕ) (old new : AllCalls) (asked : List (List Request)) (h : Handed) → length old.devices ≡ n → IsHandedOut most old (of_each n asked) h new → IsHandedOut most old asked h new
 handed_same n most old new asked h long o = record {
-  next = record {
-    may = sym (call_same n most old asked h.dev h.k long) ∙ o.next.may;
-    first = λ j less. sym (call_same n most old asked h.dev j long) ∙ o.next.first j less;
-    steps = o.next.steps;
-    few = o.next.few;
-    there = o.next.there;
-    before = λ i j less. sym (call_same n most old asked _ j long) ∙ o.next.before i j less;
-  };
+  next = next_same n most old asked h.dev h.k h.call long o.next;
   number = o.number;
   device = o.device;
   was = o.was;

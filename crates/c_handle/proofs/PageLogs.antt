@@ -1,6 +1,6 @@
 -- The log of the pages that calls write.
-use Rattle.std.proofs.Common.{◌≡◌, ◌<◌, ◌≤◌, ◌*◌, ◌/◌, ◌%◌, max, min, ℕ, Bool, true, false, List, [], ◌∷◌, refl, sym, ap, ◌∙◌, subst, arith, length, replicate, take, true≢false}
-use Rattle.std.specs.Prelude.{Option, Some, None, MatchOption, is_some, if◌then◌else◌, slice_set}
+use Rattle.std.proofs.Common.{◌≡◌, ◌<◌, ◌≤◌, ◌*◌, ◌/◌, ◌%◌, max, min, ℕ, Bool, true, false, List, [], ◌∷◌, refl, sym, ap, ◌∙◌, subst, arith, length, replicate, take}
+use Rattle.std.specs.Prelude.{Option, Some, None, MatchOption, if◌then◌else◌, slice_set}
 use Rattle.std.proofs.lemmas.List.{length-set, length-replicate}
 use Rattle.guestmem.specs.Item.{Item, after_all, page, sector}
 use Rattle.guestmem.specs.Maybe.{after_if, may_if}
@@ -29,8 +29,8 @@ use Rattle.c_machine.specs.declared.setup.Setup.{Setup}
 use Rattle.c_handle.proofs.Allowing.{asked_ram, first_long}
 use Rattle.c_handle.specs.Made.{places_of}
 use Rattle.c_handle.specs.SendStatus.{live_status}
-use Rattle.c_handle.specs.HandedOut.{HandedOut, HandsFrom, HandsIf, is_here}
-use Rattle.c_handle.specs.Kept.{FitsLog, KeptSeen, first_log}
+use Rattle.c_handle.specs.HandedOut.{HandsFrom, HandsIf}
+use Rattle.c_handle.specs.Kept.{FitsLog, first_log}
 
 -- The log that is asked for.
 pub asked : (flags places : ℕ) (log : List Bool) → asks_log flags ≡ true → log ≡ replicate places false → ◌≡◌ {A = Option (List Bool)} (Some log) (first_log flags places)

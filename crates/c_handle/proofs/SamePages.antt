@@ -1,13 +1,16 @@
 -- No call changes how many bytes RAM has, so a log that fits a machine fits it after each call.
-use Rattle.std.proofs.Common.{◌≡◌, ◌≤◌, ◌*◌, nat_lt, ℕ, zero, suc, Bool, true, false, List, refl, sym, ap, ◌∙◌, subst, arith, length}
+use Rattle.std.proofs.Common.{◌≡◌, ◌≤◌, ◌+◌, ◌*◌, nat_lt, ℕ, zero, suc, Bool, true, false, List, refl, sym, ap, ◌∙◌, subst, arith, length}
 use Rattle.std.specs.Prelude.{Option, Some, None, MatchOption}
 use Rattle.std.proofs.lemmas.Bool.Decides.{nat_tests}
+use Rattle.disk_calls.specs.declared.calls.Place.{Place}
 use Rattle.guestmem.specs.Memory.{IsMemory}
 use Rattle.machine.specs.Applied.{IsApplied}
 use Rattle.machine.specs.Parked.{IsAppliedParked, IsParked, ParkedSeen, machine_marked}
 use Rattle.machine.specs.Seen.{Seen, state_of}
 use Rattle.machine.specs.Unsynced.{FailsFlushIf, makes_flush}
+use Rattle.machine.specs.declared.event.DiskAnswer.{DiskAnswer}
 use Rattle.machine.specs.declared.event.Event.{Event}
+use Rattle.machine.specs.declared.event.Event.TheVariants.{Disk}
 use Rattle.machine.specs.declared.reply.Reply.{Reply}
 use Rattle.region.specs.declared.region.Region.{Region}
 use Rattle.region.specs.declared.slot.Slot.{Slot}
@@ -27,13 +30,15 @@ use Rattle.sender.specs.declared.mig_error.MigError.{MigError}
 use Rattle.c_handle.specs.ArrivalSeen.{ArrivalSeen}
 use Rattle.c_handle.specs.Arriving.{Ends, has_more}
 use Rattle.c_handle.specs.Awaited.{HasArrived, ram_coming}
+use Rattle.c_handle.specs.DiskCalls.{MeetsParked, asker_lent}
 use Rattle.c_handle.specs.Durable.{FailsSync, FailsUnless}
-use Rattle.c_handle.specs.Kept.{FitsLog, LoanSeen, StillLent, MovingLent, State, Still, Moving, Arriving, Lent, ram_in}
+use Rattle.c_handle.specs.Kept.{FitsLog, LoanSeen, StillLent, MovingLent, State, Still, Moving, Arriving, Lent, parked_in, ram_in}
 use Rattle.c_handle.specs.Lent.{HasComeBack, IsLiveLoan, IsReturnable}
 use Rattle.c_handle.specs.Migrated.{AbortsKept, BeginsKept, GoesOn, HasEnded, StopsUnless, HasTaken, SendsIf, SendsSome, SendsUpTo, TakesLent, is_none_due, send_refusal}
 use Rattle.c_handle.specs.Mirror.{is_closed}
 use Rattle.c_handle.specs.Moving.{Saves, SavesIf}
 use Rattle.c_handle.specs.OnHandle.{Unless}
+use Rattle.c_handle.specs.Outside.{MeetsLent, MeetsLiveParked}
 use Rattle.wire.specs.Stream.{whole}
 
 -- A log that fits so many bytes fits as many.
@@ -68,6 +73,24 @@ applied_lent log places k p next e reply fits a is = fits_at log places k (Lent 
 
 pub served_lent : (log : Option (List Bool)) (places : ℕ) (k : State) (p next : LiveParkedSeen) (e : Event) (reply : LiveReply) → FitsLog log (ram_in places k) → ServesParked p e reply next → k ≡ Lent (MovingLent p) → FitsLog log (4096 * length next.parked.versions)
 served_lent log places k p next e reply fits s is = fits_at log places k (Lent (MovingLent p)) (Lent (MovingLent next)) fits is (ap (λ (v : List ℕ). 4096 * length v) (parked_size (refusal_for p.phase (Guest e)) p next e reply s))
+
+-- Answers of disks outside.
+met_size : (found : Option ℕ) (answer : DiskAnswer) (p next : ParkedSeen) (dev : ℕ) → MeetsParked found answer p dev next → next.versions ≡ p.versions
+met_size None answer p next dev meets = ap (λ (q : ParkedSeen). q.versions) meets
+met_size (Some k) answer p next dev meets = meets.1.versions
+
+met_live_size : (found : Option ℕ) (answer : DiskAnswer) (l next : LiveParkedSeen) (dev : ℕ) → MeetsLiveParked found answer l dev next → next.parked.versions ≡ l.parked.versions
+met_live_size None answer l next dev meets = ap (λ (q : LiveParkedSeen). q.parked.versions) meets
+met_live_size (Some k) answer l next dev meets = parked_size (refusal_for l.phase (Guest (Disk dev (k + 1) answer))) l next (Disk dev (k + 1) answer) meets.0 meets.1
+
+met_lent_size : (place : Place) (answer : DiskAnswer) (x next : LoanSeen) → MeetsLent place answer x next → (parked_in next).versions ≡ (parked_in x).versions
+met_lent_size place answer (StillLent p) (StillLent next) meets = met_size (asker_lent p place) answer p next place.dev meets
+met_lent_size place answer (MovingLent l) (MovingLent next) meets = met_live_size (asker_lent l.parked place) answer l next place.dev meets
+met_lent_size place answer (StillLent p) (MovingLent next) meets = absurd meets
+met_lent_size place answer (MovingLent l) (StillLent next) meets = absurd meets
+
+pub met_lent : (log : Option (List Bool)) (places : ℕ) (k : State) (x next : LoanSeen) (place : Place) (answer : DiskAnswer) → FitsLog log (ram_in places k) → MeetsLent place answer x next → k ≡ Lent x → FitsLog log (ram_in places (Lent next))
+met_lent log places k x next place answer fits meets is = fits_at log places k (Lent x) (Lent next) fits is (ap (λ (v : List ℕ). 4096 * length v) (met_lent_size place answer x next meets))
 
 -- Flushes that fail.
 failed_size : (was : Bool) (m next : Seen) (dev pick : ℕ) → FailsFlushIf was m dev pick next → length next.memory.bytes ≡ length m.memory.bytes

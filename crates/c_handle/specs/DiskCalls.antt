@@ -8,16 +8,18 @@ use Rattle.blk.specs.declared.outside.What.TheVariants as to
 use Rattle.blk.specs.declared.request.Request.{Request}
 use Rattle.disk_calls.specs.Calls.{AllCalls, IsAt, IsHandedOut, call_of_device}
 use Rattle.disk_calls.specs.Handing.{asker}
+use Rattle.disk_calls.specs.Lost.{makes_durable}
 use Rattle.disk_calls.specs.Machines.{asked_of}
 use Rattle.disk_calls.specs.declared.calls.Handed.{Handed}
 use Rattle.disk_calls.specs.declared.calls.Place.{Place}
 use Rattle.disk_calls.specs.declared.out.Out.{Out}
 use Rattle.machine.specs.Applied.{IsApplied, IsAppliedLogged}
-use Rattle.machine.specs.Outside.{MayAsk, base_in, disk_call_of, request_of}
+use Rattle.machine.specs.Outside.{MayAsk, asking_requests, base_in, call_with, disk_call_of, request_of}
 use Rattle.machine.specs.PageLog.{noted}
+use Rattle.machine.specs.Parked.{IsAppliedParked, ParkedSeen, parked_states}
 use Rattle.machine.specs.Seen.{Seen}
 use Rattle.machine.specs.Shapes.{made_as}
-use Rattle.machine.specs.State.{MachineState}
+use Rattle.machine.specs.State.{DeviceState, MachineState}
 use Rattle.machine.specs.declared.event.DiskAnswer.{DiskAnswer}
 use Rattle.machine.specs.declared.event.DiskAnswer.TheVariants as answers
 use Rattle.machine.specs.declared.event.Event.TheVariants.{Disk}
@@ -148,6 +150,22 @@ done_as to.Write count bytes = answers.Did count
 done_as to.Clear count bytes = answers.Did count
 done_as to.Flush count bytes = answers.Did 1
 
+-- The bytes of a read go into RAM. No other answer touches it.
+abbrev pub puts_bytes : DiskAnswer → Bool
+puts_bytes (answers.Gave bytes) = true
+puts_bytes (answers.Did count) = false
+puts_bytes answers.Failed = false
+
+-- An answer counts, unless the disk is lost and the answer would say that something is durable.
+abbrev pub counts_in : Bool → Option DeviceState → DiskCall → Bool
+counts_in lost None call = true
+counts_in lost (Some d) call = not (lost && makes_durable (call_with d.registers.common.features call))
+
+-- One that does not count is a failure for the request that asked, whatever the storage said.
+abbrev pub counted_as : Bool → DiskAnswer → DiskAnswer
+counted_as true answer = answer
+counted_as false answer = answers.Failed
+
 abbrev pub answer_in : Given → DiskAnswer
 answer_in (given.Bytes bytes) = answers.Gave bytes.now
 answer_in (given.Units count) = answers.Did count
@@ -167,6 +185,15 @@ MeetsStill (Some k) answer m log dev next new_log = TakesAnswer answer m log dev
 -- The request that asked: the first whose call begins as this one does.
 abbrev pub asker_of : MachineState → Place → Option ℕ
 asker_of m place = asker (slice_index_or (asked_of m) place.dev []) place.call
+
+-- The same of a machine whose RAM is lent.
+abbrev pub asker_lent : ParkedSeen → Place → Option ℕ
+asker_lent p place = asker (slice_index_or (map asking_requests (parked_states p)) place.dev []) place.call
+
+-- So is an answer handed to it, which touches no byte of RAM.
+abbrev pub MeetsParked : Option ℕ → DiskAnswer → ParkedSeen → ℕ → ParkedSeen → Type 0
+MeetsParked None answer p dev next = next ≡ p
+MeetsParked (Some k) answer p dev next = (reply : Reply) × IsAppliedParked p (Disk dev (k + 1) answer) reply next
 
 -- The call with this number is out at this place.
 abbrev pub IsOut : AllCalls → ℕ → Place → Type 0

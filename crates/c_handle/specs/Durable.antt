@@ -1,6 +1,7 @@
--- When a driver takes what was written to a disk for durable, and what follows where the disk could not be brought to its file: the disk
--- is lost. A failed sync is for good, since the system reports it once. So each later flush of the disk fails, and a write after whose end
--- the driver takes what was written for durable does not end.
+-- When a driver takes what was written to a disk for durable, and what follows where the disk could not be brought to its file, or is on storage that
+-- may have lost what it answered: the disk is lost. That is for good, since the system reports a failed sync once. So each later flush of the disk
+-- fails. Of a disk in memory a write after whose end the driver takes what was written for durable does not end; of one outside it fails
+-- (`specs/DiskCalls`).
 use Rattle.std.specs.Prelude.{◌≡◌, ℕ, ◌≤◌, ◌<◌, Bool, true, false, if◌then◌else◌, List, length, Option, Some, None, slice_get, slice_set}
 use Rattle.blk.specs.declared.durable.SyncOwed.{SyncOwed}
 use Rattle.blk.specs.declared.durable.SyncOwed.TheVariants.{Nothing}
@@ -73,7 +74,7 @@ FailsKept k dev pick status next =
 abbrev pub kind_refusal : Kind → Option ℕ
 kind_refusal (Block block) = None
 kind_refusal (Network mac inbox) = Some (code_of WrongKind)
-kind_refusal (Outside block) = Some (code_of WrongKind)
+kind_refusal (Outside block) = None
 kind_refusal (Console size held) = Some (code_of WrongKind)
 kind_refusal (Entropy pool) = Some (code_of WrongKind)
 

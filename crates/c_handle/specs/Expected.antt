@@ -12,7 +12,7 @@ use Rattle.region.specs.declared.slot.Slot.{Slot}
 use Rattle.c_handle.specs.AdmissionSeen.{Pending}
 use Rattle.c_handle.specs.Awaited.{nothing_fed}
 use Rattle.c_handle.specs.Kept.{IsNew, KeptSeen, State, Arriving, places_for}
-use Rattle.c_machine.specs.Expected.{IsUntaken, arrival_refusal_of, has_images, has_ram, header_limits, outside_allowed}
+use Rattle.c_machine.specs.Expected.{IsUntaken, arrival_refusal_of, frame_allowed, has_images, has_ram, header_limits, outside_allowed}
 use Rattle.c_handle.specs.Landing.{IsAwaitedAt}
 use Rattle.c_machine.specs.Made.{first_place, has_bytes, is_ram, ram_bytes, ram_left}
 use Rattle.c_machine.specs.Making.{shapes_of}
@@ -23,7 +23,7 @@ use Rattle.c_machine.specs.declared.setup.Expected.{Expected}
 
 -- The limits within which the header is read.
 abbrev pub limits_in : Expected → Limits
-limits_in e = header_limits e.flags e.frame (outside_allowed e)
+limits_in e = header_limits e.flags (frame_allowed e) (outside_allowed e)
 
 -- The most that may arrive. RAM and images of the caller are their own limit: the machine has to be as they are.
 abbrev pub allowed_of : Expected → Allowed
@@ -31,7 +31,7 @@ allowed_of e = record {
   limits = limits_in e;
   pages = if has_ram e then PAGES_GREATEST else e.most_pages;
   sectors = if has_images e then 2 ^ 64 - 1 else e.most_sectors;
-  frame = e.frame;
+  frame = frame_allowed e;
   outside = outside_allowed e;
   base = e.base;
 }
@@ -68,7 +68,7 @@ StandsExpected true e (Arriving a) = IsAwaitedAt (terms_of e) (first_place e.ram
 StandsExpected true e _ = ⊥
 
 pub record IsArrivalOf (e : Expected) (k : KeptSeen) : Type 0 where
-  pub new : IsNew (has_images e) e.flags (places_of e) e.block k
+  pub new : IsNew (has_images e) e.flags (places_of e) e.block e.calls_from k
   pub stands : StandsExpected (has_images e) e k.state
   pub asked : k.admission ≡ Pending (allowed_of e) (shapes_of e.shapes.now) []
 

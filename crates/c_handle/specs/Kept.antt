@@ -55,7 +55,8 @@ pub record KeptSeen : Type 0 where
 abbrev pub none_lost : List Bool
 none_lost = replicate DEVICES_MAX false
 
--- Bytes of the disk of this device did not reach the file that holds it, and will not: each later flush of it fails.
+-- Bytes of the disk of this device did not reach the file that holds it, and will not, or may have been lost by the storage that it is on: nothing more
+-- of it is made durable.
 abbrev pub is_lost : KeptSeen → ℕ → Bool
 is_lost k dev = slice_index_or k.lost dev false
 
@@ -73,17 +74,17 @@ places_for flags bytes = max (min (bytes / PAGE_SIZE) (limits_for flags).pages) 
 abbrev pub first_log : ℕ → ℕ → Option (List Bool)
 first_log flags places = if asks_log flags then Some (replicate places false) else None
 
--- At first no call is out, of any device that a machine can have, over storage with such blocks.
-abbrev pub first_calls : ℕ → AllCalls
-first_calls block = record { devices = replicate DEVICES_MAX (record { size = block_size block; outs = [] }); turn = 0; number = 0 }
+-- At first no call is out, of any device that a machine can have, over storage with such blocks; and the first one will have this number.
+abbrev pub first_calls : ℕ → ℕ → AllCalls
+first_calls block from = record { devices = replicate DEVICES_MAX (record { size = block_size block; outs = [] }); turn = 0; number = from }
 
 -- As it is at first: whose memory its disks lie in, none of them is lost, nothing was fed, no call is out, and what the flags ask for, with a
 -- log of this many places.
-pub record IsNew (mapped : Bool) (flags places block : ℕ) (k : KeptSeen) : Type 0 where
+pub record IsNew (mapped : Bool) (flags places block from : ℕ) (k : KeptSeen) : Type 0 where
   pub is_mapped : k.is_mapped ≡ mapped
   pub none_lost : k.lost ≡ none_lost
   pub none_fed : k.fed ≡ 0
-  pub none_out : k.calls ≡ first_calls block
+  pub none_out : k.calls ≡ first_calls block from
   pub large : k.large ≡ asks_large flags
   pub places_are : k.places ≡ places
   pub log : k.written ≡ first_log flags places
@@ -121,7 +122,7 @@ are_mapped (held.Mapped c) = true
 are_mapped (held.Arriving a) = is_over a
 
 abbrev pub kept_with : Held → AdmissionSeen → ℕ → List Bool → KeptSeen
-kept_with held admission fed lost = record { is_mapped = are_mapped held; state = held_state held; admission = admission; fed = fed; lost = lost; calls = first_calls 1; large = false; places = 0; written = None }
+kept_with held admission fed lost = record { is_mapped = are_mapped held; state = held_state held; admission = admission; fed = fed; lost = lost; calls = first_calls 1 0; large = false; places = 0; written = None }
 
 -- Where no stream arrives none was asked for.
 abbrev pub unasked : AdmissionSeen

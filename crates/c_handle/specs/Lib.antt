@@ -5,6 +5,7 @@ pub mod ArrivalSeen
 pub mod ArrivedLogs
 pub mod Arriving
 pub mod Awaited
+pub mod CallLaws
 pub mod CallsOut
 pub mod Described
 pub mod DiskCalls
@@ -19,6 +20,7 @@ pub mod Landing
 pub mod Late
 pub mod Lending
 pub mod Lent
+pub mod Listed
 pub mod Made
 pub mod Migrated
 pub mod Mirror

@@ -14,7 +14,7 @@ places_of s = places_for s.flags (ram_bytes s.pages (length s.ram.content))
 -- The new machine. It is not being migrated.
 pub record IsMachineOf (s : Setup) (k : KeptSeen) : Type 0 where
   pub machine : Seen
-  pub new : IsNew (has_images s) s.flags (places_of s) s.block k
+  pub new : IsNew (has_images s) s.flags (places_of s) s.block s.calls_from k
   pub is_idle : k.state ≡ Still machine
   pub is_first : IsFirstOf s machine
 

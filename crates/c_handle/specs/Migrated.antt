@@ -21,6 +21,7 @@ use Rattle.wire.specs.Sinks.{Takes, over_writer}
 use Rattle.c_machine.specs.Status.{calls_out, done, lent, no_machine, no_memory, round_done}
 use Rattle.c_handle.specs.SendStatus.{live_status, mig_status}
 use Rattle.c_handle.specs.Kept.{KeptSeen, LoanSeen, StillLent, MovingLent, State, Still, Moving, Arriving, Lent}
+use Rattle.c_handle.specs.Mirror.{is_closed}
 use Rattle.c_handle.specs.OnHandle.{ByState, OfEachState, OfHandle, OnHandle, Refuses, RefusesBoth, Unless}
 use Rattle.c_handle.specs.declared.migrating.SendLeft.{SendLeft}
 
@@ -157,18 +158,23 @@ pub record AreCounted (pages : ℕ) (due dirty : List Bool) (left : SendLeft) : 
   pub dirty_pages : left.dirty_pages ≡ member_count (take pages dirty)
   pub dirty_sectors : left.dirty_sectors ≡ member_count (drop pages dirty)
 
+-- A bound on the bytes that a stop would still write: 0 of a machine that was stopped.
+abbrev pub IsMostByStop : Bool → (ℕ → Type 0) → ℕ → Type 0
+IsMostByStop true within bytes = bytes ≡ 0
+IsMostByStop false within bytes = within bytes
+
 -- How many pages and sectors are due in this round, and how many were written since; and the most bytes that a stop would write.
 pub record IsLeft (l : LiveSeen) (status : ℕ) (left : SendLeft) : Type 0 where
   pub status_is : status ≡ done
   pub counted : AreCounted (pages_of (now l)) l.due l.dirty left
-  pub stop_bytes : StopsWithin l left.stop_bytes
+  pub stop_bytes : IsMostByStop (is_closed l.phase) (StopsWithin l) left.stop_bytes
   pub reserved : left.reserved ≡ replicate 3 0
 
 -- As above, while its RAM is lent: as far as its pages were named.
 pub record IsLeftLent (l : LiveParkedSeen) (status : ℕ) (left : SendLeft) : Type 0 where
   pub status_is : status ≡ done
   pub counted : AreCounted (length l.parked.versions) l.due l.dirty left
-  pub stop_bytes : WhateverRam l.parked (λ m. StopsWithin (live_back l m []) left.stop_bytes)
+  pub stop_bytes : IsMostByStop (is_closed l.phase) (λ bytes. WhateverRam l.parked (λ m. StopsWithin (live_back l m []) bytes)) left.stop_bytes
   pub reserved : left.reserved ≡ replicate 3 0
 
 abbrev pub LeavesKept : State → ℕ → SendLeft → SendLeft → Type 0

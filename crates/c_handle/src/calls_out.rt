@@ -10,7 +10,7 @@ ghost use Rattle.c_handle.specs.CallsOut.{of_each};
 
 use blk::Request;
 use c_machine::block_size;
-use disk_calls::{Asks, Calls, Handed, Place};
+use disk_calls::{Asks, Calls, Handed, Listed, Place};
 use guestmem::NoMemory;
 use machine::DEVICES_MAX;
 use std::alloc::Global;
@@ -65,16 +65,17 @@ impl CallsOut {
     ghost use Rattle.std.specs.Prelude.{◌≡◌, ◌≢◌, ◌^◌, ◌-◌, ◌<◌, ◌≤◌, ℕ, [], None, IfOk, IfSome, length, slice_index_or};
     ghost use Rattle.disk_calls.specs.Calls.{IsAt, IsHandedOut, call_of_device, is_any_out, is_out_of, without};
     ghost use Rattle.disk_calls.specs.Handing.{asker};
+    ghost use Rattle.disk_calls.specs.Oldest.{IsNoneFrom, IsOldestFrom};
     ghost use Rattle.disk_calls.specs.declared.out.Out.{Out};
     ghost use Rattle.machine.specs.declared.machine.TheConstants.{DEVICES_MAX};
-    ghost use Rattle.c_handle.specs.CallsOut.{count_out};
+    ghost use Rattle.c_handle.specs.CallsOut.{HasNoCall, IsCallNext, count_out};
     ghost use Rattle.c_handle.specs.Kept.{first_calls};
 
-    /// None, over storage with such blocks. Its only error is out of memory.
-    pub(crate) fn new(alloc: Global, block: u32) -> Result<CallsOut, NoMemory>
-        ensures { IfOk result (λ calls. calls ≡ first_calls block) }
+    /// None, over storage with such blocks; the first will have this number. Its only error is out of memory.
+    pub(crate) fn new(alloc: Global, block: u32, from: u64) -> Result<CallsOut, NoMemory>
+        ensures { IfOk result (λ calls. calls ≡ first_calls block from) }
     {
-        let calls = Calls::new(alloc, DEVICES_MAX, block_size(block))?;
+        let calls = Calls::starting_at(alloc, DEVICES_MAX, block_size(block), from)?;
         Ok(CallsOut { calls, count: 0 })
     }
 
@@ -89,6 +90,25 @@ impl CallsOut {
         let handed = self.calls.next(&Whole { machine }, most)?;
         self.count += 1;
         Some(handed)
+    }
+
+    /// The device whose call `next` would hand out now, whatever the size of its buffer, if any waits that may be handed out.
+    pub(crate) fn next_device<T: Asks>(&self, machine: &T) -> Option<u8>
+        ensures some { IfSome result (λ dev. IsCallNext self.now (T.asked machine.now) dev) }
+        ensures none { result ≡ None → HasNoCall self.now (T.asked machine.now) }
+    {
+        let dev = self.calls.next_device(&Whole { machine }, u32::MAX)?;
+        Some(dev as u8)
+    }
+
+    /// The call that is out with the least number from this one on.
+    pub(crate) fn oldest_from(&self, number: u64) -> Option<Listed>
+        ensures some { IfSome result (λ listed. IsOldestFrom self.now number listed) }
+        ensures there { IfSome result (λ listed. listed.dev < DEVICES_MAX) }
+        ensures below { IfSome result (λ listed. listed.out.number < 2 ^ 64 - 1) }
+        ensures none { result ≡ None → IsNoneFrom self.now number }
+    {
+        self.calls.oldest_from(number)
     }
 
     /// Where the call with this number is, if it is out.

@@ -57,7 +57,7 @@ fn made(alloc: Global, setup: &mut Setup) -> Result<Box<Kept>, NoMemory>
     ensures slots { setup.new.images.ghost_name ≡ setup.old.images.ghost_name }
 {
     let shapes = shapes_of(alloc, setup.shapes)?;
-    let boxed = stand_in(alloc, setup.block)?;
+    let boxed = stand_in(alloc, setup.block, setup.calls_from)?;
     let admission = unasked(alloc);
     let asked = Asked::by(setup.flags, ram_bytes(setup.pages, setup.ram.len()));
     let log = log_for(alloc, setup.flags, asked.places)?;
@@ -85,13 +85,14 @@ fn made(alloc: Global, setup: &mut Setup) -> Result<Box<Kept>, NoMemory>
     }
 }
 
-/// A box in which the contents of a handle will lie, with room for the calls of disks outside, over storage with such blocks.
-pub(crate) fn stand_in(alloc: Global, block: u32) -> Result<Box<Kept>, NoMemory>
-    ensures calls { IfOk result (λ k. k.value.calls ≡ first_calls block) }
+/// A box in which the contents of a handle will lie, with room for the calls of disks outside, over storage with such blocks, and the number of
+/// the first one.
+pub(crate) fn stand_in(alloc: Global, block: u32, from: u64) -> Result<Box<Kept>, NoMemory>
+    ensures calls { IfOk result (λ k. k.value.calls ≡ first_calls block from) }
     ensures fed { IfOk result (λ k. k.value.fed ≡ 0) }
     ensures lost { IfOk result (λ k. k.value.lost ≡ none_lost) }
 {
-    let calls = CallsOut::new(alloc, block)?;
+    let calls = CallsOut::new(alloc, block, from)?;
     let boxed = Box::new(alloc, Kept::empty(alloc, calls))?;
     Ok(boxed)
 }

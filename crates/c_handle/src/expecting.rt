@@ -18,8 +18,8 @@ use crate::kept::{Asked, Held, Kept};
 use crate::logging::log_for;
 use c_machine::status::{DONE, IN_USE, NO_MEMORY};
 use c_machine::{
-    Expected, arrival_refusal, give_back, header_limits, is_none, mapped_disks, outside_allowed,
-    put_back, ram_bytes, shapes_of, taken_ram,
+    Expected, arrival_refusal, frame_allowed, give_back, header_limits, is_none, mapped_disks,
+    outside_allowed, put_back, ram_bytes, shapes_of, taken_ram,
 };
 use guestmem::{NoMemory, PAGES_GREATEST, Ram};
 use machine::Limits;
@@ -61,7 +61,7 @@ pub(crate) fn awaited(alloc: Global, expected: &mut Expected) -> Result<Box<Kept
 {
     let shapes = shapes_of(alloc, expected.shapes)?;
     let admission = Admission::Pending(allowed(expected), shapes, Vec::new(alloc));
-    let boxed = stand_in(alloc, expected.block)?;
+    let boxed = stand_in(alloc, expected.block, expected.calls_from)?;
     let bytes = ram_bytes(expected.most_pages, expected.ram.len());
     let asked = Asked::by(expected.flags, bytes);
     let log = log_for(alloc, expected.flags, asked.places)?;
@@ -121,6 +121,7 @@ fn allowed(expected: &mut Expected) -> Allowed
     ensures allowed { result ≡ allowed_of expected.old }
 {
     let limits = limits_in(expected);
+    let frame = frame_allowed(expected);
     let outside = outside_allowed(expected);
     let pages = if expected.ram.is_none() {
         expected.most_pages
@@ -136,7 +137,7 @@ fn allowed(expected: &mut Expected) -> Allowed
         limits,
         pages,
         sectors,
-        frame: expected.frame,
+        frame,
         outside,
         base: expected.base,
     }
@@ -148,5 +149,6 @@ fn limits_in(expected: &mut Expected) -> Limits
     ensures limits { result ≡ limits_in expected.old }
 {
     let outside = outside_allowed(expected);
-    header_limits(expected.flags, expected.frame, outside)
+    let frame = frame_allowed(expected);
+    header_limits(expected.flags, frame, outside)
 }

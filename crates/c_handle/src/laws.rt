@@ -1,6 +1,7 @@
 //! Laws over the definitions alone. These functions do nothing: their contracts are the laws.
 
 ghost use Rattle.c_handle.specs.ArrivedLogs.{ArrivedHasPlaces};
+ghost use Rattle.c_handle.specs.CallLaws.{AnswersStayFrom, FirstCallsAreFrom, ForeignIsNotOut, HandsStayFrom, LostAnswersFail, NextCallIsHandedOut, UnusedIsNotOut};
 ghost use Rattle.c_handle.specs.Durable.{FailedIsLost, FailedMirrors, FailedStaysPlain, RefusedFailsNothing};
 ghost use Rattle.c_handle.specs.Mirror.{AppliedMirrors, PulledMirrors, PushedMirrors, UnseenMirrors};
 ghost use Rattle.c_machine.specs.Plain.{PlainStays, RefusedChangesNothing};
@@ -59,6 +60,29 @@ pub fn refused_hands_nothing()
 /// An answer of a disk outside that is refused changes nothing: the call is still out.
 pub fn refused_answers_nothing()
     ensures { RefusedAnswersNothing }
+{}
+
+/// Calls of a machine have numbers from the one on that its host asked for, whatever is handed out and answered.
+pub fn calls_stay_from()
+    ensures first { FirstCallsAreFrom }
+    ensures hands { HandsStayFrom }
+    ensures answers { AnswersStayFrom }
+{}
+
+/// An answer with the number of a call of another machine is refused, and changes nothing: one below these numbers, or not handed out yet.
+pub fn foreign_answers_are_not_out()
+    ensures below { ForeignIsNotOut }
+    ensures unused { UnusedIsNotOut }
+{}
+
+/// Where `next` tells of a call, the next hand-out gives one, whatever room there is for it.
+pub fn next_call_is_handed_out()
+    ensures { NextCallIsHandedOut }
+{}
+
+/// Of a disk that is lost no flush, and no durable write or clearing, is told done, also where it was out when the disk was lost.
+pub fn lost_answers_fail()
+    ensures { LostAnswersFail }
 {}
 
 /// After one that was not refused the disk is lost.

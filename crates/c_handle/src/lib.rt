@@ -13,7 +13,7 @@
 //! - What a call does to a handle, and by the state of its machine, is said once for all (`specs/OnHandle`). On a handle without a machine
 //!   it is refused; on another it changes the state of the machine alone.
 //! - `next` names the next step that has something to do, and says whether it makes a flush, or ends a write that the driver then
-//!   takes for durable (`specs/NextWork`). After `lose_kept` the disk is lost for as long as the handle has the machine: each flush
+//!   takes for durable; and where no step has, the device whose next call `hand_call` would hand out now (`specs/NextWork`). After `lose_kept` the disk is lost for as long as the handle has the machine: each flush
 //!   of it is made as one whose disk failed, and such a write does not end (`specs/Durable`).
 //! - Every call has its clause in each state: the calls of a migration those of `Live` (`specs/Migrated`), over a writer into
 //!   memory from which `take` takes; the calls of an arrival those of `Receiver` (`specs/Awaited`, `specs/Arriving`), over
@@ -37,8 +37,10 @@
 //!   clause that it has of any machine, whatever RAM holds meanwhile, and each other call is refused.
 //! - `hand_call` hands out what a disk outside is to do, the next call of crate `disk_calls` over the machine's requests, and `answer_done`
 //!   and `answer_failed` answer one by its number: the machine's event at the request that asked, or nothing where none waits any more
-//!   (`specs/Outside`). What is out lies beside the machine, in each of its states (`calls_out`). A register write and a reset that would drop a
-//!   request whose call is out are refused (`specs/Dropping`), and so is a stop while one is.
+//!   (`specs/Outside`). An answer that puts no bytes into RAM is taken while it is lent too. Of a disk that is lost no answer says that something is
+//!   durable. What is out lies beside the machine, in each of its states (`calls_out`), and is listed by `list_calls` (`specs/Listed`). Numbers begin
+//!   where the struct says that makes the machine or lets it arrive. A register write and a reset that would drop a request whose call is out are
+//!   refused (`specs/Dropping`), and so is a stop while one is.
 //! - `mark` names pages later than RAM came back: each is taken for written whole, with the bytes that lie there (`specs/Late`). By which
 //!   pages a machine that is being migrated is behind its history the laws say; a round and a stop want none (`specs/Sent`).
 //! - Where its struct asks for a log, a step, a write of RAM and a push are told to it, each page that they wrote into and no other, and
@@ -67,6 +69,7 @@ mod kept;
 mod late;
 pub mod laws;
 mod lending;
+mod listing;
 mod loan;
 mod logging;
 mod migrating;
@@ -94,6 +97,7 @@ pub use handle::Handle;
 pub use kept::{Held, Kept};
 pub use late::mark;
 pub use lending::{give_back, lend};
+pub use listing::list_calls;
 pub use migrating::{SendLeft, abort, begin, left, send_round, send_some, stop, take};
 pub use mirror::{pull, push};
 pub use moving::save_kept;

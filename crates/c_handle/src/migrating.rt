@@ -1,13 +1,18 @@
 //! The calls of a migration, applied to the contents of a handle.
 
-ghost use Rattle.std.specs.Prelude.{◌≡◌, IfErr, IfOk, drop, take};
+ghost use Rattle.std.specs.Prelude.{◌≡◌, IfErr, IfOk, [], drop, take};
 ghost use Rattle.disk_calls.specs.Calls.{is_any_out};
-ghost use Rattle.c_handle.specs.Migrated.{AbortsKept, AreTold, BeginsKept, EndsKept, HasBegun, HasEnded, HasStopped, HasTaken, IsAnswered, IsLeft, IsLeftLent, LeavesKept, SendsKept, SendsSome, SendsUpTo, StopsKept, StopsUnless, TakesKept, send_refusal};
+ghost use Rattle.machine.specs.Parked.{WhateverRam};
+ghost use Rattle.sender.specs.Calls.{StopsWithin};
+ghost use Rattle.sender.specs.Parked.{live_back};
+ghost use Rattle.c_handle.specs.Mirror.{is_closed};
+ghost use Rattle.c_handle.specs.Migrated.{AbortsKept, AreTold, BeginsKept, EndsKept, HasBegun, HasEnded, HasStopped, HasTaken, IsAnswered, IsLeft, IsLeftLent, IsMostByStop, LeavesKept, SendsKept, SendsSome, SendsUpTo, StopsKept, StopsUnless, TakesKept, send_refusal};
 ghost use Rattle.c_handle.specs.Kept.{are_mapped, held_state, state_in};
 
 use crate::arrival::Arrival;
 use crate::kept::{Contents, Held, Kept, Moving, by_state, turned};
 use crate::loan::MovingLent;
+use crate::mirror::has_stopped;
 use crate::status::mig_status;
 use c_machine::status::{
     CALLS_OUT, DONE, LENT, NO_MEMORY, NOT_SENDING, ROUND_DONE, ROUND_OPEN, SEND_FAILED, STOPPED,
@@ -34,7 +39,7 @@ pub struct SendLeft {
     /// How many sectors were.
     pub dirty_sectors: u64,
 
-    /// The most bytes that a stop would write.
+    /// The most bytes that a stop would still write.
     pub stop_bytes: u64,
 
     /// Zeros, reserved for later versions.
@@ -281,14 +286,34 @@ fn tell_left<D: Disk>(live: &Moving<D>, left: &mut SendLeft) -> u32
     ensures { IsLeft live.now result left.new }
 {
     let items = live.left();
-    left_status(items, live.most_by_stop(), left)
+    left_status(items, most_by_stop(live), left)
+}
+
+/// A bound on the bytes that a stop would still write: none where it was made.
+fn most_by_stop<D: Disk>(live: &Moving<D>) -> u64
+    ensures { IsMostByStop (is_closed live.now.phase) (StopsWithin live.now) result }
+{
+    if has_stopped(live.phase()) {
+        return 0;
+    }
+    live.most_by_stop()
 }
 
 fn tell_left_lent<D: Disk>(live: &MovingLent<D>, left: &mut SendLeft) -> u32
     ensures { IsLeftLent live.now result left.new }
 {
     let items = live.left();
-    left_status(items, live.most_by_stop(), left)
+    left_status(items, most_by_stop_lent(live), left)
+}
+
+/// As above, while its RAM is lent.
+fn most_by_stop_lent<D: Disk>(live: &MovingLent<D>) -> u64
+    ensures { IsMostByStop (is_closed live.now.phase) (λ bytes. WhateverRam live.now.parked (λ m. StopsWithin (live_back live.now m []) bytes)) result }
+{
+    if has_stopped(live.phase()) {
+        return 0;
+    }
+    live.most_by_stop()
 }
 
 /// The struct of these counts, and of the most bytes that a stop would write.

@@ -2,24 +2,30 @@
 //!
 //! The library calls nobody, so C asks, does what it gets in its own time, and answers by a number. What is out lies beside the machine
 //! (`calls_out`). An answer is the machine's event, at the pick of the request that asked; the bytes of a read are taken from the caller's slice.
+//! While RAM is lent each answer is taken that puts no bytes into it.
+//!
+//! Of a disk that is lost (`syncing`) no answer says that something is durable: that of a flush, or of a durable write or clearing, counts as a
+//! failure, also of a call that was out when the disk was lost. Calls are asked for as ever, so no request ends but by an answer.
 
-ghost use Rattle.std.specs.Prelude.{◌≡◌, ◌≤◌, ◌<◌, ◌*◌, ◌/◌, ◌^◌, ◌-◌, ℕ, None, IfErr, IfOk, length, min, true};
+ghost use Rattle.std.specs.Prelude.{◌≡◌, ◌≤◌, ◌<◌, ◌*◌, ◌/◌, ◌^◌, ◌-◌, ℕ, None, IfErr, IfOk, false, length, min, slice_get, true};
 ghost use Rattle.disk_calls.specs.Calls.{without};
 ghost use Rattle.machine.specs.Seen.{state_of};
 ghost use Rattle.machine.specs.declared.event.DiskAnswer.TheVariants as answers;
 ghost use Rattle.machine.specs.declared.machine.TheConstants.{DEVICES_MAX};
-ghost use Rattle.c_handle.specs.DiskCalls.{HandsFrom, HandsUnless, IsAllowed, IsAskedFor, IsOut, MeetsStill, answer_in, answers_call, asker_of, counted, done_as, done_with, filled_with, fits_done, is_durable, is_part, told_call, what_of};
-ghost use Rattle.c_handle.specs.Kept.{FitsLog};
-ghost use Rattle.c_handle.specs.Outside.{AnswersKept, HandsKept, Meets, MeetsMoving, Unfound, answer_refusal};
+ghost use Rattle.c_handle.specs.DiskCalls.{HandsFrom, HandsUnless, IsAllowed, IsAskedFor, IsOut, MeetsParked, MeetsStill, answer_in, answers_call, asker_lent, asker_of, counted, counts_in, done_as, done_with, filled_with, fits_done, is_durable, is_part, puts_bytes, told_call, what_of};
+ghost use Rattle.c_handle.specs.Kept.{FitsLog, is_lost, loan_of};
+ghost use Rattle.c_handle.specs.Outside.{AnswersKept, HandsKept, Meets, MeetsLent, MeetsLiveParked, MeetsMoving, Unfound, answer_refusal, counted_answer, devices_of, is_lent, lent_refusal, unfit};
 
 use crate::calls_out::CallsOut;
+use crate::devices::Devices;
 use crate::kept::{Kept, Moving, by_state};
+use crate::loan::{Loan, MovingLent};
 use crate::logging::{gave, live_gave};
 use crate::resetting::stop_refusal;
 use blk::{DiskCall, SECTOR_SIZE, What};
 use c_machine::status::{CALL, DONE, IDLE, LENT, NO_MACHINE, NOT_OUT, TOO_LONG, TOO_SMALL};
-use disk_calls::{Handed, Place};
-use machine::{Disk, Machine, OutsideCall, PageLog};
+use disk_calls::{Handed, Place, counts};
+use machine::{Disk, Machine, OutsideCall, PageLog, Parked};
 
 /// A call of a disk outside: what its host is to do. It names no memory.
 #[derive(Clone, Copy)]
@@ -140,7 +146,7 @@ fn tell_call<D: Disk>(machine: &Machine<D>, handed: Handed, buf: &mut [u8]) -> C
 }
 
 /// How many sectors C is told that a call has: none of a flush.
-fn counted(call: DiskCall) -> u32
+pub(crate) fn counted(call: DiskCall) -> u32
     ensures { result ≡ counted call.what call.count }
 {
     match call.what {
@@ -150,7 +156,7 @@ fn counted(call: DiskCall) -> u32
 }
 
 /// The number of what a call asks for.
-fn what_of(what: What) -> u8
+pub(crate) fn what_of(what: What) -> u8
     ensures { result ≡ what_of what }
 {
     match what {
@@ -185,7 +191,7 @@ pub(crate) enum Given<'a> {
 }
 
 /// The host's disk did this many sectors of a call, and gave these bytes of them. It takes no memory.
-#[tactic(auto, using(crate::proofs::HandedCalls::answered, crate::proofs::HandedCalls::misfit, crate::proofs::HandedCalls::unfound))]
+#[tactic(auto, using(crate::proofs::HandedCalls::answered_as, crate::proofs::HandedCalls::misfit, crate::proofs::HandedCalls::unfound, crate::proofs::HandedCalls::fits_as_counted))]
 pub fn answer_done(kept: &mut Kept, number: u64, count: u32, bytes: &[u8]) -> u32
     ensures answers { AnswersKept kept.old number (fits_done count bytes.now) (done_with count bytes.now) result kept.new.state kept.new.written kept.new.calls }
     ensures kind { kept.new ≡ record kept.old { state = kept.new.state; written = kept.new.written; calls = kept.new.calls } }
@@ -199,15 +205,18 @@ pub fn answer_done(kept: &mut Kept, number: u64, count: u32, bytes: &[u8]) -> u3
         count: all,
         ..
     } = place.call;
-    if !answers_call(what, all, count, bytes.len()) {
-        return TOO_LONG;
+    let given = done_as(what, count, bytes);
+    let fits = answers_call(what, all, count, bytes.len());
+    if let Some(status) = unfit(kept, given, fits) {
+        return status;
     }
-    hand_in(kept, place, done_as(what, count, bytes));
+    let counted = as_counted(kept, place, given);
+    hand_in(kept, place, counted);
     DONE
 }
 
 /// The host's disk failed at a call. It takes no memory.
-#[tactic(auto, using(crate::proofs::HandedCalls::answered, crate::proofs::HandedCalls::unfound))]
+#[tactic(auto, using(crate::proofs::HandedCalls::failed_as, crate::proofs::HandedCalls::unfound, crate::proofs::HandedCalls::failure_fits))]
 pub fn answer_failed(kept: &mut Kept, number: u64) -> u32
     ensures answers { AnswersKept kept.old number (λ call. true) (λ call. answers.Failed) result kept.new.state kept.new.written kept.new.calls }
     ensures kind { kept.new ≡ record kept.old { state = kept.new.state; written = kept.new.written; calls = kept.new.calls } }
@@ -242,9 +251,75 @@ fn answer_refusal(kept: &Kept) -> Option<u32>
     by_state!(&kept.held;
         still(_) => None,
         moving(live) => stop_refusal(live.phase()),
-        lent(_) => Some(LENT),
+        still_lent(_) => None,
+        moving_lent(live) => stop_refusal(live.phase()),
         arriving(_) => Some(NO_MACHINE),
     )
+}
+
+/// Why this is not taken as the answer of a call, whether or not it fits it, if so.
+fn unfit(kept: &Kept, given: Given<'_>, fits: bool) -> Option<u32>
+    ensures { result ≡ unfit kept.now.state (answer_in given.entry) fits }
+{
+    if is_lent(kept) && puts_bytes(given) {
+        return Some(LENT);
+    }
+    if !fits {
+        return Some(TOO_LONG);
+    }
+    None
+}
+
+fn is_lent(kept: &Kept) -> bool
+    ensures { result ≡ is_lent kept.now.state }
+{
+    by_state!(&kept.held; still(_) => false, moving(_) => false, lent(_) => true, arriving(_) => false)
+}
+
+/// Whether an answer puts bytes into RAM.
+fn puts_bytes(given: Given<'_>) -> bool
+    ensures { result ≡ puts_bytes (answer_in given.entry) }
+{
+    match given {
+        Given::Bytes(_) => true,
+        Given::Units(_) | Given::Nothing => false,
+    }
+}
+
+/// An answer as it counts: of a disk that is lost one that would say that something is durable is a failure.
+fn as_counted<'a>(kept: &Kept, place: Place, given: Given<'a>) -> Given<'a>
+    requires { place.dev < DEVICES_MAX }
+    ensures { answer_in result ≡ counted_answer kept.now place (answer_in given.entry) }
+{
+    if counts_kept(kept, place) {
+        return given;
+    }
+    Given::Nothing
+}
+
+/// Whether it counts that a call was done.
+fn counts_kept(kept: &Kept, place: Place) -> bool
+    requires { place.dev < DEVICES_MAX }
+    ensures { result ≡ counts_in (is_lost kept.now place.dev) (slice_get (devices_of kept.now.state) place.dev) place.call }
+{
+    let lost = kept.is_lost(place.dev as u8);
+    by_state!(&kept.held;
+        still(machine) => counts_of(machine, lost, place),
+        moving(live) => counts_of(live.machine(), lost, place),
+        still_lent(parked) => counts_of(parked, lost, place),
+        moving_lent(live) => counts_of(live.parked(), lost, place),
+        arriving(_) => true,
+    )
+}
+
+fn counts_of<M: Devices>(machine: &M, lost: bool, place: Place) -> bool
+    requires { place.dev < DEVICES_MAX }
+    ensures { result ≡ counts_in lost (slice_get (M.states machine.now) place.dev) place.call }
+{
+    match machine.device(place.dev as u8) {
+        Some(device) => counts(lost, &device.call_with_durability(place.call)),
+        None => true,
+    }
 }
 
 /// Whether this many sectors and bytes are an answer to a call of `all` sectors.
@@ -276,9 +351,10 @@ fn done_as(what: What, count: u32, bytes: &[u8]) -> Given<'_>
 }
 
 /// Hands the answer of a call to the request that asked for it, if it still waits, and takes the call out.
-#[tactic(auto, using(crate::proofs::HandedCalls::meets_still, crate::proofs::HandedCalls::meets_moving))]
+#[tactic(auto, using(crate::proofs::HandedCalls::meets_still, crate::proofs::HandedCalls::meets_moving, crate::proofs::HandedCalls::meets_lent, crate::proofs::HandedCalls::puts_none, crate::proofs::HandedCalls::goes_lent, crate::proofs::SamePages::met_lent))]
 fn hand_in(kept: &mut Kept, place: Place, given: Given<'_>)
     requires goes { answer_refusal kept.old.state ≡ None }
+    requires fits { unfit kept.old.state (answer_in given) true ≡ None }
     requires out { (number : ℕ) × IsOut kept.old.calls number place }
     requires there { place.dev < DEVICES_MAX }
     ensures meets { Meets place (answer_in given.entry) kept.old.state kept.old.written kept.new.state kept.new.written }
@@ -300,7 +376,7 @@ fn hand_in(kept: &mut Kept, place: Place, given: Given<'_>)
             let asker = calls.asker(live.machine(), place);
             meet_moving(live, place, asker, given, &mut output.written)
         },
-        lent(_) => unreachable!(),
+        lent(loan) => meet_lent(loan, place, calls, given),
         arriving(_) => unreachable!(),
     );
     calls.remove(place);
@@ -366,6 +442,80 @@ fn meet_moving<D: Disk>(
         }
         Given::Nothing => {
             let _failed = live.disk_failed(dev, pick);
+        }
+    }
+}
+
+/// Hands an answer that puts no bytes into RAM to a machine whose RAM is lent.
+fn meet_lent<D: Disk>(loan: &mut Loan<D>, place: Place, calls: &CallsOut, given: Given<'_>)
+    requires none { puts_bytes (answer_in given) ≡ false }
+    requires goes { lent_refusal (loan_of loan.old) ≡ None }
+    requires there { place.dev < DEVICES_MAX }
+    ensures { MeetsLent place (answer_in given.entry) (loan_of loan.old) (loan_of loan.new) }
+{
+    match loan {
+        Loan::Still(parked) => {
+            let asker = calls.asker(&*parked, place);
+            meet_parked(parked, place, asker, given)
+        }
+        Loan::Moving(live) => {
+            let asker = calls.asker(live.parked(), place);
+            meet_live_parked(live, place, asker, given)
+        }
+    }
+}
+
+fn meet_parked<D: Disk>(
+    parked: &mut Parked<D>,
+    place: Place,
+    asker: Option<usize>,
+    given: Given<'_>,
+)
+    requires none { puts_bytes (answer_in given) ≡ false }
+    requires there { place.dev < DEVICES_MAX }
+    requires asked { asker ≡ asker_lent parked.old place }
+    ensures { MeetsParked asker (answer_in given.entry) parked.old place.dev parked.new }
+{
+    let Some(k) = asker else {
+        return;
+    };
+    parked.recall();
+    let (dev, pick) = (place.dev as u8, k as u8 + 1);
+    match given {
+        Given::Bytes(_) => unreachable!(),
+        Given::Units(count) => {
+            let _did = parked.disk_did(dev, pick, count);
+        }
+        Given::Nothing => {
+            let _failed = parked.disk_failed(dev, pick);
+        }
+    }
+}
+
+/// As above, for a machine that is being migrated.
+fn meet_live_parked<D: Disk>(
+    lent: &mut MovingLent<D>,
+    place: Place,
+    asker: Option<usize>,
+    given: Given<'_>,
+)
+    requires none { puts_bytes (answer_in given) ≡ false }
+    requires there { place.dev < DEVICES_MAX }
+    requires asked { asker ≡ asker_lent lent.old.parked place }
+    ensures { MeetsLiveParked asker (answer_in given.entry) lent.old place.dev lent.new }
+{
+    let Some(k) = asker else {
+        return;
+    };
+    lent.parked().recall();
+    let (dev, pick) = (place.dev as u8, k as u8 + 1);
+    match given {
+        Given::Bytes(_) => unreachable!(),
+        Given::Units(count) => {
+            let _did = lent.disk_did(dev, pick, count);
+        }
+        Given::Nothing => {
+            let _failed = lent.disk_failed(dev, pick);
         }
     }
 }

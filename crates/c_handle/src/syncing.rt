@@ -7,6 +7,9 @@
 //! sectors are in the image, and no unit is left that could fail. So the guest reads no success; its host ends it, or moves it.
 //!
 //! The call answers alike for disks in memory of the library: a host that keeps such a disk elsewhere too can use it.
+//!
+//! It is the call for a disk outside too, whose storage may have lost what it answered. What follows there is in `outside`: an answer that would say
+//! that something is durable counts as a failure.
 
 ghost use Rattle.std.specs.Prelude.{◌≡◌, None};
 ghost use Rattle.machine.specs.Seen.{state_of};
@@ -55,7 +58,7 @@ fn owed_live<D: Disk>(live: &Moving<D>, dev: u8, pick: u8) -> SyncOwed
     owed(live.machine(), dev, pick)
 }
 
-/// The disk of a device could not be brought to its file, and is lost from now on.
+/// The disk of a device could not be brought to its file, or is on storage that may have lost what it answered: it is lost from now on.
 #[tactic(auto, using(crate::proofs::Failing::lost, crate::proofs::Failing::not_lost))]
 pub fn lose_kept(kept: &mut Kept, dev: u8) -> u32
     ensures { Loses kept.old dev result kept.new }
@@ -97,10 +100,8 @@ fn kind_refusal(kind: &Kind) -> Option<u32>
     ensures { result ≡ kind_refusal kind.now }
 {
     match kind {
-        Kind::Block(_) => None,
-        Kind::Network { .. } | Kind::Outside(_) | Kind::Console { .. } | Kind::Entropy { .. } => {
-            Some(WRONG_KIND)
-        }
+        Kind::Block(_) | Kind::Outside(_) => None,
+        Kind::Network { .. } | Kind::Console { .. } | Kind::Entropy { .. } => Some(WRONG_KIND),
     }
 }
 

@@ -8,7 +8,7 @@ use crate::devices::Devices;
 use crate::kept::{Kept, by_state};
 use crate::mirror::{is_stopped, ram_of};
 use crate::stepping::step_kept;
-use crate::working::next;
+use crate::working::next_step;
 use c_machine::status::{COMPLETED, IDLE, MOVED, NOT_KNOWN, STOPPED, SYNC, TAKEN, TOO_SMALL, WORK};
 use c_machine::{are_zeros, message_of};
 use machine::Kind;
@@ -104,10 +104,10 @@ fn make_steps(kept: &mut Kept, turn: &mut Turn, buf: &mut [u8]) -> u32
         }
     }
     let (mut dev, mut pick) = (turn.dev, turn.pick);
-    more_or_none(next(kept, &mut dev, &mut pick))
+    more_or_none(next_step(kept, &mut dev, &mut pick))
 }
 
-/// What a turn that has no step left tells of what `vmig_next` told.
+/// What a turn that has no step left tells of the step that was found.
 fn more_or_none(named: u32) -> u32
     ensures { result ≡ more_or_none named }
 {
@@ -121,7 +121,7 @@ fn make_next(kept: &mut Kept, turn: &mut Turn, buf: &mut [u8]) -> Outcome
     ensures kind { kept.new ≡ record kept.old { state = kept.new.state; written = kept.new.written } }
 {
     let (mut dev, mut pick) = (turn.dev, turn.pick);
-    let named = next(kept, &mut dev, &mut pick);
+    let named = next_step(kept, &mut dev, &mut pick);
     if named == SYNC {
         turn.count(dev, pick);
         return Outcome::PassedOver;

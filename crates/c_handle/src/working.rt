@@ -1,22 +1,56 @@
-//! Which step of a handle's machine has something to do, and whether the disk has to be durable before it.
+//! Which step of a handle's machine has something to do, and whether the disk has to be durable before it; and whether a disk outside is to be asked
+//! for something where no step has.
 //!
 //! What has to be durable is asked for before the step: a step keeps its meaning, and a host whose `msync` fails has done nothing yet. Of a
 //! flush it is the step that makes it, and not the one that ends it, since that one can still fail; all writes that ended before are in
 //! the image then. Of a lost disk nothing is asked for any more: a flush fails in any case, and the end of a write that the driver takes
 //! for durable is passed over.
 
-ghost use Rattle.std.specs.Prelude.{◌≡◌, false, slice_index_or};
-ghost use Rattle.c_handle.specs.NextWork.{FindsUnless, FindsWork, work_status};
+ghost use Rattle.std.specs.Prelude.{◌≡◌, IfSome, None, false, slice_index_or};
+ghost use Rattle.c_handle.specs.CallsOut.{HasNoCall, IsCallNext};
+ghost use Rattle.c_handle.specs.NextWork.{FindsNext, FindsUnless, FindsWork, asked_in, work_status};
 
 use crate::devices::Devices;
 use crate::kept::{Kept, by_state};
 use crate::mirror::has_stopped;
 use blk::SyncOwed;
-use c_machine::status::{IDLE, STOPPED, SYNC, WORK};
+use c_machine::status::{CALL, IDLE, STOPPED, SYNC, WORK};
 use machine::Work;
 
-/// Finds the next step with something to do after the one that the numbers name, and makes them name it. It takes no memory.
+/// Finds the next step with something to do after the one that the numbers name, and makes them name it; or, where no step has, the device whose disk
+/// is to be asked for something. It takes no memory.
 pub fn next(kept: &Kept, dev: &mut u8, pick: &mut u8) -> u32
+    ensures { FindsNext kept.now result dev.new dev.old pick.new pick.old }
+{
+    let status = next_step(kept, dev, pick);
+    if status != IDLE {
+        return status;
+    }
+    match next_call(kept) {
+        Some(asking) => {
+            *dev = asking;
+            CALL
+        }
+        None => IDLE,
+    }
+}
+
+/// The device whose disk is to be asked for something, if any is.
+fn next_call(kept: &Kept) -> Option<u8>
+    ensures some { IfSome result (λ dev. IsCallNext kept.now.calls (asked_in kept.now.state) dev) }
+    ensures none { result ≡ None → HasNoCall kept.now.calls (asked_in kept.now.state) }
+{
+    by_state!(&kept.held;
+        still(machine) => kept.calls.next_device(machine),
+        moving(live) => kept.calls.next_device(live.machine()),
+        still_lent(parked) => kept.calls.next_device(parked),
+        moving_lent(live) => kept.calls.next_device(live.parked()),
+        arriving(_) => None,
+    )
+}
+
+/// Finds the next step with something to do after the one that the numbers name, and makes them name it.
+pub(crate) fn next_step(kept: &Kept, dev: &mut u8, pick: &mut u8) -> u32
     ensures { FindsWork kept.now result dev.new dev.old pick.new pick.old }
 {
     let lost = kept.lost();

@@ -21,7 +21,7 @@ pub fn hand_out(kept: &mut Kept, pages: &mut [u32], count: &mut usize) -> u32
 }
 
 /// Whether a machine is here: what arrives is none.
-fn is_here(kept: &Kept) -> bool
+pub(crate) fn is_here(kept: &Kept) -> bool
     ensures { result ≡ is_here kept.now.state }
 {
     by_state!(&kept.held; still(_) => true, moving(_) => true, lent(_) => true, arriving(_) => false)

@@ -1,5 +1,5 @@
 -- The largest disk outside.
-use Rattle.std.proofs.Common.{◌≡◌, ◌≤◌, ◌<◌, ◌+◌, ℕ, List, [], ◌∷◌, ap, ◌∙◌, arith, drop, get_or, length}
+use Rattle.std.proofs.Common.{◌≡◌, ◌≤◌, ◌<◌, ◌+◌, ℕ, List, ap, arith, drop, get_or, length}
 use Rattle.std.specs.Prelude.{max}
 use Rattle.std.proofs.lemmas.List.{drop_all, drop_more}
 use Rattle.machine.specs.declared.shape.Shape.{Shape}

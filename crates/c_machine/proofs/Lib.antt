@@ -1,5 +1,6 @@
 pub mod Imaging
 mod LargestDisks
+mod LongestFrames
 pub mod MadeOf
 pub mod MappingImages
 pub mod Marking

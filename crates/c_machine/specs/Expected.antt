@@ -5,8 +5,9 @@ use Rattle.machine.specs.Limits.{greatest, usual}
 use Rattle.machine.specs.Shapes.{disk_sizes}
 use Rattle.machine.specs.declared.limits.Limits.{Limits}
 use Rattle.machine.specs.declared.machine.TheConstants.{DEVICES_MAX}
-use Rattle.c_machine.specs.Made.{are_known, arrival_limits, has_bytes, is_known_frame, is_ram, limits_for}
-use Rattle.c_machine.specs.Making.{are_plain, shapes_of}
+use Rattle.c_machine.specs.Frames.{longest_frame}
+use Rattle.c_machine.specs.Made.{are_known, arrival_limits, asks_large, has_bytes, is_known_frame, is_ram, limits_for}
+use Rattle.c_machine.specs.Making.{are_plain, is_usual_frame, shapes_of}
 use Rattle.c_machine.specs.Mapping.{counts}
 use Rattle.c_machine.specs.Named.{are_zeros}
 use Rattle.c_machine.specs.Outside.{largest_outside}
@@ -28,6 +29,11 @@ is_known_arrival e = e.version == 1 && (are_known e.flags && (is_known_frame e.f
 -- How many sectors a disk outside may have at most: as many as the arrival allows, or one of the devices has that it names.
 abbrev pub outside_allowed : Expected → ℕ
 outside_allowed e = max e.most_outside (largest_outside (shapes_of e.shapes.now))
+
+-- How many bytes a frame of a network device for long ones may have at most; 0 where there may be no such device: as many as the arrival allows, or one
+-- of the devices is for that it names. Only an arrival of a large machine allows any.
+abbrev pub frame_allowed : Expected → ℕ
+frame_allowed e = if asks_large e.flags then max (if is_usual_frame e.frame then 0 else e.frame) (longest_frame (shapes_of e.shapes.now)) else 0
 
 -- How large a machine may be whose header is read. What version 3 alone can tell, long frames and disks outside, a header may tell of any size,
 -- where the arrival allows some of it.
@@ -52,8 +58,8 @@ are_other_images e =
 abbrev pub arrival_refusal_of : Expected → Option ℕ
 arrival_refusal_of e =
     if not (is_known_arrival e) then Some not_known
-    else if is_unfit_ram (arrival_limits e.flags e.frame) e.most_pages (length e.ram.content) then Some bad_ram
-    else if are_unfit_shapes (arrival_limits e.flags e.frame) e.shapes.now then Some bad_shape
+    else if is_unfit_ram (arrival_limits e.flags (frame_allowed e)) e.most_pages (length e.ram.content) then Some bad_ram
+    else if are_unfit_shapes (arrival_limits e.flags (frame_allowed e)) e.shapes.now then Some bad_shape
     else if not (is_base e.base (length e.ram.content)) then Some bad_base
     else if are_other_images e then Some bad_images
     else None

@@ -16,7 +16,7 @@ use Rattle.machine.specs.declared.board.RamOf.TheVariants.{Pages, Region}
 use Rattle.machine.specs.declared.limits.Limits.{Limits}
 use Rattle.machine.specs.declared.shape.Shape.{Shape}
 use Rattle.c_machine.specs.Images.{AreImages, image_size}
-use Rattle.c_machine.specs.Making.{are_bad_shapes, shapes_of, zero_sectors}
+use Rattle.c_machine.specs.Making.{are_bad_shapes, is_usual_frame, shapes_of, zero_sectors}
 use Rattle.c_machine.specs.Mapping.{contents, counts}
 use Rattle.c_machine.specs.Named.{are_zeros}
 use Rattle.c_machine.specs.Plain.{ArePlain}
@@ -58,9 +58,9 @@ limits_for flags = if asks_large flags then greatest else small
 abbrev pub arrival_limits : ℕ → ℕ → Limits
 arrival_limits flags frame = record (limits_for flags) { frame = if frame == 0 then usual.frame else greatest.frame }
 
--- It names none, or, for a large machine, one of 1,515 to 65,535 bytes.
+-- It names none, or 1,514 bytes, or, for a large machine, up to 65,535.
 abbrev pub is_known_frame : ℕ → ℕ → Bool
-is_known_frame flags frame = frame == 0 || (asks_large flags && (nat_lt 1514 frame && nat_lt frame 65536))
+is_known_frame flags frame = is_usual_frame frame || (asks_large flags && (nat_lt 1514 frame && nat_lt frame 65536))
 
 -- The version is 1, and what no version gives a meaning yet is 0.
 abbrev pub is_known_setup : Setup → Bool

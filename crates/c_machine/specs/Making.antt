@@ -14,9 +14,13 @@ use Rattle.c_machine.specs.declared.device_shape.DeviceShape.{DeviceShape}
 abbrev pub is_known : ℕ → Bool
 is_known kind = kind == 1 || kind == 2 || kind == 3 || kind == 4 || kind == 130
 
+-- A longest frame of 1,514 bytes, which 0 says too, is that of a network device without an MTU.
+abbrev pub is_usual_frame : ℕ → Bool
+is_usual_frame frame = frame == 0 || frame == 1514
+
 abbrev pub shape_of : DeviceShape → Shape
 shape_of s =
-    if s.kind == 1 then (if s.frame == 0 then Net s.mac else LongNet s.mac (s.frame % 65536))
+    if s.kind == 1 then (if is_usual_frame s.frame then Net s.mac else LongNet s.mac (s.frame % 65536))
     else if s.kind == 2 then Block s.sectors (not (s.read_only == 0)) s.id else if s.kind == 3 then Console
     else if s.kind == 130 then Outside s.sectors (not (s.read_only == 0)) s.id else Entropy
 

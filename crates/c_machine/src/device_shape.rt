@@ -2,7 +2,7 @@
 
 ghost use Rattle.std.specs.Prelude.{◌≡◌, if◌then◌else◌};
 ghost use Rattle.c_machine.specs.Description.{described};
-ghost use Rattle.c_machine.specs.Making.{has_no_disk, has_only, is_known, is_plain, no_shape, shape_of};
+ghost use Rattle.c_machine.specs.Making.{has_no_disk, has_only, is_known, is_plain, is_usual_frame, no_shape, shape_of};
 ghost use Rattle.c_machine.specs.Named.{are_zeros};
 
 use blk::OUTSIDE_GREATEST;
@@ -10,6 +10,9 @@ use machine::{Limits, Shape};
 
 /// One past the most bytes that a frame can have.
 pub(crate) const FRAME_END: u32 = 65_536;
+
+/// The most bytes of a frame of a network device without an MTU.
+const USUAL_FRAME: u32 = 1_514;
 
 /// The kind of a block device whose disk is outside: the number that the stream has for its shape.
 const BLOCK_OUTSIDE: u8 = 130;
@@ -34,7 +37,7 @@ pub struct DeviceShape {
     /// Of a block device: the id that it returns to a driver that asks for it.
     pub id: [u8; 20],
 
-    /// Of a network device: how many bytes its longest frame may have, 1,515 to 65,535. 0 is 1,514.
+    /// Of a network device: how many bytes its longest frame may have, 1,514 to 65,535. 0 is 1,514.
     pub frame: u32,
 
     /// Zeros, until a later version asks for more by them.
@@ -117,7 +120,7 @@ impl DeviceShape {
         } = self;
         let read_only = read_only != 0;
         match kind {
-            1 if frame == 0 => Shape::Net { mac },
+            1 if is_usual_frame(frame) => Shape::Net { mac },
             1 => Shape::LongNet {
                 mac,
                 longest: (frame % FRAME_END) as u16,
@@ -145,7 +148,10 @@ impl DeviceShape {
             return false;
         }
         match self.kind {
-            1 => self.frame == 0 || self.frame > 1_514 && self.frame <= limits.frame as u32,
+            1 => {
+                is_usual_frame(self.frame)
+                    || self.frame > USUAL_FRAME && self.frame <= limits.frame as u32
+            }
             2 => self.sectors != 0 && self.sectors <= limits.sectors as u64,
             BLOCK_OUTSIDE => {
                 self.sectors != 0
@@ -173,6 +179,13 @@ impl DeviceShape {
     {
         self.read_only == 0 && self.sectors == 0 && are_zero_bytes(&self.id)
     }
+}
+
+/// Whether a longest frame is that of a network device without an MTU: 1,514 bytes, which 0 says too.
+pub(crate) fn is_usual_frame(frame: u32) -> bool
+    ensures { result ≡ is_usual_frame frame }
+{
+    frame == 0 || frame == USUAL_FRAME
 }
 
 fn is_known(kind: u8) -> bool

@@ -7,8 +7,8 @@
 //! - `setup_refusal` and `arrival_refusal` say why a struct is refused, in one order, and change nothing (`specs/Made`, `specs/Expected`).
 //!   How large a machine may be its flags say (`limits_for`), and whether a header may tell of long frames and of disks outside the arrival
 //!   (`header_limits`).
-//! - `has_longer_frames` says whether a device is for longer frames than an arrival names (`specs/Frames`), and `largest_outside` how many
-//!   sectors its largest disk outside has (`specs/Outside`), to be compared with what the arrival allows (`outside_allowed`).
+//! - `has_longer_frames` says whether a device is for longer frames than an arrival allows (`specs/Frames`), and `largest_outside` how many
+//!   sectors its largest disk outside has (`specs/Outside`), to be compared with what the arrival allows (`frame_allowed`, `outside_allowed`).
 //! - `machine_on` makes the machine over the memory in a slot, which is taken, or over zeros; where memory is refused the slot is as it was,
 //!   and the disks come back. Disks lie in memory of the library (`own_disks`) or in images of the caller (`mapped_disks`), which
 //!   `give_back` puts back where they lay.
@@ -40,6 +40,6 @@ pub use outside::largest_outside;
 pub use over_ram::{put_back, taken_ram};
 pub use pages::Pages;
 pub use setup::{
-    Expected, LARGE, LOG, Setup, arrival_refusal, asks_large, asks_log, block_size, header_limits,
-    is_none, limits_for, outside_allowed, ram_bytes, setup_refusal,
+    Expected, LARGE, LOG, Setup, arrival_refusal, asks_large, asks_log, block_size, frame_allowed,
+    header_limits, is_none, limits_for, outside_allowed, ram_bytes, setup_refusal,
 };

@@ -15,11 +15,12 @@
 //! outside takes no memory, so a flag says nothing of it: a setup asks for it by its shape, and an arrival allows it by a number or by its shapes.
 
 ghost use Rattle.std.specs.Prelude.{◌≡◌, ◌≤◌, ◌==◌, length};
-ghost use Rattle.c_machine.specs.Expected.{are_other_images, are_unfit_shapes, arrival_refusal_of, header_limits, is_known_arrival, is_unfit_ram, outside_allowed};
+ghost use Rattle.c_machine.specs.Expected.{are_other_images, are_unfit_shapes, arrival_refusal_of, frame_allowed, header_limits, is_known_arrival, is_unfit_ram, outside_allowed};
 ghost use Rattle.c_machine.specs.Made.{are_known, are_other_disks, arrival_limits, asks_large, asks_log, block_size, is_bad_ram, is_known_frame, is_known_setup, limits_for, ram_bytes, setup_refusal_of};
 
 use crate::description::FRAME_MAX;
-use crate::device_shape::{DeviceShape, FRAME_END, are_zeros};
+use crate::device_shape::{DeviceShape, FRAME_END, are_zeros, is_usual_frame};
+use crate::frames::longest_frame_of;
 use crate::images::are_images;
 use crate::making::{are_bad_shapes, are_plain};
 use crate::mapping::are_counted;
@@ -70,8 +71,11 @@ pub struct Setup<'a, 'i> {
     /// How many sectors the largest block has of the storage of its disks outside. 0 is 1.
     pub block: u32,
 
+    /// The number of the first call of its disks outside.
+    pub calls_from: u64,
+
     /// Zeros, until a later version asks for more by them.
-    pub reserved: [u64; 4],
+    pub reserved: [u64; 3],
 }
 
 /// How a machine arrives.
@@ -102,7 +106,8 @@ pub struct Expected<'a, 'i> {
     /// What else is asked for: any of `LARGE` and `LOG`.
     pub flags: u32,
 
-    /// The most bytes that a frame of its network devices may have, 1,515 to 65,535, with `LARGE`. 0 are 1,514.
+    /// The most bytes that a frame of its network devices may have, 1,514 to 65,535, more than 1,514 with `LARGE`. 0 are 1,514, and those that
+    /// `shapes` name.
     pub frame: u32,
 
     /// The most sectors that each of its disks outside may have. 0: it may have none but those that `shapes` name.
@@ -114,8 +119,11 @@ pub struct Expected<'a, 'i> {
     /// 0.
     pub zero: u32,
 
+    /// The number of the first call of its disks outside.
+    pub calls_from: u64,
+
     /// Zeros, until a later version asks for more by them.
-    pub reserved: [u64; 2],
+    pub reserved: [u64; 1],
 }
 
 /// Why no machine is made, apart from memory being refused, if so.
@@ -228,6 +236,22 @@ pub fn outside_allowed(expected: &mut Expected) -> u64
         .max(largest_outside_of(expected.shapes))
 }
 
+/// How many bytes a frame of a network device for long ones may have at most that arrives: as many as the arrival allows, or one of the devices is for
+/// that it names. 0 where there may be no such device.
+pub fn frame_allowed(expected: &mut Expected) -> u32
+    ensures same { expected.new ≡ expected.old }
+    ensures most { result ≡ frame_allowed expected.old }
+{
+    if !asks_large(expected.flags) {
+        return 0;
+    }
+    let named = longest_frame_of(expected.shapes);
+    if is_usual_frame(expected.frame) {
+        return named;
+    }
+    named.max(expected.frame)
+}
+
 /// The sectors of a block of the storage of disks outside: 0 is 1.
 pub fn block_size(block: u32) -> u32
     ensures size { result ≡ block_size block }
@@ -275,7 +299,7 @@ pub fn arrival_refusal(expected: &mut Expected) -> Option<u32>
     if !is_known_arrival(expected) {
         return Some(NOT_KNOWN);
     }
-    let limits = arrival_limits(expected.flags, expected.frame);
+    let limits = arrival_limits(expected.flags, frame_allowed(expected));
     let bytes = expected.ram.len();
     if is_unfit_ram(limits, expected.most_pages, bytes) {
         return Some(BAD_RAM);
@@ -304,11 +328,11 @@ fn is_known_arrival(expected: &mut Expected) -> bool
         && are_zeros(&expected.reserved)
 }
 
-/// Whether an arrival with these flags may name such a longest frame: none, or one that a device for long frames can have.
+/// Whether an arrival with these flags may name such a longest frame: none, or one that a device can have.
 fn is_known_frame(flags: u32, frame: u32) -> bool
     ensures { result ≡ is_known_frame flags frame }
 {
-    frame == 0 || asks_large(flags) && frame > FRAME_MAX as u32 && frame < FRAME_END
+    is_usual_frame(frame) || asks_large(flags) && frame > FRAME_MAX as u32 && frame < FRAME_END
 }
 
 /// Whether `bytes` bytes of the caller, where there are any, are no RAM, or pages are allowed beside them.

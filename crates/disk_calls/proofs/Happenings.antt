@@ -96,7 +96,7 @@ new_desk m after calls dev size d next device block h there is requests placed =
 }
 
 -- The devices after an event.
-devices_after : (m after : MachineState) (e : events.Event) (o : Outcome) (r : Reply_) (h : IsStep m e o r after) → after.devices ≡ replaced_in m.devices (answer m e o h.has.seen).effect.replaced
+pub devices_after : (m after : MachineState) (e : events.Event) (o : Outcome) (r : Reply_) (h : IsStep m e o r after) → after.devices ≡ replaced_in m.devices (answer m e o h.has.seen).effect.replaced
 devices_after m after e o r h = ap (λ (k : MachineState). k.devices) h.changed ∙ ap (λ (f : Effect). replaced_in m.devices f.replaced) h.has.effect_is
 
 none_replaced : (m after : MachineState) (e : events.Event) (o : Outcome) (r : Reply_) (dev : ℕ) (h : IsStep m e o r after) → (answer m e o h.has.seen).effect.replaced ≡ None → slice_get after.devices dev ≡ slice_get m.devices dev

@@ -1,6 +1,9 @@
 pub mod Asking
 pub mod Apart
 pub mod Numbers
+pub mod Parts
+pub mod OldestCalls
 pub mod Turns
 pub mod Within
 pub mod Happenings
+mod LostDisks

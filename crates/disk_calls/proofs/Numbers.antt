@@ -1,14 +1,15 @@
 -- The numbers of the calls that are out, and the turn over the devices.
-use Rattle.std.proofs.Common.{◌≡◌, ◌≢◌, ℕ, zero, suc, ◌+◌, ◌-◌, ◌<◌, ◌≤◌, ◌∙◌, ◌⊎◌, inl, inr, List, [], ◌∷◌, ◌++◌, length, set, replicate, get_or, Option, Some, None, slice_get, refl, sym, ap, arith}
+use Rattle.std.proofs.Common.{◌≡◌, ◌≢◌, ℕ, zero, suc, ◌+◌, ◌-◌, ◌<◌, ◌≤◌, ◌∙◌, ◌⊎◌, inl, inr, List, [], ◌∷◌, ◌++◌, length, set, replicate, get_or, false, Option, Some, None, slice_get, refl, sym, ap, subst, arith}
 use Rattle.std.specs.List.{All, remove}
-use Rattle.std.proofs.lemmas.Bool.{cases_lt, lt-ltb, le-ltb}
+use Rattle.std.proofs.lemmas.Bool.{cases_lt, lt-ltb, le-ltb, ltb-false}
 use Rattle.std.proofs.lemmas.Option.{get_or_from_slice_get, slice_get_within}
 use Rattle.blk.specs.declared.outside.DiskCall.{DiskCall}
 use Rattle.blk.specs.declared.request.Request.{Request}
-use Rattle.disk_calls.specs.Calls.{AllCalls, AreNumbered, CallsState, IsAt, call_of, call_of_device, in_turn, with_out}
+use Rattle.disk_calls.specs.Calls.{AllCalls, AreNumbered, CallsState, IsAt, call_of, call_of_device, has_out, in_turn, with_out, without_at}
 use Rattle.disk_calls.specs.Handing.{call_at}
+use Rattle.disk_calls.specs.Numbers.{AreFrom, HandedAreFrom, NoneIsBelow, NoneOutAreFrom, RemovedAreFrom}
 use Rattle.disk_calls.specs.declared.out.Out.{Out}
-use Rattle.disk_calls.proofs.Asking.{came_from, get_last, is_same}
+use Rattle.disk_calls.proofs.Asking.{came_from, get_last, is_same, none_of}
 
 pub get_other : {A : Type 0} (xs : List A) (k : ℕ) (y : A) (j : ℕ) → j ≢ k → slice_get (set xs k y) j ≡ slice_get xs j
 get_other [] k y j other = refl
@@ -136,8 +137,8 @@ no_call i out h = cc
 none_yet : (n size dev i : ℕ) (out : Out) → IsAt (replicate n (record { size = size; outs = [] })) dev i out → ⊥
 none_yet n size dev i out at = no_call i out (ap (λ (s : CallsState). slice_get s.outs i) (sym (get_replicate n (record { size = size; outs = [] }) dev at.device at.there)) ∙ at.is)
 
-pub numbered_new : (n size : ℕ) → AreNumbered (record { devices = replicate n (record { size = size; outs = [] }); turn = 0; number = 0 })
-numbered_new n size = record { below = λ dev i out at. absurd (none_yet n size dev i out at); one = λ dev i other j a b at_a at_b same. absurd (none_yet n size dev i a at_a) }
+pub numbered_new : (n size number : ℕ) → AreNumbered (record { devices = replicate n (record { size = size; outs = [] }); turn = 0; number = number })
+numbered_new n size number = record { below = λ dev i out at. absurd (none_yet n size dev i out at); one = λ dev i other j a b at_a at_b same. absurd (none_yet n size dev i a at_a) }
 
 -- No call of one more device has this number.
 pub none_more : (devices : List CallsState) (k : ℕ) (s : CallsState) (number : ℕ) → slice_get devices k ≡ Some s → All (λ (out : Out). out.number ≢ number) s.outs → ((dev i : ℕ) (out : Out) → dev < k → IsAt devices dev i out → out.number ≢ number)
@@ -153,3 +154,42 @@ none_more devices k s number is none before dev i out below at =
 
 pub none_past : (devices : List CallsState) (k number : ℕ) → length devices ≤ k → ((dev i : ℕ) (out : Out) → dev < k → IsAt devices dev i out → out.number ≢ number) → (dev i : ℕ) (out : Out) → IsAt devices dev i out → out.number ≢ number
 none_past devices k number past before dev i out at = before dev i out (omega (arith, past, slice_get_within devices dev at.device at.there)) at
+
+-- Numbers from a first one on.
+
+pub none_out_are_from : NoneOutAreFrom
+none_out_are_from from calls none next = record {
+  next = next;
+  outs = λ dev i out at.
+      let silent : has_out at.device ≡ false = none_of has_out calls.devices dev at.device none at.there in
+      absurd (omega (arith, ltb-false 0 (length at.device.outs) silent, slice_get_within at.device.outs i out at.is));
+}
+
+pub handed_are_from : HandedAreFrom
+handed_are_from from most asked old new handed h out =
+    let device = with_out out.device handed.number handed.call in
+    let next : new.number ≡ old.number + 1 = ap (λ (c : AllCalls). c.number) out.after in (
+      record {
+        next = omega (arith, h.next, next);
+        outs = λ dev i a at.
+            let now : IsAt (set old.devices handed.dev device) dev i a = subst (λ (c : AllCalls). IsAt c.devices dev i a) out.after at in
+            elim (at_after old.devices handed.dev out.device handed.number handed.call dev i a out.was now) as (λ _. from ≤ a.number) [
+              | inl before ↦ h.outs dev i a before
+              | inr last ↦ let is : a.number ≡ handed.number = ap (λ (o : Out). o.number) last.2 in omega (arith, is, out.number, h.next)
+            ];
+      },
+      omega (arith, out.number, h.next),
+    )
+
+removed_by : (from dev i : ℕ) (calls : AllCalls) (o : Option CallsState) → slice_get calls.devices dev ≡ o → AreFrom from calls → AreFrom from (without_at calls dev i o)
+removed_by from dev i calls None is h = h
+removed_by from dev i calls (Some s) is h = record {
+  next = h.next;
+  outs = λ d k out at. let old = was_at calls.devices dev s i d k out is at in h.outs d old.n out old.at;
+}
+
+pub removed_are_from : RemovedAreFrom
+removed_are_from from dev i calls h = removed_by from dev i calls (slice_get calls.devices dev) refl h
+
+pub none_is_below : NoneIsBelow
+none_is_below from number dev i calls out h below at same = omega (arith, h.outs dev i out at, below, same)

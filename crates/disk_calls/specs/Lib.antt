@@ -4,3 +4,7 @@ pub mod Desk
 pub mod Calls
 pub mod Seen
 pub mod Machines
+pub mod Numbers
+pub mod Parts
+pub mod Oldest
+pub mod Lost

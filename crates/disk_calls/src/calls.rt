@@ -1,13 +1,17 @@
 //! The calls of all devices that are out.
 
 ghost use Rattle.std.specs.Prelude.{ℕ, ◌≡◌, ◌≢◌, ◌<◌, ◌≤◌, ◌^◌, ◌+◌, ◌-◌, ◌*◌, [], List, None, Some, IfOk, IfSome, length, replicate, slice_index_or};
+ghost use Rattle.blk.specs.declared.outside.DiskCall.{DiskCall};
 ghost use Rattle.blk.specs.declared.request.Request.{Request};
 ghost use Rattle.disk_calls.specs.Calls.{AreWithin, IsAt, IsHandedOut, IsNext, call_of_device, in_turn, is_any_out, is_out_of, without};
 ghost use Rattle.disk_calls.specs.Handing.{asker};
+ghost use Rattle.disk_calls.specs.Oldest.{IsNoneFrom, IsOldestFrom};
+ghost use Rattle.disk_calls.specs.Parts.{MayGoInPart};
 ghost use Rattle.disk_calls.specs.declared.out.Out.{Out};
 
 use crate::device_calls::{DeviceCalls, Wanted};
 use crate::lookup::asker;
+use crate::oldest::{Listed, older_listed};
 use blk::{DiskCall, Request};
 use guestmem::NoMemory;
 use std::alloc::Global;
@@ -90,6 +94,20 @@ impl Calls {
         requires { 1 ≤ size }
         ensures { IfOk result (λ calls. calls ≡ record { devices = replicate devices (record { size = size; outs = [] }); turn = 0; number = 0 }) }
     {
+        Calls::starting_at(alloc, devices, size, 0)
+    }
+
+    /// As `new`, but the first call that is handed out has this number, and each further one a greater. Where each machine of a host begins with
+    /// another number, no answer for one is taken by another.
+    pub fn starting_at(
+        alloc: Global,
+        devices: usize,
+        size: u32,
+        number: u64,
+    ) -> Result<Calls, NoMemory>
+        requires { 1 ≤ size }
+        ensures { IfOk result (λ calls. calls ≡ record { devices = replicate devices (record { size = size; outs = [] }); turn = 0; number = number }) }
+    {
         let mut list = Vec::with_capacity(alloc, devices)?;
         for _ in 0..devices {
             list.push_reserved(DeviceCalls::new(alloc, size)?);
@@ -97,7 +115,7 @@ impl Calls {
         Ok(Calls {
             devices: list,
             turn: 0,
-            number: 0,
+            number,
         })
     }
 
@@ -111,10 +129,7 @@ impl Calls {
         ensures alike { length self.new.devices ≡ length self.old.devices }
         ensures nothing { result ≡ None → (dev j : ℕ) → self.old.number < 2 ^ 64 - 1 → dev < length self.old.devices → call_of_device most self.old (T.asked machine.now) dev j ≡ None }
     {
-        if self.number == u64::MAX {
-            return None;
-        }
-        let Found { dev, wanted } = self.first_in_turn(machine, most)?;
+        let Found { dev, wanted } = self.next_call(machine, most)?;
         let number = self.number;
         self.devices[dev].hand_out(machine.requests(dev), most, wanted, number);
         self.turn = in_turn(dev, self.devices.len(), 1);
@@ -125,6 +140,20 @@ impl Calls {
             k: wanted.k,
             call: wanted.call,
         })
+    }
+
+    /// The device whose call `next` would hand out now. It changes nothing.
+    pub fn next_device<T: Asks>(&self, machine: &T, most: u32) -> Option<usize>
+        requires some { 1 ≤ most }
+        requires alike { length self.now.devices ≡ length (T.asked machine.now) }
+        ensures some { IfSome result (λ dev. (k : ℕ) × (call : DiskCall) × IsNext most self.now (T.asked machine.now) dev k call) }
+        ensures there { IfSome result (λ dev. dev < length self.now.devices) }
+        ensures part { IfSome result (λ dev. (k : ℕ) × MayGoInPart most self.now (T.asked machine.now) dev k) }
+        ensures numbered { IfSome result (λ dev. self.now.number < 2 ^ 64 - 1) }
+        ensures none { result ≡ None → (dev j : ℕ) → self.now.number < 2 ^ 64 - 1 → dev < length self.now.devices → call_of_device most self.now (T.asked machine.now) dev j ≡ None }
+    {
+        let Found { dev, wanted: _ } = self.next_call(machine, most)?;
+        Some(dev)
     }
 
     /// Where the call with this number is, if it is out.
@@ -143,6 +172,23 @@ impl Calls {
             }
         }
         None
+    }
+
+    /// The call that is out with the least number from this one on, and whose. A host that lists all of them asks again from one number further
+    /// on than the last.
+    pub fn oldest_from(&self, number: u64) -> Option<Listed>
+        ensures some { IfSome result (λ listed. IsOldestFrom self.now number listed) }
+        ensures there { IfSome result (λ listed. listed.dev < length self.now.devices) }
+        ensures below { IfSome result (λ listed. listed.out.number < 2 ^ 64 - 1) }
+        ensures none { result ≡ None → IsNoneFrom self.now number }
+    {
+        let _next = self.number;
+        let mut oldest = None;
+        for dev in 0..self.devices.len() {
+            let found = self.devices[dev].oldest_from(number);
+            oldest = older_listed(oldest, dev, found);
+        }
+        oldest
     }
 
     /// The request that the answer of a call is for, by its place from 0. `None` if no request asks for it, as where its device does not
@@ -186,11 +232,29 @@ impl Calls {
         false
     }
 
+    /// The next call, if there is a number left for it.
+    fn next_call<T: Asks>(&self, machine: &T, most: u32) -> Option<Found>
+        requires some { 1 ≤ most }
+        requires alike { length self.now.devices ≡ length (T.asked machine.now) }
+        ensures some { IfSome result (λ found. IsNext most self.now (T.asked machine.now) found.dev found.wanted.k found.wanted.call) }
+        ensures there { IfSome result (λ found. found.dev < length self.now.devices) }
+        ensures part { IfSome result (λ found. MayGoInPart most self.now (T.asked machine.now) found.dev found.wanted.k) }
+        ensures numbered { IfSome result (λ found. self.now.number < 2 ^ 64 - 1) }
+        ensures none { result ≡ None → (dev j : ℕ) → self.now.number < 2 ^ 64 - 1 → dev < length self.now.devices → call_of_device most self.now (T.asked machine.now) dev j ≡ None }
+    {
+        if self.number == u64::MAX {
+            return None;
+        }
+        self.first_in_turn(machine, most)
+    }
+
     /// The first device in turn with a call that may be handed out.
     fn first_in_turn<T: Asks>(&self, machine: &T, most: u32) -> Option<Found>
         requires some { 1 ≤ most }
         requires alike { length self.now.devices ≡ length (T.asked machine.now) }
         ensures some { IfSome result (λ found. IsNext most self.now (T.asked machine.now) found.dev found.wanted.k found.wanted.call) }
+        ensures there { IfSome result (λ found. found.dev < length self.now.devices) }
+        ensures part { IfSome result (λ found. MayGoInPart most self.now (T.asked machine.now) found.dev found.wanted.k) }
         ensures none { result ≡ None → (i j : ℕ) → i < length self.now.devices → call_of_device most self.now (T.asked machine.now) (in_turn self.now.turn (length self.now.devices) i) j ≡ None }
     {
         for steps in 0..self.devices.len() {
@@ -208,6 +272,7 @@ impl Calls {
         requires there { dev < length self.now.devices }
         requires alike { length self.now.devices ≡ length (T.asked machine.now) }
         ensures some { IfSome result (λ next. call_of_device most self.now (T.asked machine.now) dev next.k ≡ Some next.call) }
+        ensures part { IfSome result (λ next. MayGoInPart most self.now (T.asked machine.now) dev next.k) }
         ensures first { IfSome result (λ next. (j : ℕ) → j < next.k → call_of_device most self.now (T.asked machine.now) dev j ≡ None) }
         ensures none { result ≡ None → (j : ℕ) → call_of_device most self.now (T.asked machine.now) dev j ≡ None }
     {

@@ -3,10 +3,13 @@
 ghost use Rattle.std.specs.Prelude.{ℕ, ◌≡◌, ◌≢◌, ◌+◌, ◌<◌, ◌≤◌, ◌++◌, ◌∷◌, [], None, Some, false, slice_get, All, IfOk, IfSome, length, vec_capacity};
 ghost use Rattle.std.specs.List.{list_any, remove};
 ghost use Rattle.blk.specs.Outside.{disk_call};
+ghost use Rattle.blk.specs.declared.outside.DiskCall.{DiskCall};
 ghost use Rattle.disk_calls.specs.Calls.{AreWithin, IsWithin, has_out};
 ghost use Rattle.disk_calls.specs.Handing.{call_at, left_overlaps, may_hand_out};
+ghost use Rattle.disk_calls.specs.Oldest.{IsOldestOf};
 ghost use Rattle.disk_calls.specs.Overlap.{overlap};
 
+use crate::oldest::older;
 use crate::out::{Out, overlap};
 use blk::{DiskCall, Request};
 use guestmem::NoMemory;
@@ -53,6 +56,13 @@ impl DeviceCalls {
     {
         let list = Vec::with_capacity(alloc, CALLS_MAX)?;
         Ok(DeviceCalls { size, list })
+    }
+
+    /// For proofs: a block of the storage has a sector at least.
+    fn recall(&self)
+        ensures { 1 ≤ self.now.size }
+    {
+        let _size = self.size;
     }
 
     /// Whether a call overlaps one that is out.
@@ -103,9 +113,11 @@ impl DeviceCalls {
         requires some { 1 ≤ most }
         requires within { AreWithin requests.now }
         ensures some { IfSome result (λ next. call_at self.now.size most self.now.outs requests.now next.k ≡ Some next.call) }
+        ensures part { IfSome result (λ next. (fewer : ℕ) → 1 ≤ fewer → fewer ≤ most → (part : DiskCall) × (call_at self.now.size fewer self.now.outs requests.now next.k ≡ Some part)) }
         ensures first { IfSome result (λ next. (j : ℕ) → j < next.k → call_at self.now.size most self.now.outs requests.now j ≡ None) }
         ensures none { result ≡ None → (j : ℕ) → call_at self.now.size most self.now.outs requests.now j ≡ None }
     {
+        self.recall();
         for k in 0..requests.len() {
             if let Some(call) = self.call_at(requests, k, most) {
                 return Some(Wanted { k, call });
@@ -150,6 +162,19 @@ impl DeviceCalls {
             }
         }
         None
+    }
+
+    /// The call that is out with the least number from this one on.
+    pub fn oldest_from(&self, number: u64) -> Option<Out>
+        ensures some { IfSome result (λ oldest. IsOldestOf self.now.outs number oldest) }
+        ensures none { result ≡ None → All (λ out. out.number < number) self.now.outs }
+    {
+        let mut oldest = None;
+        for i in 0..self.list.len() {
+            let out = self.list[i];
+            oldest = older(oldest, out, number);
+        }
+        oldest
     }
 
     /// Whether a call is out.

@@ -22,7 +22,14 @@
 //!   keeps rule 2 and answers each call once, each answer meets the request that its call was handed out for (`calls_are_met`, over
 //!   `specs/Desk`). What it does with `Calls` are the turns of that law (`handing_is_a_turn`, `answering_is_a_turn`, over `specs/Seen`). So are
 //!   the events of a machine: the law holds of machines, whatever happens to them (`machines_meet_calls`, over `specs/Machines`).
-//! - Room for all calls is taken by `Calls::new`; no other call of this crate takes memory.
+//! - Numbers begin where `Calls::starting_at` says, and no call ever has a lesser one (`numbers_stay_from`, over `specs/Numbers`): a host with
+//!   several machines gives each its own, so that no answer for one is taken by another.
+//! - `Calls::next_device` says which device's call `next` would hand out, and `None` only where none may be. What may be handed out whole may be
+//!   in part (`whole_may_go_in_part`, over `specs/Parts`).
+//! - `Calls::oldest_from` finds the call that is out with the least number from one on (`specs/Oldest`).
+//! - `counts` says whether an answer counts of a disk that may have lost writes which it answered: none that would say that something is durable.
+//!   A request that asks for that then ends with an error (`lost_disk_makes_nothing_durable`, over `specs/Lost`).
+//! - Room for all calls is taken by `Calls::new` and `Calls::starting_at`; no other call of this crate takes memory.
 //!
 //! Nothing is trusted here beside the crates below.
 #![tactic(auto)]
@@ -31,11 +38,18 @@ mod calls;
 mod device_calls;
 mod laws;
 mod lookup;
+mod lost;
 mod machines;
+mod oldest;
 mod out;
 
 pub use calls::{Asks, Calls, Handed, Place};
 pub use device_calls::{CALLS_MAX, DeviceCalls, Wanted};
-pub use laws::{answering_is_a_turn, calls_are_met, handing_is_a_turn, machines_meet_calls};
+pub use laws::{
+    answering_is_a_turn, calls_are_met, handing_is_a_turn, lost_disk_makes_nothing_durable,
+    machines_meet_calls, numbers_stay_from, whole_may_go_in_part,
+};
 pub use lookup::asker;
+pub use lost::counts;
+pub use oldest::Listed;
 pub use out::Out;

@@ -17,7 +17,7 @@ pub struct Out {
 }
 
 /// Whether it is a flush.
-fn is_flush(what: What) -> bool
+pub(crate) fn is_flush(what: What) -> bool
     ensures { result ≡ is_flush what }
 {
     match what {

@@ -1,16 +1,15 @@
 -- What a device does with an answer of a disk outside: it stays what it is, and sound, and writes inside RAM.
-use Rattle.std.proofs.Common.{◌≡◌, ℕ, zero, suc, ◌-◌, ◌*◌, ◌<◌, Bool, true, false, cond, ltb, List, [], ◌∷◌, length, drop, set, Option, Some, None, inl, inr, refl, sym, ap, arith}
+use Rattle.std.proofs.Common.{◌≡◌, ℕ, zero, suc, ◌-◌, ◌*◌, ◌<◌, Bool, true, false, cond, ltb, List, [], ◌∷◌, length, drop, Option, Some, None, inl, inr, refl, sym, ap, arith}
 use Rattle.std.specs.Prelude.{◌&&◌, All, IsSomeAnd, slice_get}
 use Rattle.std.specs.Bool.{MatchBool}
 use Rattle.std.proofs.lemmas.Bool.{cases_Bool}
 use Rattle.std.proofs.lemmas.List.{length-set}
 use Rattle.std.proofs.lemmas.List.Elements.{All-nil}
 use Rattle.std.proofs.lemmas.Option.{get_or_from_slice_get, slice_get_within}
-use Rattle.guestmem.specs.Address.{index_of}
 use Rattle.guestmem.specs.Number.{IsBytes}
 use Rattle.guestmem.specs.Writes.{Write}
 use Rattle.chains.specs.Places.{places, place_writes, AreSegmentsInside}
-use Rattle.chains.specs.State.{RingState, state_of}
+use Rattle.chains.specs.State.{state_of}
 use Rattle.mmio.specs.State.{Registers, queue_at}
 use Rattle.mmio.specs.Status.{is_running}
 use Rattle.mmio.specs.declared.queue.Queue.{Queue}
@@ -20,7 +19,6 @@ use Rattle.blk.specs.Outside.{Answer, Answering, AreSoundIn, Did, Failed, Gave, 
 use Rattle.blk.specs.Sound.{AreRequestsOf, IsSoundRequest}
 use Rattle.blk.specs.declared.block.Block as blocks
 use Rattle.blk.specs.declared.request.Request.{Request}
-use Rattle.blk.specs.declared.shape.Limits.{Limits}
 use Rattle.machine.specs.DeviceStep.{DeviceAnswer, unmoved}
 use Rattle.machine.specs.Outside.{answer_disk, reply_to_disk}
 use Rattle.machine.specs.QueuePositions.{first_positions, is_packed_by}

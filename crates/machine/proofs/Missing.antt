@@ -1,5 +1,5 @@
 -- What a device answers whose registers are read, and that one which is not there is not flushed.
-use Rattle.std.proofs.Common.{◌≡◌, ℕ, zero, suc, ◌≤◌, List, [], ◌∷◌, length, map, true, Option, Some, None, Ok, refl, ap, arith}
+use Rattle.std.proofs.Common.{◌≡◌, ℕ, zero, suc, ◌≤◌, List, [], ◌∷◌, length, map, true, Option, None, Ok, refl, ap, arith}
 use Rattle.std.specs.Prelude.{IsTrue, slice_index_or, slice_set}
 use Rattle.chains.specs.declared.next.Next.TheVariants.{Empty}
 use Rattle.guestmem.specs.Memory.{Memory}

@@ -1,5 +1,5 @@
 -- Answers of disks outside, over machines: what is asked waits, and is taken; and a run is its parts, one event after another.
-use Rattle.std.proofs.Common.{◌≡◌, ℕ, zero, suc, ◌+◌, ◌-◌, ◌%◌, ◌<◌, ◌≤◌, Bool, true, false, cond, ltb, List, [], ◌∷◌, ◌++◌, length, set, Option, Some, None, Ok, refl, sym, ap, subst, ◌∙◌, arith}
+use Rattle.std.proofs.Common.{◌≡◌, ℕ, zero, suc, ◌+◌, ◌-◌, ◌<◌, Bool, true, false, cond, ltb, List, [], ◌∷◌, ◌++◌, length, set, Option, Some, None, Ok, refl, sym, ap, subst, ◌∙◌, arith}
 use borrow.Author.Tests.{ltb-true}
 use Rattle.std.specs.Prelude.{◌&&◌, not, slice_get}
 use Rattle.std.proofs.lemmas.Bool.{lt-ltb}
@@ -17,11 +17,11 @@ use Rattle.blk.specs.declared.outside.DiskCall.{DiskCall}
 use Rattle.blk.specs.declared.request.Request.{Request}
 use Rattle.machine.specs.DeviceStep.{DeviceAnswer, advanced_at, can_advance, looked_at, requests_of, waits_outside}
 use Rattle.machine.specs.Effect.{applied}
-use Rattle.machine.specs.Outcome.{Outcome, fine, outcome_of}
+use Rattle.machine.specs.Outcome.{fine, outcome_of}
 use Rattle.machine.specs.Outside.{answer_of, asking_request, asking_requests, call_in, call_with, disk_answered, outside_call, outside_requests, reply_to_disk}
 use Rattle.machine.specs.OutsideLaws.{AskedIsTaken, DoneInParts, DoneTogether, GivenInParts, GivenTogether, TakesBoth, WaitingIsIdle}
 use Rattle.machine.specs.Shapes.{made_as, queues_of}
-use Rattle.machine.specs.Sound.{IsSound, IsSoundDevice}
+use Rattle.machine.specs.Sound.{IsSoundDevice}
 use Rattle.machine.specs.State.{DeviceState, MachineState}
 use Rattle.machine.specs.Step as steps
 use Rattle.machine.specs.Step.{IsStep, answered_by, hand_in}

@@ -1,16 +1,21 @@
 -- Calls of a machine whose RAM is lent.
-use Rattle.std.proofs.Common.{◌≡◌, ℕ, ◌*◌, ◌≤◌, Bool, true, false, List, None, length, map, replicate, set, refl, sym, ap, subst, ◌∙◌}
-use Rattle.std.proofs.lemmas.List.{length-replicate}
-use Rattle.std.specs.Prelude.{Result}
+use Rattle.std.proofs.Common.{◌≡◌, ℕ, ◌*◌, ◌≤◌, Bool, true, false, List, [], ◌∷◌, None, length, map, replicate, set, refl, sym, ap, subst, ◌∙◌}
+use Rattle.std.proofs.lemmas.List.{length-replicate, length-set}
+use Rattle.std.specs.Prelude.{Result, slice_index, slice_set}
+use Rattle.region.specs.Address.{address}
 use Rattle.region.specs.declared.region.Region.{Region}
 use Rattle.chains.specs.declared.next.Next.TheVariants.{Empty}
-use Rattle.guestmem.specs.Memory.{Memory}
+use Rattle.guestmem.specs.Item.{Item}
+use Rattle.guestmem.specs.Lent.{given_back, raise_each}
+use Rattle.guestmem.specs.Memory.{IsMemory, Memory}
+use Rattle.guestmem.specs.Write.{raised}
 use Rattle.guestmem.specs.declared.limits.TheConstants.{PAGES_GREATEST}
 use Rattle.machine.specs.Applied.{FailsOnlyUnsteady, IsApplied, as_given, marks_after}
 use Rattle.machine.specs.Effect.{items_of, no_effect}
 use Rattle.machine.specs.Held.{IsHeld}
 use Rattle.machine.specs.Outcome.{outcome_of}
-use Rattle.machine.specs.Parked.{FailsParkedFlushIf, FlushesParked, IsAppliedParked, IsAppliedQuietly, IsParked, ParkedFlushFails, ParkedIsApplied, ParkedIsFlushed, ParkedSeen, WasHeld, back_with, makes_flush_parked}
+use Rattle.machine.specs.Outside.{TakesAnswer, answer_of, disk_reply}
+use Rattle.machine.specs.Parked.{FailsParkedFlushIf, FlushesParked, IsAppliedParked, IsAppliedQuietly, IsParked, LentIsAfterReturn, ParkedFlushFails, ParkedIsApplied, ParkedIsFlushed, ParkedSeen, WasHeld, back_with, makes_flush_parked}
 use Rattle.machine.specs.Rings.{AreNewRings, FitAll}
 use Rattle.machine.specs.Seen.{DeviceSeen, Seen, state_of}
 use Rattle.machine.specs.Sound.{IsSoundDevice}
@@ -19,13 +24,16 @@ use Rattle.machine.specs.Step.{IsStep, register_value_of}
 use Rattle.machine.specs.StepLaws.{Fits}
 use Rattle.machine.specs.Unsynced.{FailsFlush, FlushesDisk, flushes, with_flush_failed}
 use Rattle.machine.specs.declared.any_ring.AnyRing.{AnyRing}
+use Rattle.machine.specs.declared.event.DiskAnswer.{DiskAnswer}
 use Rattle.machine.specs.declared.event.Event.{Event}
-use Rattle.machine.specs.declared.event.Event.TheVariants.{RegRead, Step}
+use Rattle.machine.specs.declared.event.Event.TheVariants.{Disk, RegRead, Step}
 use Rattle.machine.specs.declared.reply.Reply.{Reply}
 use Rattle.machine.specs.declared.reply.Reply.TheVariants.{Refused, Value}
+use Rattle.machine.specs.declared.reply.Refusal.{Refusal}
 use Rattle.machine.specs.declared.reply.Refusal.TheVariants.{NoDevice}
 use Rattle.machine.specs.declared.shape.Shape.{Shape}
-use Rattle.machine.proofs.At.{IsAt, applied_quiet, found, held_step, map-set_same, own_base, past, seen_base, sound_device}
+use Rattle.machine.proofs.At.{IsAt, applied_quiet, found, held_step, map-set_same, own_base, past, plain_step, seen_base, sound_device}
+use Rattle.machine.proofs.DiskEvents.{handed_step, missing_quiet}
 use Rattle.machine.proofs.Flushing.{IsCalled, flushes_disk}
 use Rattle.machine.proofs.Parking.{with_zeros}
 use Rattle.machine.proofs.Quiet.{IsQuiet, no_items}
@@ -104,6 +112,25 @@ register_missing shapes versions ds dev offset width was fits h =
     parked_same shapes versions ds (RegRead dev offset width) (Refused NoDevice) tt was
     (λ m held. applied_quiet shapes (record { memory = m; devices = ds }) (record { memory = m; devices = ds }) (RegRead dev offset width) (Refused NoDevice) tt held fits (read_missing m ds dev offset width h) refl refl tt)
 
+-- An answer of a disk outside that gives no bytes.
+module _ (shapes : List Shape) (versions : List ℕ) (ds : List DeviceSeen) (dev pick : ℕ) (given : DiskAnswer) (quiet : IsQuiet (Disk dev pick given)) (fits : Fits (Disk dev pick given)) (was : WasHeld shapes (parked_of versions ds)) where
+  module _ (d new : DeviceSeen) (result : Result Bool Refusal) (at : IsAt ds dev d) (same : new ≡ record d { state = new.state }) (taken : (ram : List ℕ) → TakesAnswer (λ items. items ≡ []) ram d.state pick (answer_of given) result ram new.state) where
+    answer_step : (m : Memory) → IsStep (state_of (record { memory = m; devices = ds })) (Disk dev pick given) (outcome_of (disk_reply (answer_of given) result)) (disk_reply (answer_of given) result) (state_of (record { memory = m; devices = set ds dev new }))
+    answer_step m =
+        plain_step _ (state_of (record { memory = m; devices = ds })) (state_of (record { memory = m; devices = set ds dev new })) (Disk dev pick given) (disk_reply (answer_of given) result)
+        (handed_step (λ (items : List Item). items ≡ []) m m ds dev pick d new given result at same (taken m.bytes))
+
+    pub parked_answer : IsAppliedParked (parked_of versions ds) (Disk dev pick given) (disk_reply (answer_of given) result) (parked_of versions (set ds dev new))
+    parked_answer =
+        parked_step shapes versions ds dev d new (Disk dev pick given) (disk_reply (answer_of given) result) quiet fits was at (keeps_disk d new new.state same) answer_step
+        (map-set_same (λ (x : DeviceSeen). x.marks) ds dev d new at (ap (λ (x : DeviceSeen). x.marks) same)) tt
+
+    pub answer_held : WasHeld shapes (parked_of versions (set ds dev new))
+    answer_held = parked_held shapes versions ds (set ds dev new) (Disk dev pick given) (disk_reply (answer_of given) result) fits was answer_step
+
+  pub answer_missing : length ds ≤ dev → IsAppliedParked (parked_of versions ds) (Disk dev pick given) (Refused NoDevice) (parked_of versions ds)
+  answer_missing h = parked_same shapes versions ds (Disk dev pick given) (Refused NoDevice) quiet was (λ m held. missing_quiet shapes m ds dev pick given quiet held fits h)
+
 -- Its devices are sound, whatever its RAM holds.
 pub parked_sound : (shapes : List Shape) (versions : List ℕ) (ds : List DeviceSeen) (dev len : ℕ) (d : DeviceSeen) → WasHeld shapes (parked_of versions ds) → 1 ≤ length versions → length versions ≤ PAGES_GREATEST → len ≡ 4096 * length versions → IsAt ds dev d
     → IsSoundDevice d.state.registers.ram_base len d.state
@@ -173,3 +200,16 @@ parked_flush_fails m p next region dev pick mem bytes parked was =
       parked = still_parked m p next region parked was.versions;
       memory = refl;
     }
+
+-- The RAM that is given back is a memory of as many pages.
+length-raised : (versions pages : List ℕ) → length (raise_each versions pages) ≡ length versions
+length-raised versions [] = refl
+length-raised versions (n ∷ pages) = length-raised (slice_set versions n (raised (slice_index versions n))) pages ∙ length-set versions n (raised (slice_index versions n))
+
+pub lent_is_after_return : LentIsAfterReturn
+lent_is_after_return p next region pages e reply some few size bytes was =
+    let back : Memory = given_back region.content (address region) p.versions pages in
+    let counts : length back.versions ≡ length p.versions = length-raised p.versions pages in
+    let mem : IsMemory back = record { pages = size ∙ ap (λ (n : ℕ). 4096 * n) (sym counts); some = rw counts some; few = rw counts few } in
+    let same : given_back region.content (address region) next.versions pages ≡ back = ap (λ (v : List ℕ). given_back region.content (address region) v pages) was.versions in
+    rw same (record { quietly = was.applied back mem bytes counts; calls = was.calls })

@@ -1,9 +1,9 @@
 -- What contracts see of a machine whose RAM is lent.
-use Rattle.std.specs.Prelude.{◌≡◌, ℕ, ◌+◌, ◌*◌, ◌/◌, List, [], ◌∷◌, Bool, true, false, Option, Result, length, map, slice_get, slice_index}
+use Rattle.std.specs.Prelude.{◌≡◌, ℕ, ◌+◌, ◌*◌, ◌/◌, ◌≤◌, List, [], ◌∷◌, Bool, true, false, Option, Result, length, map, slice_get, slice_index}
 use Rattle.region.specs.Address.{address}
 use Rattle.region.specs.declared.region.Region.{Region}
 use Rattle.guestmem.specs.Lent.{AreBelow, IsLent, given_back, is_named, marked}
-use Rattle.guestmem.specs.declared.limits.TheConstants.{PAGE_SIZE}
+use Rattle.guestmem.specs.declared.limits.TheConstants.{PAGE_SIZE, PAGES_GREATEST}
 use Rattle.guestmem.specs.Memory.{IsMemory, Memory}
 use Rattle.guestmem.specs.Number.{IsBytes}
 use Rattle.guestmem.specs.Page.{page_of}
@@ -149,3 +149,9 @@ ParkedIsFlushed = (m : Seen) (p next : ParkedSeen) (region : Region) (dev : ℕ)
 
 abbrev pub ParkedFlushFails : Type 0
 ParkedFlushFails = (m : Seen) (p next : ParkedSeen) (region : Region) (dev pick : ℕ) → IsMemory m.memory → IsBytes m.memory.bytes → IsParked m region p → FailsParkedFlush p dev pick next → IsDoneLent m region next (FailsFlush m dev pick)
+
+-- Such an event is also, with its reply, that event of the machine after the return, whatever the guest wrote meanwhile: made before the
+-- return or after it, it leaves the same machine.
+abbrev pub LentIsAfterReturn : Type 0
+LentIsAfterReturn = (p next : ParkedSeen) (region : Region) (pages : List ℕ) (e : Event) (reply : Reply) → 1 ≤ length p.versions → length p.versions ≤ PAGES_GREATEST → length region.content ≡ PAGE_SIZE * length p.versions → IsBytes region.content → IsAppliedParked p e reply next
+    → IsAppliedUncalled (back_with p (given_back region.content (address region) p.versions pages)) e reply (back_with next (given_back region.content (address region) next.versions pages))

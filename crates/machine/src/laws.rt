@@ -6,7 +6,7 @@ mod work;
 ghost use Rattle.machine.specs.AppliedLaws.{HonestDisksGiveTheirs, AnyDiskActsAlike, RefusedChangesNothing};
 ghost use Rattle.machine.specs.Calls.{OnlyStepsCall};
 ghost use Rattle.machine.specs.PageLog.{NotedAreThese};
-ghost use Rattle.machine.specs.Parked.{BackIsWritten, MarkIsWritten, ParkedFlushFails, ParkedIsApplied, ParkedIsFlushed, UnnamedIsWritten};
+ghost use Rattle.machine.specs.Parked.{BackIsWritten, LentIsAfterReturn, MarkIsWritten, ParkedFlushFails, ParkedIsApplied, ParkedIsFlushed, UnnamedIsWritten};
 ghost use Rattle.machine.specs.Limits.{GreatestAllow, LimitsStay};
 ghost use Rattle.machine.specs.EffectLaws.{UntouchedStays, TouchedExists, ShapeStays};
 ghost use Rattle.machine.specs.StepLaws.{EffectsAgree, StepsAgree, RunsAgree, StepStaysWithin, StepKeepsShape, StepStaysSound, RefusalsChangeNothing, MalformedIsContained, MalformedAsksForReset};
@@ -133,6 +133,12 @@ pub fn parked_is_flushed()
 /// So it is with a step whose flush fails in its place.
 pub fn parked_flush_fails()
     ensures { ParkedFlushFails }
+{}
+
+/// An event that is applied while the RAM is lent is also, with its reply, that event of the machine after the return, whatever the guest
+/// wrote meanwhile: made before the return or after it, it leaves the same machine.
+pub fn lent_call_is_made_after_the_return()
+    ensures { LentIsAfterReturn }
 {}
 
 /// A log of pages has the pages that it had and those that were written, and no other.

@@ -28,7 +28,8 @@
 //! - A disk outside (`Shape::Outside`) is the host's (`specs/Outside`). A request that needs it waits: `next_work` does not name it, and its
 //!   step is idle (`laws::waiting_is_idle`). `disk_call(dev, pick)` says what it asks: one sector at least, none past the last, and no change
 //!   of a device that is read-only, whatever a guest or a stream did; `written_bytes` hands out what is to be written. The host does that in
-//!   its own time, and hands the answer in, whole or in part, as the event `Disk`. An answer to what is asked is taken
+//!   its own time, and hands the answer in, whole or in part, as the event `Disk`. `DeviceState::call_with_durability` says of any call
+//!   whether it has to be durable before it is answered, by what the driver accepted. An answer to what is asked is taken
 //!   (`laws::asked_is_taken`), another one is idle; what was given or done is its parts (`laws::answers_are_their_parts`). It takes no memory,
 //!   and calls no disk: such a device has no marks, and `must_sync` owes nothing for it. `drops_requests` says which register write would
 //!   drop requests that may have a call out (crate `disk_calls`).
@@ -69,9 +70,11 @@
 //!   versions (`laws::unnamed_is_written`). `mark` names pages later; it is the guest's writes of these pages with the bytes that lie there
 //!   (`laws::mark_is_written`).
 //! - What needs no byte of RAM can be done while it is lent: register accesses, input, a size of a console, flushes of disks, the next
-//!   work, the lines, the states of the devices. Each is that of the machine with whatever its RAM holds meanwhile, and so of the machine
-//!   as it was lent (`laws::parked_is_applied`, `parked_is_flushed`, `parked_flush_fails`): it makes no difference whether the guest wrote
-//!   before or after. RAM accesses, steps and what hands the machine on want the RAM back.
+//!   work, the lines, the states of the devices, and answers of disks outside that touch no RAM (`Parked::disk_did`, `disk_failed`). Each is
+//!   that of the machine with whatever its RAM holds meanwhile, and so of the machine as it was lent (`laws::parked_is_applied`,
+//!   `parked_is_flushed`, `parked_flush_fails`) and of the machine after the return (`laws::lent_call_is_made_after_the_return`): it makes no
+//!   difference whether the guest wrote before or after. RAM accesses, bytes that a disk outside gave, steps and what hands the machine on
+//!   want the RAM back.
 //! - `are_disks_of` says whether disks are those of some devices, in their order.
 //! - `laws`: what an effect does not touch stays, what it touches exists, the shape stays. Equal outcomes give equal effects,
 //!   replies and machines, whatever a guest wrote into its rings. A step of a sound machine stays within it, keeps its shape

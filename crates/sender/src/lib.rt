@@ -49,10 +49,11 @@
 //!   `LiveParked` (`specs/Parked`). `LiveParked::give_back` takes the region back with the pages that were written: they are dirty. Where the
 //!   caller wrote into no other page, that is served as the guest's writes of these pages are, and the history goes on by them.
 //! - What needs no byte of RAM can be done meanwhile (`specs/ParkedCalls`), in each phase in which the guest runs, after a failed writing
-//!   too: register accesses, input, a size of a console, flushes of disks; `remaining`, `left` and `most_by_stop` count, and bytes are
-//!   taken. Each is that call of the machine as it was lent (`laws::live_parked_is_served` and the two after it), and makes nothing dirty. So
-//!   the history goes on by these events, and then by the writes of the pages that are named (`laws::lent_follows_the_history`). Begin, copy,
-//!   end of a round, stop, abort, steps and RAM accesses want the RAM back.
+//!   too: register accesses, input, a size of a console, flushes of disks, and answers of disks outside that touch no RAM (`disk_did`,
+//!   `disk_failed`); `remaining`, `left` and `most_by_stop` count, and bytes are taken. Each is that call of the machine as it was lent
+//!   (`laws::live_parked_is_served` and the two after it), and makes nothing dirty. So the history goes on by these events, and then by the
+//!   writes of the pages that are named (`laws::lent_follows_the_history`). Begin, copy, end of a round, stop, abort, steps, RAM accesses
+//!   and bytes that a disk outside gave want the RAM back.
 //! - Pages may be named later (`specs/Marks`): by a further return, or by `mark`, which needs no loan. Until then the machine is *behind*
 //!   its history by no more than these pages: if some of them were dirty too, all that is promised of a history would hold. Every call,
 //!   loan and taking may come meanwhile, but no end of a round and no stop. A begin, which makes every item due, ends it too. A page that

@@ -2,7 +2,7 @@
 //! is saved while a buffer of the driver still waits, is received again, and continues there; then it moves to a third host
 //! while its guest reads its disk.
 //!
-//! It uses `vmig` alone, beside `anyhow`: one crate is enough for a host. docs/host-loop.md quotes it.
+//! It uses `vmig` alone, beside `anyhow`: one crate is enough for a host. docs/rattle.md quotes it.
 #![tactic(auto)]
 
 mod driver;

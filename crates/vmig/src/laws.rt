@@ -1,17 +1,21 @@
 //! The laws of RAM, machines, disks outside, streams and traces: functions that do nothing, whose contracts are the laws.
 
-pub use disk_calls::{answering_is_a_turn, calls_are_met, handing_is_a_turn, machines_meet_calls};
+pub use disk_calls::{
+    answering_is_a_turn, calls_are_met, handing_is_a_turn, lost_disk_makes_nothing_durable,
+    machines_meet_calls, numbers_stay_from, whole_may_go_in_part,
+};
 pub use guestmem::laws::{
     given_back_is_written, later_in_turn, marked_is_written, refusals_at_zero, rises_in_turn,
 };
 pub use machine::laws::{
     answers_are_their_parts, any_disk_acts_alike, asked_is_taken, back_is_written, effects_agree,
-    greatest_allow, honest_disks_give_theirs, idle_without_work, limits_stay,
-    malformed_asks_for_reset, malformed_is_contained, mark_is_written, noted_are_these,
-    only_steps_call, parked_flush_fails, parked_is_applied, parked_is_flushed,
-    refusals_change_nothing, refused_changes_nothing, runs_agree, shape_stays, step_keeps_shape,
-    step_stays_sound, step_stays_within, steps_agree, touched_exists, turn_is_steps,
-    unnamed_is_written, untouched_stays, waiting_is_idle, work_gets_on,
+    greatest_allow, honest_disks_give_theirs, idle_without_work,
+    lent_call_is_made_after_the_return, limits_stay, malformed_asks_for_reset,
+    malformed_is_contained, mark_is_written, noted_are_these, only_steps_call, parked_flush_fails,
+    parked_is_applied, parked_is_flushed, refusals_change_nothing, refused_changes_nothing,
+    runs_agree, shape_stays, step_keeps_shape, step_stays_sound, step_stays_within, steps_agree,
+    touched_exists, turn_is_steps, unnamed_is_written, untouched_stays, waiting_is_idle,
+    work_gets_on,
 };
 pub use receiver::laws::{
     faults_stand_early, faults_stay, no_fault_in_a_stream, one_fault, rounds_of_a_stream,

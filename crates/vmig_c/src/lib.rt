@@ -33,6 +33,7 @@ ghost use Rattle.c_handle.specs.Sectors.{SectorRead};
 ghost use Rattle.c_handle.specs.HandedOut.{HandedOut};
 ghost use Rattle.c_handle.specs.Late.{Marked};
 ghost use Rattle.c_handle.specs.Lent.{GivesBack, Lends};
+ghost use Rattle.c_handle.specs.Listed.{ListsCalls};
 ghost use Rattle.c_handle.specs.Made.{Makes};
 ghost use Rattle.c_handle.specs.Migrated.{Aborted, Begun, EndedRound, HasBeenStopped, Leaves, SentSome, Taken};
 ghost use Rattle.c_handle.specs.Mirror.{Pulled, Pushed};
@@ -50,9 +51,9 @@ ghost use Rattle.c_handle.specs.Version.{version};
 use c_handle::{
     Call, Handle, SendLeft, Turn, abort, announced, answer_done, answer_failed, arrive, begin,
     describe, drop_input, feed, finish, give_back, hand_call, hand_out, held_of, input,
-    left as left_of, lend, lines, lose_kept, make, mark, next, pull, push, read_ram, read_register,
-    read_sector, release, release_refusal, reset, resize, room as room_in, save_kept, send_round,
-    send_some, step_kept, stop, take, work, write_ram, write_register,
+    left as left_of, lend, lines, list_calls, lose_kept, make, mark, next, pull, push, read_ram,
+    read_register, read_sector, release, release_refusal, reset, resize, room as room_in,
+    save_kept, send_round, send_some, step_kept, stop, take, work, write_ram, write_register,
 };
 use c_machine::status::{DONE, NO_MACHINE};
 use c_machine::{Description, Expected, Pages, Setup};
@@ -76,8 +77,8 @@ macro_rules! on_kept {
     }};
 }
 
-/// Version 1.0.0.
-const VERSION: u32 = 1 << 16;
+/// Version 1.1.0.
+const VERSION: u32 = 1 << 16 | 1 << 8;
 
 /// The version of the library: the major number from bit 16 on, the minor one from bit 8 on, and the patch.
 #[unsafe(no_mangle)]
@@ -234,7 +235,7 @@ pub extern "C" fn vmig_reset(machine: &mut Handle) -> u32
 }
 
 /// Finds a step that has something to do, the first in turn after the one that the two numbers name, and says whether the disk has to be
-/// durable before it. It takes no memory.
+/// durable before it; or, where no step has, the device whose next call `vmig_disk_call` would hand out now. It takes no memory.
 #[unsafe(no_mangle)]
 #[tactic(auto, using(crate::proofs::Descriptions::found_none, crate::proofs::Descriptions::found_some))]
 pub extern "C" fn vmig_next(machine: &mut Handle, dev: &mut u8, pick: &mut u8) -> u32
@@ -271,7 +272,8 @@ pub extern "C" fn vmig_work(machine: &mut Handle, turn: &mut Turn, buf: &mut [u8
     on_kept!(machine; work(turn, buf))
 }
 
-/// The disk of a device could not be brought to its file, and is lost from now on. It takes no memory.
+/// The disk of a device could not be brought to its file, or is on storage that may have lost what it answered: it is lost from now on. It takes no
+/// memory.
 #[unsafe(no_mangle)]
 #[tactic(auto, using(crate::proofs::ByHandle::failed_none, crate::proofs::ByHandle::failed_some))]
 pub extern "C" fn vmig_sync_failed(machine: &mut Handle, dev: u8) -> u32
@@ -305,6 +307,16 @@ pub extern "C" fn vmig_disk_failed(machine: &mut Handle, number: u64) -> u32
     ensures { FailsCall machine.old.machine number result machine.new.machine }
 {
     on_kept!(machine; answer_failed(number))
+}
+
+/// Counts the calls of disks outside that are out, and lists the oldest of them, as they were handed out. It takes no memory.
+#[unsafe(no_mangle)]
+#[tactic(auto, using(crate::proofs::Descriptions::listed_none, crate::proofs::Descriptions::listed_some))]
+pub extern "C" fn vmig_calls_out(machine: &mut Handle, calls: &mut [Call], count: &mut usize) -> u32
+    ensures listed { ListsCalls machine.old.machine result calls.old calls.new count.new count.old }
+    ensures same { machine.new.machine ≡ machine.old.machine }
+{
+    on_kept!(machine; list_calls(calls, count))
 }
 
 /// Reads a sector of a disk.

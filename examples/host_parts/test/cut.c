@@ -1,7 +1,10 @@
-/* A line that breaks: `cut PORT WHERE` accepts one connection at a free port of 127.0.0.1, which it prints, connects it to PORT there,
- * and hands on what comes, frame by frame. WHERE is the type of the frame before which it breaks, or `bytes=N`: after N bytes of the
- * source. Both ends are closed then. Or the line stays whole: WHERE is `spoil=TYPE:N`, and byte N of each frame of this type is changed, or it
- * is `slow`, and each frame of the source waits for some time. */
+/* A line that breaks: `cut PORT WHERE` accepts one connection at a free port of 127.0.0.1, which it prints, connects
+ * it to PORT there, and hands on what comes, frame by frame. WHERE is the type of the frame before which it breaks,
+ * or `bytes=N`: after N bytes of the source. Both ends are closed then. Or the line stays whole: WHERE is
+ * `spoil=TYPE:N`, and byte N of each frame of this type is changed, or it is `lose`, and the last frame but one of
+ * the source says that its first disk is lost, or `slow`, and each frame of the source waits for some time, or
+ * `hold=TYPE`, and nothing is handed on from a frame of this type on, or `byte`, and the source gets one byte more
+ * of the target after its first frame. */
 #define _DEFAULT_SOURCE
 #include <arpa/inet.h>
 #include <poll.h>
@@ -14,13 +17,13 @@
 #include "../line.h"
 
 /* The names of the frames, in the order of their types. */
-static const char *const NAMES[] = {"", "hello", "stream", "state", "end", "ready", "go", "runs", "refused", "ended"};
+static const char *const NAMES[] = {"", "hello", "welcome", "stream", "state", "end", "ready", "go", "runs", "refused", "ended"};
 
 static const char *where;
 static unsigned long bytes_left = (unsigned long)-1, spoiled;
-static const char *spoils = "";
+static const char *spoils = "", *holds = "";
 
-enum { WAIT_US = 5000 };
+enum { WAIT_US = 5000, FIRST_DISK = 2 };
 
 static struct sockaddr_in address_of(int port)
 {
@@ -78,8 +81,11 @@ static void hand_on(int from, int to, int is_source)
     length = frame[4] | (size_t)frame[5] << 8 | (size_t)frame[6] << 16;
     if (frame[0] >= sizeof NAMES / sizeof *NAMES || length > BODY_MAX) exit(1);
     if (strcmp(NAMES[frame[0]], where) == 0) exit(0);
+    if (strcmp(NAMES[frame[0]], holds) == 0) fprintf(stderr, "cut: the line is silent from here on\n");
+    while (strcmp(NAMES[frame[0]], holds) == 0) pause();
     read_all(from, frame + FRAME_HEAD, length);
     if (strcmp(NAMES[frame[0]], spoils) == 0 && spoiled < length) frame[FRAME_HEAD + spoiled] ^= 0x80;
+    if (frame[0] == END && strcmp(where, "lose") == 0) frame[FRAME_HEAD] |= 1 << FIRST_DISK;
     length += FRAME_HEAD;
     if (is_source && strcmp(where, "slow") == 0) usleep(WAIT_US);
     if (is_source && length > bytes_left) {
@@ -88,6 +94,7 @@ static void hand_on(int from, int to, int is_source)
     }
     if (is_source) bytes_left -= length;
     write_all(to, frame, length);
+    if (!is_source && frame[0] == WELCOME && strcmp(where, "byte") == 0) write_all(to, frame, 1);
 }
 
 int main(int count, char **words)
@@ -101,6 +108,7 @@ int main(int count, char **words)
         spoils = strtok(NULL, ":");
         spoiled = strtoul(strtok(NULL, ":"), NULL, 10);
     }
+    if (strncmp(where, "hold=", 5) == 0) holds = where + 5;
     if (strncmp(where, "bytes=", 6) == 0) bytes_left = strtoul(where + 6, NULL, 10);
     target = address_of(atoi(words[1]));
     source = accept_one();

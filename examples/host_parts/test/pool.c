@@ -35,10 +35,10 @@ static unsigned finish(unsigned count)
     unsigned failed = 0;
 
     while (count > 0) {
-        struct slot *s = pool_done(&pool);
+        struct slot *s = pool_done(&pool, NULL);
 
         if (s == NULL) {
-            pool_wait(&pool);
+            pool_wait(&pool, &disk);
             continue;
         }
         failed += s->error != 0;
@@ -72,8 +72,8 @@ int main(int count, char **words)
     disk_look(&disk, words[1]);
     check(disk.sectors == DISK_SECTORS, "the file has another length");
     why = disk_open(&disk);
+    if (why == NULL) why = pool_begin(&pool);
     if (why != NULL) fail("pool: %s", why);
-    pool_begin(&pool);
     for (uint32_t k = 0; k < RUNS; k++) submit(VMIG_DISK_WRITE, k * RUN, RUN, 0, (uint8_t)(k + 1));
     check(finish(RUNS) == 0, "a write failed");
     submit(VMIG_DISK_CLEAR, RUN, RUN, 0, 0);

@@ -1,9 +1,14 @@
-/* Linked into a program, or loaded before one, it fails calls of the system. SYNC_FAILS=n: the n-th that brings a file to the storage, by fdatasync or
- * msync; all others succeed, as they do on Linux after one that failed. SYNC_FAILS_ONCE=FILE: the first one once this file says that all is here.
- * WRITE_FAILS=n: the n-th pwrite, since nothing is left. HANGS=FILE: as long as this file is there each pwrite waits, and says so. At the end it writes
- * how many syncs there were to descriptor 9, where that is open and there were any. */
+/* Linked into a program, or loaded before one, it fails calls of the system. SYNC_FAILS=n: the n-th that brings a
+ * file to the storage, by fdatasync or msync; all others succeed, as they do on Linux after one that failed.
+ * SYNC_FAILS_ONCE=FILE: the first one once this file says that all is here. WRITE_FAILS=n: the n-th pwrite, since
+ * nothing is left. HANGS=FILE: as long as this file is there each pwrite waits, and says so. THREAD_FAILS=n: the
+ * n-th thread and each later one does not begin. NAME_HANGS=FILE: as long as this file is there no server of names
+ * answers. At the end it writes how many syncs there were to descriptor 9, where that is open and there were any. */
 #define _GNU_SOURCE
+#include <dlfcn.h>
 #include <errno.h>
+#include <netdb.h>
+#include <pthread.h>
 #include <stdatomic.h>
 #include <stdio.h>
 #include <stdlib.h>
@@ -12,7 +17,7 @@
 #include <sys/syscall.h>
 #include <unistd.h>
 
-static atomic_ulong syncs, writes, failures;
+static atomic_ulong syncs, writes, failures, threads;
 
 static int is_number(const char *name, unsigned long number)
 {
@@ -52,21 +57,40 @@ int msync(void *at, size_t length, int flags)
     return sync_fails() ? -1 : (int)syscall(SYS_msync, at, length, flags);
 }
 
-static void hang(void)
+static void hang(const char *option, const char *what)
 {
-    const char *name = getenv("HANGS");
+    const char *name = getenv(option);
 
     if (name == NULL || access(name, F_OK) != 0) return;
-    fprintf(stderr, "a write hangs\n");
+    fprintf(stderr, "%s hangs\n", what);
     while (access(name, F_OK) == 0) usleep(10000);
 }
 
 ssize_t pwrite(int file, const void *bytes, size_t length, off_t at)
 {
-    hang();
+    hang("HANGS", "a write");
     if (!is_number("WRITE_FAILS", ++writes)) return syscall(SYS_pwrite64, file, bytes, length, at);
     errno = ENOSPC;
     return -1;
+}
+
+int pthread_create(pthread_t *thread, const pthread_attr_t *attributes, void *(*does)(void *), void *of)
+{
+    int (*begins)(pthread_t *, const pthread_attr_t *, void *(*)(void *), void *);
+    const char *from = getenv("THREAD_FAILS");
+
+    if (from != NULL && ++threads >= strtoul(from, NULL, 10)) return EAGAIN;
+    *(void **)&begins = dlsym(RTLD_NEXT, "pthread_create");
+    return begins(thread, attributes, does, of);
+}
+
+int getaddrinfo(const char *host, const char *port, const struct addrinfo *hints, struct addrinfo **found)
+{
+    int (*asks)(const char *, const char *, const struct addrinfo *, struct addrinfo **);
+
+    if ((hints->ai_flags & AI_NUMERICHOST) == 0) hang("NAME_HANGS", "a name");
+    *(void **)&asks = dlsym(RTLD_NEXT, "getaddrinfo");
+    return asks(host, port, hints, found);
 }
 
 __attribute__((destructor)) static void tell(void)

@@ -7,6 +7,7 @@
 #include <stdlib.h>
 #include <string.h>
 #include <sys/mman.h>
+#include <time.h>
 #include "cpuid.h"
 #include "host.h"
 #include "msrs.h"
@@ -14,7 +15,7 @@
 #include "state.h"
 
 enum { LENGTH = 2 * MIB, CHANGED = 200, DEADLINE = 0x6e0, TSC = 0x10, KERNEL_GS = 0xc0000102, A_CLOCK_S = 5, WRONG_MAX = 20 };
-enum { XMM0 = 160, XSTATE_BV = 512, LVT_TIMER = 0x320, SPURIOUS = 0xf0, REQUESTS = 0x200, VECTOR = 0x61 };
+enum { PAUSE_NS = 200000000, MILLION = 1000000, XMM0 = 160, XSTATE_BV = 512, LVT_TIMER = 0x320, SPURIOUS = 0xf0, REQUESTS = 0x200, VECTOR = 0x61 };
 #define CLOCK UINT64_C(1000000000000000)
 
 static struct host host;
@@ -240,6 +241,37 @@ static void change_facts(void)
     printf("state: of %d changed first frames %d were taken\n", CHANGED, taken);
 }
 
+/* Some hosts answer that the TSC was set, and it goes on as before. */
+static int tsc_can_be_set(void)
+{
+    struct stopped_clock before, after;
+
+    expect(clock_stop(kvm(), &before) == NULL, "the clock cannot be read");
+    if (!before.has_tsc || !tsc_set(kvm(), &before.clock, before.tsc - kvm()->khz * UINT64_C(1000))) return 0;
+    expect(clock_stop(kvm(), &after) == NULL, "the clock cannot be read");
+    return after.has_tsc && after.tsc < before.tsc;
+}
+
+/* The clock and the TSC stand while a guest is paused, for longer than the calls that set them take. */
+static void stop_and_start(void)
+{
+    struct stopped_clock before, after;
+    struct timespec pause = {.tv_nsec = PAUSE_NS};
+    double passed, ticks;
+
+    expect(clock_stop(kvm(), &before) == NULL, "the clock does not stop");
+    nanosleep(&pause, NULL);
+    after = before;
+    expect(clock_start(kvm(), &after) == NULL, "the clock does not start");
+    expect(clock_stop(kvm(), &after) == NULL, "the clock does not stop again");
+    passed = (double)(int64_t)(after.clock.clock - before.clock.clock) / MILLION;
+    ticks = after.has_tsc ? (double)(int64_t)(after.tsc - before.tsc) / kvm()->khz : 0;
+    printf("state: a pause of %d ms took %.2f ms of the clock, %.2f of the TSC\n", PAUSE_NS / MILLION, passed, ticks);
+    expect(passed >= 0 && passed < PAUSE_NS / MILLION / 2, "the clock went on while it stood");
+    if (!tsc_can_be_set()) puts("state: skipped: the TSC of this host cannot be set");
+    else expect(ticks > -1 && ticks < PAUSE_NS / MILLION / 2, "the TSC went on while it stood");
+}
+
 int main(void)
 {
     struct whole_state state, first;
@@ -258,6 +290,7 @@ int main(void)
     read_all(&state);
     printf("state: %zu bytes, %u of them MSRs\n", sizeof state.state + state.state.xsave_size + state.state.count_msrs * sizeof *state.msrs,
            (unsigned)(state.state.count_msrs * sizeof *state.msrs));
+    stop_and_start();
     try_orders(&state);
     change_states(&state);
     change_facts();

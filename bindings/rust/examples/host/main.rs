@@ -89,6 +89,7 @@ impl Host {
                     // The disk is lost, and the guest will be told. The step is not made.
                     Err(lost) => eprintln!("host: device {}: {lost}", step.dev),
                 },
+                other => eprintln!("host: {other:?}"),
             }
         }
     }

@@ -109,13 +109,13 @@ pub fn work(machine: &mut Machine) -> Vec<String> {
     let mut last = Pick::default();
     loop {
         last = match machine.next(last).expect("it is not stopped") {
-            Next::Idle => return did,
             Next::Work(pick) => pick,
             Next::Sync(pick) => {
                 did.push("sync".to_owned());
                 machine.sync(pick.dev).expect("no file, or one that is there");
                 pick
             }
+            _ => return did,
         };
         match machine.step(last, &mut buf).expect("it is not stopped") {
             Step::Idle => {}

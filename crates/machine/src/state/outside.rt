@@ -14,7 +14,7 @@ ghost use Rattle.machine.specs.DeviceStep.{advanced_at, is_outside, looked_at};
 ghost use Rattle.machine.specs.DeviceWork.{IsDeviceStep};
 ghost use Rattle.machine.specs.Dropping.{drops_requests};
 ghost use Rattle.machine.specs.Outcome.{is_failure};
-ghost use Rattle.machine.specs.Outside.{MayAsk, TakesAnswer, asking_request, asking_requests, changes_sectors, outside_call, outside_requests};
+ghost use Rattle.machine.specs.Outside.{MayAsk, TakesAnswer, asking_request, asking_requests, call_with, changes_sectors, outside_call, outside_requests};
 ghost use Rattle.machine.specs.Shapes.{made_as};
 ghost use Rattle.machine.specs.Sound.{IsSoundDevice};
 ghost use Rattle.machine.specs.Stepped.{reply_in};
@@ -28,7 +28,7 @@ use crate::state::{
 };
 use crate::stepped::Stepped;
 use crate::work::Work;
-use blk::{FLUSH, Job, Request, What};
+use blk::{DiskCall, FLUSH, Job, Request, What};
 use chains::Ring;
 use guestmem::{Ram, TouchLog};
 use mmio::Regs;
@@ -60,6 +60,17 @@ impl DeviceState {
         }
     }
 
+    /// A call of this device's driver, with whether it has to be durable before it is answered (VIRTIO 1.2, 5.2.6.2).
+    pub fn call_with_durability(&self, call: DiskCall) -> OutsideCall
+        ensures { result ≡ call_with self.now.registers.common.features call }
+    {
+        let takes_flush = self.registers.features() & FLUSH == FLUSH;
+        OutsideCall {
+            call,
+            durable: changes_sectors(call.what) && !takes_flush,
+        }
+    }
+
     /// What the request of this pick asks of a disk outside, if it waits for that.
     pub(crate) fn outside_call(&self, pick: u8) -> Option<OutsideCall>
         requires sound { (len : ℕ) × IsSoundDevice self.now.registers.ram_base len self.now }
@@ -71,11 +82,7 @@ impl DeviceState {
         }
         let request = self.asking_requests().get(pick as usize - 1)?;
         let call = request.disk_call()?;
-        let takes_flush = self.registers.features() & FLUSH == FLUSH;
-        Some(OutsideCall {
-            call,
-            durable: changes_sectors(call.what) && !takes_flush,
-        })
+        Some(self.call_with_durability(call))
     }
 
     /// Fills the front of the buffer with the bytes that the request of this pick writes next to a disk outside, and returns how many these

@@ -7,6 +7,7 @@ ghost use Rattle.std.specs.Prelude.{◌≡◌, ◌≢◌, IfErr, OnOk, true};
 ghost use Rattle.guestmem.specs.Memory.{Memory};
 ghost use Rattle.machine.specs.Calls.{CallsDisk};
 ghost use Rattle.machine.specs.Parked.{back_with};
+ghost use Rattle.machine.specs.declared.event.DiskAnswer.TheVariants as answers;
 ghost use Rattle.machine.specs.declared.event.Event.TheVariants as events;
 ghost use Rattle.sender.specs.Calls.{guest_reply};
 ghost use Rattle.sender.specs.ParkedCalls.{FlushesLiveParked, ServesParked, TriesParkedFlush};
@@ -83,6 +84,26 @@ impl<D: Disk, W: Digesting> LiveParked<D, W> {
         self.running()?;
         let answer = self.parked.drop_input(dev);
         Ok(Reply::from_done(answer))
+    }
+
+    /// A disk outside did this many sectors of a write or of a clearing, or a flush, which is one (`LiveOver::disk_did`).
+    #[tactic(auto, using(crate::proofs::ParkedServed::parked_refused))]
+    pub fn disk_did(&mut self, dev: u8, pick: u8, count: u32) -> Result<Reply, MigError>
+        ensures { ServesParked self.old (events.Disk dev pick (answers.Did count)) (guest_reply result) self.new }
+    {
+        self.running()?;
+        let answer = self.parked.disk_did(dev, pick, count);
+        Ok(Reply::from_moved(answer))
+    }
+
+    /// A disk outside failed: the request that the pick names ends with an error (`LiveOver::disk_failed`).
+    #[tactic(auto, using(crate::proofs::ParkedServed::parked_refused))]
+    pub fn disk_failed(&mut self, dev: u8, pick: u8) -> Result<Reply, MigError>
+        ensures { ServesParked self.old (events.Disk dev pick answers.Failed) (guest_reply result) self.new }
+    {
+        self.running()?;
+        let answer = self.parked.disk_failed(dev, pick);
+        Ok(Reply::from_failed(answer))
     }
 
     /// Flushes the disk of a device once, if it has one, in each phase (`LiveOver::flush_disk`).

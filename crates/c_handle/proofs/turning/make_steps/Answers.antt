@@ -16,9 +16,9 @@ returns-clause-ended c =
     let i = c.loop-made in
     used_up c.args.kept.now c.args.turn.now c.args.buf.now i.made i.kept i.turn i.buf i.buf c.more_or_none.result i.kept i.turn i.invariant (record {
       none_left = omega (arith, i.invariant.left, c.loop-made-test.false);
-      named_status = c.next.result;
-      step = record { dev = c.next.new.dev; pick = c.next.new.pick };
-      named = c.next.ensures;
+      named_status = c.next_step.result;
+      step = record { dev = c.next_step.new.dev; pick = c.next_step.new.pick };
+      named = c.next_step.ensures;
       status_is = c.more_or_none.ensures;
       same = (refl, refl);
       turn_same = refl;

@@ -4,12 +4,15 @@
 //! and it makes no difference which came first.
 
 ghost use Rattle.std.specs.Prelude.{◌≡◌, IfSome, None, map, slice_get, true};
+ghost use Rattle.blk.specs.Outside.{Did, Failed};
 ghost use Rattle.guestmem.specs.Memory.{Memory};
 ghost use Rattle.machine.specs.Calls.{CallsDisk};
 ghost use Rattle.machine.specs.Dropping.{drops_in};
 ghost use Rattle.machine.specs.Direct.{accepted_reply, done_reply, value_reply, written_result};
 ghost use Rattle.machine.specs.NextWork.{HaveNoWork, NoneCanWork, can_work_at, has_work_at, next_work, next_work_with_lost};
+ghost use Rattle.machine.specs.Outside.{disk_reply};
 ghost use Rattle.machine.specs.Parked.{FailsParkedFlushIf, FlushesParked, IsAppliedParked, back_with, makes_flush_parked, parked_states};
+ghost use Rattle.machine.specs.declared.event.DiskAnswer.TheVariants as answers;
 ghost use Rattle.machine.specs.declared.event.Event.TheVariants as events;
 
 use crate::machine::lending::Parked;
@@ -98,6 +101,28 @@ impl<D: Disk> Parked<D> {
             return Err(Refusal::NoDevice);
         }
         self.devices[dev].drop_input()
+    }
+
+    /// A disk outside did this many sectors of a write or of a clearing, or a flush, which is one (`Machine::disk_did`).
+    pub fn disk_did(&mut self, dev: u8, pick: u8, count: u32) -> Result<bool, Refusal>
+        ensures { IsAppliedParked self.old (events.Disk dev pick (answers.Did count)) (disk_reply (Did count) result) self.new }
+    {
+        let dev = dev as usize;
+        if dev >= self.devices.len() {
+            return Err(Refusal::NoDevice);
+        }
+        self.devices[dev].disk_did(pick, count)
+    }
+
+    /// A disk outside failed: the request that the pick names ends with an error (`Machine::disk_failed`).
+    pub fn disk_failed(&mut self, dev: u8, pick: u8) -> Result<bool, Refusal>
+        ensures { IsAppliedParked self.old (events.Disk dev pick answers.Failed) (disk_reply Failed result) self.new }
+    {
+        let dev = dev as usize;
+        if dev >= self.devices.len() {
+            return Err(Refusal::NoDevice);
+        }
+        self.devices[dev].disk_failed(pick)
     }
 
     /// Flushes the disk of a device once, if it has one (`Machine::flush_disk`).

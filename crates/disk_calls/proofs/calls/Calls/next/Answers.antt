@@ -1,14 +1,8 @@
 use Rattle.std.proofs.Common.{◌≡◌, ◌≤◌, ◌∙◌, length, length-set, set, refl, ap, arith}
 use Rattle.std.proofs.lemmas.Option.{get_or_from_slice_get}
 use Rattle.disk_calls.specs.Calls.{AllCalls, CallsState, in_turn, with_out}
-use Rattle.disk_calls.proofs.Numbers.{none_at_all, numbered_pushed, there_by_call}
+use Rattle.disk_calls.proofs.Numbers.{numbered_pushed, there_by_call}
 use Rattle.disk_calls.proofs.calls.Calls.next.Goals as goal
-
-pub returns-in_err-dev-clause-nothing : goal.returns-in_err-dev-clause-nothing
-returns-in_err-dev-clause-nothing g c =
-    let old : AllCalls = record { devices = c.self.inside.devices.items; turn = c.self.inside.turn; number = c.self.inside.number } in
-    let none = rw (← c.self.view_is) at (c.in_err-dev.ensures.none refl) in
-    rw (← c.self.view_is) (λ _ dev j _ below. none_at_all c.args.most old (g.T.Asks.asked c.args.machine.now) c.self.invariant.0 none dev j below)
 
 pub hand_out-requires-clause-may : goal.hand_out-requires-clause-may
 hand_out-requires-clause-may g c =

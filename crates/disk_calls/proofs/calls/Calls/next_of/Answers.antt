@@ -16,6 +16,14 @@ returns-clause-some g c =
     let here : slice_get c.args.self.now.devices c.args.dev ≡ Some c.index.result.now = rw (← c.self.view_is) (slice_get_read items (length items) c.args.dev c.index.result.now refl below c.index.ensures) in
     rw (here, ← c.requests.ensures.requests) c.next.ensures.some
 
+pub returns-clause-part : goal.returns-clause-part
+returns-clause-part g c =
+    let items = c.self.inside.devices.items in
+    let there = c.requires.there in
+    let below : c.args.dev < length items = rw (← c.self.view_is) at there in
+    let here : slice_get c.args.self.now.devices c.args.dev ≡ Some c.index.result.now = rw (← c.self.view_is) (slice_get_read items (length items) c.args.dev c.index.result.now refl below c.index.ensures) in
+    rw (here, ← c.requests.ensures.requests) c.next.ensures.part
+
 pub returns-clause-first : goal.returns-clause-first
 returns-clause-first g c =
     let items = c.self.inside.devices.items in

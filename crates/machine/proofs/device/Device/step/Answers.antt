@@ -3,7 +3,6 @@ use Rattle.guestmem.proofs.RisesLaws.{touches_none}
 use Rattle.machine.specs.Seen.{calls_of, marks_of, sectors_of}
 use Rattle.machine.specs.Shapes.{made_as, sector_count}
 use Rattle.machine.proofs.Calling.{idle_uncalled, looked_uncalled, outside_uncalled}
-use Rattle.machine.proofs.Flushing.{unflushed_outside}
 use Rattle.machine.proofs.Stepping.{idle_step, none_without}
 use Rattle.machine.proofs.device.Device.step.Goals as goal
 

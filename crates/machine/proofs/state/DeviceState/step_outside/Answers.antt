@@ -1,4 +1,4 @@
-use Rattle.std.proofs.Common.{length, refl}
+use Rattle.std.proofs.Common.{refl}
 use Rattle.guestmem.proofs.RisesLaws.{touches_none}
 use Rattle.machine.proofs.Stepping.{idle_step}
 use Rattle.machine.proofs.state.DeviceState.step_outside.Goals as goal

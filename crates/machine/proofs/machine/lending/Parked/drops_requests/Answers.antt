@@ -1,4 +1,4 @@
-use Rattle.std.proofs.Common.{arith, length}
+use Rattle.std.proofs.Common.{arith}
 use Rattle.machine.proofs.At.{IsAt, found}
 use Rattle.machine.proofs.ParkedCalls.{parked_sound}
 use Rattle.machine.proofs.machine.lending.Parked.drops_requests.Goals as goal

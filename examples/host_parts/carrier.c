@@ -1,0 +1,130 @@
+/* The carrier of a move, a thread: it connects the line, and while the guest runs it alone sends and hears there.
+ * What waits in the machine is digested as it is taken. */
+#define _DEFAULT_SOURCE
+#include <poll.h>
+#include <sys/eventfd.h>
+#include <unistd.h>
+#include "host.h"
+#include "terminal.h"
+
+/* What the carrier takes at once, for whose digest the library is its own, 0.1 ms. */
+enum { PIECE = 16384 };
+
+static const char BROKEN[] = "the line is broken";
+
+const char *line_says(struct line *l)
+{
+    int collected = line_collect(l);
+
+    if (collected == 0) return NULL;
+    return collected > 0 && l->type == REFUSED ? line_reason(l, "the target refuses: ") : BROKEN;
+}
+
+/* The line is connected, and each end knows the other by its word before a byte of the guest is sent. Returns why
+ * not, or NULL. */
+static const char *meet(struct host *h)
+{
+    struct line *l = &h->move.line;
+    const char *why = line_connect(l, h->options.connect);
+
+    if (why != NULL) return why;
+    if (!line_finish(l) || !line_receive(l)) return BROKEN;
+    if (l->type == REFUSED) return line_reason(l, "the target refuses: ");
+    if (l->type != WELCOME) return BROKEN;
+    return words_are_same(l->body, h->word) ? NULL : "what listens there has another --word";
+}
+
+/* Sends the frame that is begun, and hears what the target says meanwhile. Returns why the move is over, or NULL. */
+static const char *send_frame(struct line *l)
+{
+    const char *why = NULL;
+    int pushed;
+
+    while (why == NULL && !l->stops && (pushed = line_push(l)) <= 0) {
+        if (pushed < 0) why = line_says(l);
+        if (pushed < 0) return why == NULL ? BROKEN : why;
+        if (line_wait(l, l->socket, POLLOUT | POLLIN, l->patience) < 0) return l->stops ? NULL : BROKEN;
+        why = line_says(l);
+    }
+    return why;
+}
+
+/* Waits for the bell, and hears what the target says meanwhile. */
+static const char *await_more(struct line *l)
+{
+    return line_wait(l, l->socket, POLLIN, -1) > 0 ? line_says(l) : NULL;
+}
+
+/* With the lock, which is free while it sends or waits. Returns why the move is over, or NULL. */
+static const char *carry_some(struct host *h)
+{
+    static uint8_t bytes[PIECE];
+    struct move *m = &h->move;
+    struct line *l = &m->line;
+    size_t got = 0;
+    const char *why;
+
+    if (m->is_sending && l->out_at == l->out_length)
+        must(vmig_send_take(&h->machine, bytes, sizeof bytes, &got), "vmig_send_take");
+    if (got > 0) line_begin(l, STREAM, bytes, got);
+    m->is_carried = l->out_at == l->out_length;
+    if (m->is_carried) call_out(h);
+    unlock_library(h);
+    why = l->out_at == l->out_length ? await_more(l) : send_frame(l);
+    lock_library(h);
+    return why;
+}
+
+static void *carry(void *of)
+{
+    struct host *h = of;
+    struct move *m = &h->move;
+    const char *why = m->has_met ? NULL : meet(h);
+
+    lock_library(h);
+    m->has_met = why == NULL;
+    while (why == NULL && !m->line.stops) why = carry_some(h);
+    m->why = why;
+    m->is_broken = why != NULL;
+    call_out(h);
+    unlock_library(h);
+    return NULL;
+}
+
+const char *begin_carrier(struct host *h)
+{
+    struct move *m = &h->move;
+
+    if (m->bell < 0) m->bell = eventfd(0, EFD_CLOEXEC | EFD_NONBLOCK);
+    if (m->bell < 0) return "there is no bell for the line";
+    m->line.bell = m->bell;
+    m->line.hears = HEARS_NOTHING;
+    m->line.until = LINE_EVER;
+    m->line.stops = 0;
+    m->is_carried = 0;
+    m->has_carrier = begin_thread(&m->carrier, carry, h);
+    return m->has_carrier ? NULL : "there is no thread for the line";
+}
+
+void wake_carrier(struct host *h)
+{
+    uint64_t one = 1;
+
+    if (write(h->move.bell, &one, sizeof one) < 0) h->move.is_broken = 1;
+}
+
+void end_carrier(struct host *h)
+{
+    struct move *m = &h->move;
+
+    if (m->has_carrier) {
+        m->line.stops = 1;
+        wake_carrier(h);
+        unlock_library(h);
+        pthread_join(m->carrier, NULL);
+        lock_library(h);
+    }
+    m->has_carrier = 0;
+    m->line.stops = 0;
+    m->line.bell = operator_bell;
+}

@@ -1,0 +1,165 @@
+/* A driver that resets its disk while what it asked for is out, and a sync that fails: `drop FILE`, over a file of 1 MiB, where the first sync fails (failing.c).
+ * The reset is made once all is answered, and RAM stays lent until then. Of the sync the library is told before the write is answered that waits for it, so
+ * its driver reads an error, and the disk is lost. */
+#define _DEFAULT_SOURCE
+#include <fcntl.h>
+#include <stdio.h>
+#include <string.h>
+#include <unistd.h>
+#include "host.h"
+#include "say.h"
+
+enum { DEV = FIRST_DISK, QUEUE = 16, DESC = 0x1000, AVAIL = 0x2000, USED = 0x3000, HEADERS = 0x4000, VERDICTS = 0x5000, BUFFERS = 0x6000 };
+enum { IN = 0, OUT = 1, NEXT = 1, WRITABLE = 2, STATUS = 0x070, TOLD_LATER = 0xff, IOERR = 1, RAM_LENGTH = 1 << 20, COUNT = 4 };
+
+static struct host host;
+static unsigned taken, offered;         /* how often RAM was taken back; requests of the driver */
+
+static void check(int is_right, const char *what)
+{
+    if (!is_right) fail("drop: %s", what);
+}
+
+/* ---- what storage.c wants of a host ---- */
+
+void take_ram(struct host *h)
+{
+    if (h->ram.at == NULL) return;
+    must(vmig_give_back(&h->machine, &h->ram, &(vmig_pages)VMIG_ALL_PAGES), "vmig_give_back");
+    taken++;
+}
+
+void enter_library(struct host *h) { (void)h; }
+void leave_library(struct host *h) { (void)h; }
+void stop_clock(struct host *h) { (void)h; }
+void start_clock(struct host *h) { (void)h; }
+int ask_operator(const char *question) { return question == NULL; }
+
+/* ---- the driver ---- */
+
+static void put(uint64_t at, uint64_t value, size_t width)
+{
+    for (size_t i = 0; i < width; i++) host.memory[at + i] = (uint8_t)(value >> (8 * i));
+}
+
+static vmig_status write_reg(uint32_t off, uint32_t value)
+{
+    uint32_t byte;
+
+    return vmig_reg_write(&host.machine, DEV, off, 4, value, &byte);
+}
+
+/* It accepts no FLUSH, so each write has to be durable. */
+static void set_up(void)
+{
+    static const uint32_t registers[][2] = {{STATUS, 0}, {STATUS, 3}, {0x024, 1}, {0x020, 1}, {STATUS, 11}, {0x030, 0}, {0x038, QUEUE}, {0x080, RAM_BASE + DESC},
+                                            {0x090, RAM_BASE + AVAIL}, {0x0a0, RAM_BASE + USED}, {0x044, 1}, {STATUS, 15}};
+
+    memset(host.memory, 0, HEADERS);
+    offered = 0;
+    for (size_t i = 0; i < sizeof registers / sizeof *registers; i++) check(write_reg(registers[i][0], registers[i][1]) == VMIG_OK, "a register is refused");
+}
+
+static void describe(uint32_t number, uint64_t at, uint32_t length, uint32_t flags)
+{
+    put(DESC + 16 * number, RAM_BASE + at, 8);
+    put(DESC + 16 * number + 8, length, 4);
+    put(DESC + 16 * number + 12, flags, 2);
+    put(DESC + 16 * number + 14, number + 1, 2);
+}
+
+/* A request of one sector. */
+static void offer(uint32_t type, uint32_t sector)
+{
+    uint32_t base = 3 * offered, bytes = BUFFERS + SECTOR * offered;
+
+    put(HEADERS + 16 * offered, type, 8);
+    put(HEADERS + 16 * offered + 8, sector, 8);
+    put(VERDICTS + offered, TOLD_LATER, 1);
+    memset(host.memory + bytes, (int)(sector + 1), SECTOR);
+    describe(base, HEADERS + 16 * offered, 16, NEXT);
+    describe(base + 1, bytes, SECTOR, NEXT | (type == IN ? WRITABLE : 0));
+    describe(base + 2, VERDICTS + offered, 1, WRITABLE);
+    put(AVAIL + 4 + 2 * offered, base, 2);
+    put(AVAIL + 2, ++offered, 2);
+    check(write_reg(0x050, 0) == VMIG_OK, "a kick is refused");
+}
+
+static void turn(void)
+{
+    static uint8_t sent[VMIG_SENT_MAX];
+    vmig_status status;
+
+    host.work.left = 1000;
+    do status = vmig_work(&host.machine, &host.work, sent, sizeof sent);
+    while (status != VMIG_IDLE && !vmig_refused(status));
+    check(status == VMIG_IDLE, "a turn is refused");
+    storage_ask(&host);
+}
+
+static vmig_description described(void)
+{
+    vmig_description found;
+
+    vmig_describe(&host.machine, &found);
+    return found;
+}
+
+/* ---- the tests ---- */
+
+static void begin(const char *name)
+{
+    host.options.count_disks = 1;
+    host.options.disks[0].name = name;
+    devices_plan(&host.devices, &host.options);
+    host.memory_length = RAM_LENGTH;
+    host.memory = devices_take_ram(host.memory_length);
+    check(host.memory != NULL, "there is no memory");
+    devices_make(&host.devices, host.memory, host.memory_length, &host.machine);
+    check(storage_begin(&host) == NULL, "there is no pool");
+}
+
+/* Reads alone: a write would have to be durable, and the first sync fails. */
+static void reset_with_calls_out(void)
+{
+    unsigned refused = 0;
+
+    set_up();
+    for (uint32_t i = 0; i < COUNT; i++) offer(IN, i);
+    turn();
+    check(described().calls_out == COUNT, "the reads are not out");
+    must(vmig_lend(&host.machine, &host.ram), "vmig_lend");
+    while (write_reg(STATUS, 0) == VMIG_CALLS_OUT) {
+        refused++;
+        check(storage_drop(&host, DEV), "it is to end");
+    }
+    check(refused >= COUNT && described().calls_out == 0, "the reset was not made after all answers");
+    check(taken == 0, "RAM was taken back for a reset");
+    take_ram(&host);
+}
+
+static void sync_that_fails(void)
+{
+    uint8_t bytes[SECTOR];
+
+    set_up();
+    offer(OUT, 7);
+    turn();
+    while (storage_waits(&host)) continue;
+    turn();
+    check(described().lost == 1 << DEV, "the library was not told of the sync");
+    check(host.memory[VERDICTS] == IOERR, "a write that is not durable was told done");
+    check(pread(host.devices.disks[0].file, bytes, SECTOR, 7 * SECTOR) == SECTOR && bytes[0] == 8, "the write did not land");
+}
+
+int main(int count, char **words)
+{
+    check(count == 2, "it is drop FILE");
+    begin(words[1]);
+    reset_with_calls_out();
+    sync_that_fails();
+    storage_end(&host);
+    vmig_free(&host.machine);
+    puts("drop: all as expected");
+    return 0;
+}
