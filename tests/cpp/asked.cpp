@@ -29,7 +29,7 @@ constexpr std::uint32_t status_register = 0x070, notify = 0x050;
 // The RAM of a guest, and its machine, with one disk outside.
 struct guest {
     std::vector<std::uint8_t> ram = std::vector<std::uint8_t>(ram_len);
-    machine m;
+    machine m{};
 
     void put(std::uint32_t at, std::uint64_t value, std::size_t width)
     {

@@ -13,7 +13,7 @@ using vmig::status;
 static_assert(!std::is_copy_constructible_v<machine> && !std::is_copy_assignable_v<machine>);
 static_assert(std::is_nothrow_move_constructible_v<machine> && std::is_nothrow_move_assignable_v<machine>);
 static_assert(!std::is_copy_constructible_v<lent> && std::is_nothrow_move_constructible_v<lent>);
-static_assert(sizeof(machine) == sizeof(vmig_machine));
+static_assert(noexcept(std::declval<machine &>().reset()) && noexcept(std::declval<const lent &>().lines()) && noexcept(machine().free()));
 static_assert(!std::is_constructible_v<pages, vmig_pages> && !std::is_default_constructible_v<pages>);
 
 namespace {
