@@ -138,6 +138,36 @@ impl Lent {
         self.machine.disk_failed(call)
     }
 
+    /// As [`Machine::rounds`].
+    #[must_use]
+    pub fn rounds(&self) -> u32 {
+        self.machine.rounds()
+    }
+
+    /// As [`Machine::fault`].
+    #[must_use]
+    pub fn fault(&self) -> Option<Error> {
+        self.machine.fault()
+    }
+
+    /// As [`Machine::images`].
+    #[must_use]
+    pub fn images(&self) -> u32 {
+        self.machine.images()
+    }
+
+    /// As [`Machine::message_len`]: the size of buffer for the steps after RAM came back.
+    #[must_use]
+    pub fn message_len(&self) -> usize {
+        self.machine.message_len()
+    }
+
+    /// As [`Machine::is_large`].
+    #[must_use]
+    pub fn is_large(&self) -> bool {
+        self.machine.is_large()
+    }
+
     /// As [`Machine::is_logged`].
     #[must_use]
     pub fn is_logged(&self) -> bool {

@@ -171,7 +171,6 @@ mod machine;
 mod memory;
 mod migration;
 mod pages;
-mod raw;
 mod region;
 mod turn;
 
@@ -187,6 +186,8 @@ pub use memory::Memory;
 pub use migration::Left;
 pub use pages::Pages;
 pub use turn::{Turn, TurnEnd};
+
+use vmig_sys as raw;
 
 /// The most bytes that a step can put into the buffer of its caller: a console's message.
 pub const SENT_MAX: usize = raw::SENT_MAX;

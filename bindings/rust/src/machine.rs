@@ -237,6 +237,25 @@ impl Machine {
         self.describe().flags & raw::LOG != 0
     }
 
+    /// While it is being sent, the number of the round that is open, from 1 on; else 0.
+    #[must_use]
+    pub fn rounds(&self) -> u32 {
+        self.describe().rounds
+    }
+
+    /// Why sending it failed ([`State::SendFailed`]): what was answered first. `None` in all other states.
+    #[must_use]
+    pub fn fault(&self) -> Option<Error> {
+        let fault = self.describe().fault;
+        (fault != 0).then(|| Error::of(fault))
+    }
+
+    /// How many of its disks are images, which [`Machine::into_parts`] gives back.
+    #[must_use]
+    pub fn images(&self) -> u32 {
+        self.describe().images
+    }
+
     /// Whether the disk of a device, in the machine or outside, is lost, by [`Machine::sync`] or [`Machine::sync_failed`].
     #[must_use]
     pub fn is_lost(&self, dev: u8) -> bool {

@@ -75,17 +75,33 @@ impl Machine {
         Ok(got)
     }
 
-    /// The whole stream of the machine, which continues. A machine that is being sent is refused.
+    /// The whole stream of the machine, which continues. A machine that is being sent is refused. Flush the storage of its disks outside before the
+    /// bytes are good: what was answered and not flushed lies in a cache, and no guest will write it again.
     pub fn save(&self) -> Result<Vec<u8>, Error> {
-        let mut stream = Vec::new();
-        loop {
-            let mut len = 0;
-            // SAFETY: as above, and the buffer is valid for the call.
-            let status = done(unsafe { raw::vmig_save(&self.held, stream.as_mut_ptr(), stream.len(), &mut len) })?;
-            stream.resize(len, 0);
-            if status == raw::OK {
-                return Ok(stream);
-            }
+        let mut stream = vec![0; self.saved_len()?];
+        let len = self.save_into(&mut stream)?;
+        debug_assert_eq!(len, stream.len(), "nothing happens between two calls");
+        Ok(stream)
+    }
+
+    /// The same into the front of a buffer, and how many bytes these are. The library makes the stream in memory of its own first.
+    ///
+    /// `TooSmall` where the buffer has fewer than [`Machine::saved_len`] bytes: it is as it was then.
+    pub fn save_into(&self, buf: &mut [u8]) -> Result<usize, Error> {
+        let mut len = 0;
+        // SAFETY: as above, and the slice is valid for the call.
+        match done(unsafe { raw::vmig_save(&self.held, buf.as_mut_ptr(), buf.len(), &mut len) })? {
+            raw::MORE => Err(Error::TooSmall),
+            _ => Ok(len),
         }
+    }
+
+    /// How many bytes [`Machine::save`] would give. It looks at each page of RAM, since a page of zeros takes 5 bytes of a stream and another one
+    /// 4,101, and takes no memory.
+    pub fn saved_len(&self) -> Result<usize, Error> {
+        let mut len = 0;
+        // SAFETY: as above, and a buffer of no bytes is not looked at.
+        done(unsafe { raw::vmig_save(&self.held, std::ptr::null_mut(), 0, &mut len) })?;
+        Ok(len)
     }
 }

@@ -41,6 +41,7 @@ fn what_is_done_while_ram_is_lent_is_there_afterwards() {
     assert_eq!((lent.input(0, b"lost"), lent.drop_input(0), lent.input(1, b"text")), (Ok(4), Ok(()), Ok(4)));
     assert_eq!((lent.sync(2).is_ok(), lent.is_lost(2), lent.sync_failed(2), lent.is_lost(2)), (true, false, Ok(()), true));
     assert_eq!((lent.pages(), lent.base(), lent.state(), lent.devices()), (16, 0, State::Idle, Ok(DEVICES.to_vec())));
+    assert_eq!((lent.message_len(), lent.is_large(), lent.images(), lent.rounds(), lent.fault()), (65_536, false, 0, 0, None));
     let machine = back(lent);
     assert_eq!((machine.room(0), machine.room(1), machine.is_lost(2)), (Ok(4096), Ok(4092), true));
     assert_eq!((machine.read_register(1, 0x100, 2), machine.read_register(1, 0x102, 2)), (Ok(100), Ok(50)));
@@ -71,6 +72,7 @@ fn a_move_goes_on_while_ram_is_lent() {
     let mut stream = vec![0; 1 << 20];
     let mut len = lent.send_take(&mut stream).unwrap();
     assert_eq!((lent.state(), lent.send_left().unwrap().dirty_pages, len > 1024), (State::Sending, 0, true));
+    assert_eq!(lent.rounds(), 1);
     let mut machine = back(lent);
     assert_eq!(machine.mark(Pages::list(&[6])), Ok(()));
     assert_eq!((machine.send_left().unwrap().dirty_pages, machine.send_stop()), (1, Ok((1, 0))));

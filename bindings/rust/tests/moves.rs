@@ -19,11 +19,13 @@ fn carry(machine: &mut Machine, arrival: &mut Arrival) -> bool {
 fn a_machine_is_sent_in_rounds() {
     let mut machine = made(&[Device::disk(3), CARD]);
     let mut arrival = Arrival::builder().most_pages(16).most_sectors(3).begin().unwrap();
+    assert_eq!(machine.rounds(), 0);
     machine.send_begin().unwrap();
     let left = machine.send_left().unwrap();
     assert_eq!((left.due_pages, left.due_sectors, left.dirty_pages), (16, 3, 0));
-    assert_eq!((machine.send_some(16), machine.send_round()), (Ok(true), Ok(false)));
-    assert_eq!((machine.send_some(3), machine.send_round()), (Ok(false), Ok(true)));
+    assert_eq!((machine.send_some(16), machine.send_round(), machine.rounds()), (Ok(true), Ok(false), 1));
+    assert_eq!((machine.send_some(3), machine.send_round(), machine.rounds()), (Ok(false), Ok(true), 2));
+    assert_eq!(machine.fault(), None);
     machine.write_ram(0x3000, b"a").unwrap();
     machine.write_ram(0x5fff, b"bc").unwrap();
     let left = machine.send_left().unwrap();
@@ -45,12 +47,29 @@ fn a_machine_is_sent_in_rounds() {
 fn a_machine_that_arrived_is_the_one_that_was_saved() {
     let machine = made(&[Device::Console, Device::Entropy]);
     let stream = machine.save().unwrap();
+    assert_eq!(machine.saved_len(), Ok(stream.len()));
     for piece in [1, 3, 4096, stream.len()] {
         let mut arrival = Arrival::builder().most_pages(16).begin().unwrap();
         let ends: Vec<_> = stream.chunks(piece).map(|piece| arrival.feed(piece).unwrap()).collect();
         assert_eq!(ends.iter().position(|is_whole| *is_whole), Some(ends.len() - 1));
         assert!(arrival.finish().unwrap().save().unwrap() == stream);
     }
+}
+
+#[test]
+fn a_machine_is_saved_into_a_buffer() {
+    let mut machine = made(&[Device::Console]);
+    let len = machine.saved_len().unwrap();
+    // A page of zeros takes 5 bytes of a stream, and another one 4,101.
+    machine.write_ram(0x3fff, b"ab").unwrap();
+    assert_eq!(machine.saved_len(), Ok(len + 2 * 4096));
+    let mut buf = vec![9; len + 2 * 4096 + 1];
+    assert_eq!(machine.save_into(&mut buf[..len + 2 * 4096 - 1]), Err(Error::TooSmall));
+    assert!(buf.iter().all(|byte| *byte == 9));
+    assert_eq!(machine.save_into(&mut buf), Ok(len + 2 * 4096));
+    assert_eq!((buf.pop(), machine.save()), (Some(9), Ok(buf)));
+    machine.send_begin().unwrap();
+    assert_eq!((machine.saved_len(), machine.save_into(&mut [])), (Err(Error::Sending), Err(Error::Sending)));
 }
 
 #[test]

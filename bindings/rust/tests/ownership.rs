@@ -76,6 +76,7 @@ fn each_error_is_one_of_all_threads() {
 fn a_freed_machine_gives_back_what_was_mine() {
     let mut machine = over_mine();
     machine.write_ram(0x1_0001, &[9]).unwrap();
+    assert_eq!((machine.images(), made(&[Device::disk(1)]).images()), (1, 0));
     let parts = machine.into_parts();
     assert_eq!((&parts.memory.unwrap()[..3], &parts.images[0][..2]), (&[7, 9, 0][..], &[8, 0][..]));
     let parts = made(&[Device::disk(1)]).into_parts();

@@ -67,9 +67,10 @@ fn a_move_fails_and_another_succeeds() {
         (machine.state(), machine.send_round(), machine.send_begin()),
         (State::SendFailed, Err(Error::SendFailed), Err(Error::SendFailed))
     );
+    assert_eq!((machine.fault(), machine.rounds()), (Some(Error::SendFailed), 0));
     assert_eq!(machine.write_ram(0, &[2]), Ok(()));
     machine.send_abort().unwrap();
-    assert_eq!(machine.state(), State::Idle);
+    assert_eq!((machine.state(), machine.fault()), (State::Idle, None));
     machine.send_begin().unwrap();
     assert_eq!(machine.send_stop(), Ok((64, 0)));
     assert_eq!(without(16, || announced(b"VMIG")), Ok(None));

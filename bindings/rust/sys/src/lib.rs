@@ -1,5 +1,27 @@
-//! The calls of `vmig.h`, as Rust declares them. What each does and what its caller owes, the header says.
-#![allow(dead_code)]
+//! The calls of `vmig.h`, as Rust declares them, and no more: what each does, what its status means and what its caller owes, the header says. A
+//! program takes the crate `vmig` over this one, which is safe. This one is for who makes another binding.
+//!
+//! The names are those of the header without `vmig_` and `VMIG_`, but for the calls. A struct begins with the constant of its name, as [`SETUP`]. RAM
+//! or an image that is null and has a length the header refuses for C by a macro; here nothing does, so a pointer is null only where its count is 0.
+//!
+//! `build.rs` finds `libvmig.a`: where `VMIG_LIB` says, or by pkg-config. It tells crates over this one, as cargo's variables `DEP_VMIG_HEADER` and
+//! `DEP_VMIG_ABSENT`, which header lies beside it, and whether it was not found: then a program is not linked.
+//!
+//! ```no_run
+//! use vmig_sys as raw;
+//!
+//! let shape = raw::Shape { kind: raw::ENTROPY, ..raw::Shape::default() };
+//! let mut setup = raw::Setup { pages: 16, shapes: &raw const shape, count: 1, ..raw::SETUP };
+//! let (mut machine, mut value) = (raw::NONE, 0);
+//! // SAFETY: there is no machine in the handle, and what the pointers name lives until after the calls.
+//! unsafe {
+//!     assert_eq!(raw::vmig_make(&raw mut setup, &raw mut machine), raw::OK);
+//!     assert_eq!(raw::vmig_reg_read(&raw const machine, 0, 0x000, 4, &raw mut value), raw::OK);
+//!     raw::vmig_free(&raw mut machine);
+//! }
+//! assert_eq!(value, 0x7472_6976);
+//! ```
+#![no_std]
 
 /// A machine, or none: `NONE` before its first use, and then only the calls write it.
 #[repr(C)]
@@ -474,87 +496,127 @@ pub const WHOLE: u32 = 82;
 
 unsafe extern "C" {
     /// The version of the library that was linked.
+    #[must_use]
     pub fn vmig_version() -> u32;
     /// Makes a machine as the setup says.
+    #[must_use]
     pub fn vmig_make(setup: *mut Setup, machine: *mut Machine) -> u32;
     /// Frees whatever the handle has.
     pub fn vmig_free(machine: *mut Machine);
     /// Frees it and hands its images back.
+    #[must_use]
     pub fn vmig_release(machine: *mut Machine, slots: *mut Image, count: usize) -> u32;
     /// What the handle has.
     pub fn vmig_describe(machine: *const Machine, out: *mut Description);
     /// The driver reads a register.
+    #[must_use]
     pub fn vmig_reg_read(machine: *const Machine, dev: u8, off: u32, width: u8, value: *mut u32) -> u32;
     /// The driver writes a register.
+    #[must_use]
     pub fn vmig_reg_write(machine: *mut Machine, dev: u8, off: u32, width: u8, value: u32, byte: *mut u32) -> u32;
     /// The interrupt lines.
+    #[must_use]
     pub fn vmig_lines(machine: *const Machine) -> u32;
     /// The host puts bytes in.
+    #[must_use]
     pub fn vmig_input(machine: *mut Machine, dev: u8, bytes: *const u8, len: usize, kept: *mut usize) -> u32;
     /// How many bytes, or of a network device frames, an input would keep.
+    #[must_use]
     pub fn vmig_room(machine: *const Machine, dev: u8, room: *mut usize) -> u32;
     /// The host sets the size of a console.
+    #[must_use]
     pub fn vmig_resize(machine: *mut Machine, dev: u8, cols: u16, rows: u16) -> u32;
     /// Drops what was put in and the guest has not taken.
+    #[must_use]
     pub fn vmig_drop(machine: *mut Machine, dev: u8) -> u32;
     /// The guest's reboot.
+    #[must_use]
     pub fn vmig_reset(machine: *mut Machine) -> u32;
     /// Names a step that has something to do.
+    #[must_use]
     pub fn vmig_next(machine: *const Machine, dev: *mut u8, pick: *mut u8) -> u32;
     /// A device does one piece of its work.
+    #[must_use]
     pub fn vmig_step(machine: *mut Machine, dev: u8, pick: u8, buf: *mut u8, size: usize, len: *mut u32) -> u32;
     /// A turn of the devices.
+    #[must_use]
     pub fn vmig_work(machine: *mut Machine, turn: *mut Turn, buf: *mut u8, size: usize) -> u32;
     /// The disk of this device is lost: it could not be brought to its file, or its storage may have lost what it answered.
+    #[must_use]
     pub fn vmig_sync_failed(machine: *mut Machine, dev: u8) -> u32;
     /// The next call of a disk outside.
+    #[must_use]
     pub fn vmig_disk_call(machine: *mut Machine, call: *mut Call, buf: *mut u8, size: usize) -> u32;
     /// Sectors of it were done.
+    #[must_use]
     pub fn vmig_disk_done(machine: *mut Machine, number: u64, count: u32, bytes: *const u8, len: usize) -> u32;
     /// It failed.
+    #[must_use]
     pub fn vmig_disk_failed(machine: *mut Machine, number: u64) -> u32;
     /// The calls that are out.
+    #[must_use]
     pub fn vmig_calls_out(machine: *const Machine, calls: *mut Call, size: usize, count: *mut usize) -> u32;
     /// Reads a sector of a disk.
+    #[must_use]
     pub fn vmig_sector_read(machine: *const Machine, dev: u8, sector: u64, buf: *mut [u8; 512]) -> u32;
     /// Reads RAM.
+    #[must_use]
     pub fn vmig_ram_read(machine: *const Machine, addr: u64, buf: *mut u8, len: usize) -> u32;
     /// Writes RAM.
+    #[must_use]
     pub fn vmig_ram_write(machine: *mut Machine, addr: u64, bytes: *const u8, len: usize) -> u32;
     /// Lends RAM.
+    #[must_use]
     pub fn vmig_lend(machine: *mut Machine, ram: *mut Ram) -> u32;
     /// Takes RAM back, with the pages that were written.
+    #[must_use]
     pub fn vmig_give_back(machine: *mut Machine, ram: *mut Ram, written: *const Pages) -> u32;
     /// Names pages that were written while RAM was lent.
+    #[must_use]
     pub fn vmig_mark(machine: *mut Machine, written: *const Pages) -> u32;
     /// Hands out the pages that calls wrote.
+    #[must_use]
     pub fn vmig_written(machine: *mut Machine, pages: *mut u32, size: usize, count: *mut usize) -> u32;
     /// Hands pages in to RAM that is mirrored.
+    #[must_use]
     pub fn vmig_push(machine: *mut Machine, written: *const Pages, ram: *const u8, len: usize, seen: *mut u64, count: usize) -> u32;
     /// Hands out the pages that the caller has not seen.
+    #[must_use]
     pub fn vmig_pull(machine: *const Machine, ram: *mut u8, len: usize, seen: *mut u64, count: usize, pulled: *mut u32) -> u32;
     /// The machine begins to be sent.
+    #[must_use]
     pub fn vmig_send_begin(machine: *mut Machine) -> u32;
     /// Copies pages and sectors that are due.
+    #[must_use]
     pub fn vmig_send_some(machine: *mut Machine, most: u32) -> u32;
     /// Ends the round, if nothing is due in it.
+    #[must_use]
     pub fn vmig_send_round(machine: *mut Machine) -> u32;
     /// Copies all that is left, and closes the stream.
+    #[must_use]
     pub fn vmig_send_stop(machine: *mut Machine, pages: *mut u64, sectors: *mut u64) -> u32;
     /// The machine continues as if it had never been sent.
+    #[must_use]
     pub fn vmig_send_abort(machine: *mut Machine) -> u32;
     /// The next bytes of the stream.
+    #[must_use]
     pub fn vmig_send_take(machine: *mut Machine, buf: *mut u8, size: usize, got: *mut usize) -> u32;
     /// What is left to be sent.
+    #[must_use]
     pub fn vmig_send_left(machine: *const Machine, left: *mut Left) -> u32;
     /// The whole stream of a machine.
+    #[must_use]
     pub fn vmig_save(machine: *const Machine, buf: *mut u8, size: usize, len: *mut usize) -> u32;
     /// A machine will arrive.
+    #[must_use]
     pub fn vmig_arrive(arrival: *mut Arrival, machine: *mut Machine) -> u32;
     /// The next bytes of the stream that arrives.
+    #[must_use]
     pub fn vmig_feed(machine: *mut Machine, bytes: *const u8, len: usize) -> u32;
     /// The handle has the machine that arrived.
+    #[must_use]
     pub fn vmig_finish(machine: *mut Machine) -> u32;
     /// What a stream announces.
+    #[must_use]
     pub fn vmig_stream_describe(bytes: *const u8, len: usize, out: *mut Description) -> u32;
 }
