@@ -1,5 +1,6 @@
-//! Takes over what the crate `vmig-sys` found. `VMIG_HEADER` is the header of the library, which the tests compare with the errors of this crate. Where
-//! there is no archive the crate is built with `vmig_absent`: functions of Rust stand for its calls, so that all but a program is made without it.
+//! Takes over what the crate `vmig-sys` found. `VMIG_HEADER` is the header of the library, which the tests compare with the errors of this crate.
+//! Where there is no archive the crate is built with `vmig_absent`: functions of Rust stand for its calls, so that all but a program is made without
+//! it.
 
 use std::path::Path;
 

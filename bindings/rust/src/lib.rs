@@ -1,6 +1,7 @@
 #![doc = include_str!("../README.md")]
 //!
 //! # The order of things
+//! [`guide`] is a whole host: RAM that is lent, a disk in a file, storage on request, and a move.
 //! - [`Machine::builder`] makes a [`Machine`]; [`Arrival::builder`] lets one arrive. RAM lies in memory of the library, or in a [`Memory`];
 //!   disks in memory of the library, or in [`Image`]s.
 //! - [`Machine::read_register`], [`Machine::write_register`] and [`Machine::input`] hand in what the guest and the host do,
@@ -165,6 +166,7 @@ mod builder;
 mod call;
 mod device;
 mod error;
+pub mod guide;
 mod image;
 mod lent;
 mod machine;

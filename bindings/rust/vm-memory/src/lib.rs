@@ -63,7 +63,8 @@ impl GuestRam<Memory> {
 }
 
 impl<Owner> GuestRam<Owner> {
-    /// What it was made of, and the numbers of the pages that were written through it, ascending: name them by [`vmig::Pages::list`] where RAM goes back.
+    /// What it was made of, and the numbers of the pages that were written through it, ascending: name them by [`vmig::Pages::list`] where RAM goes
+    /// back.
     #[must_use]
     pub fn into_parts(self) -> (Owner, Vec<u32>) {
         (self.owner, self.region.bitmap().pages())
