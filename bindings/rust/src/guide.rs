@@ -178,7 +178,7 @@
 //!   are its accesses.
 //!
 //! # Storage on request
-//! A disk of any other kind, qcow2, over a network or by io_uring, is a [`Device::Outside`](crate::Device::Outside): its machine hands out what it asks of
+//! A disk of any other kind, qcow2, over a network or by `io_uring`, is a [`Device::Outside`](crate::Device::Outside): its machine hands out what it asks of
 //! the disk, threads do it while the guest runs, and the answer is a call. Here a file serves, in a thread of its own.
 //!
 //! ```
