@@ -309,7 +309,12 @@ private:
 };
 
 /* What a machine lies in: RAM, and the disks of its block devices in their order, from the first one on. Where there is no RAM
- * here, or no disk, it is as the setup or the arrival says. */
+ * here, or no disk, it is as the setup or the arrival says:
+ *
+ *     vmig::parts own;
+ *     if (own.ram.map(64) != 0 || own.images[0].open("disk.img") != 0) return false;
+ *     return machine.make(&setup, std::move(own)) == vmig::status::ok;
+ */
 struct parts {
     memory ram{};
     image_map images[16]{};
