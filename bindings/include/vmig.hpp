@@ -203,7 +203,7 @@ private:
 }  // namespace detail
 
 /* Memory for the RAM of a machine, or none: pages of zeros, each of which the system gives when it is first written. It is
- * unmapped with its owner, and can be moved: a machine takes it by `parts`, and release gives it back. */
+ * unmapped with its owner, and can be moved: a machine takes it by `parts`, and release_parts gives it back. */
 class memory {
 public:
     /* So many pages of 4,096 bytes, in the place of what it had: 0, or the errno of the system. */
@@ -225,7 +225,7 @@ private:
 /* The sectors of a disk in a file that is mapped, or none. It owns the map, the open file and its lock: a second one of this
  * file, in this process or in another one, also of the crate for Rust, is refused as EWOULDBLOCK. The lock keeps out only those
  * that ask for it: no process may cut the file, or read or write it in another way. It is unmapped with its owner, and can be
- * moved: a machine takes it by `parts`, machine::sync brings it to its file, and release gives it back.
+ * moved: a machine takes it by `parts`, machine::sync brings it to its file, and release_parts gives it back.
  *
  * The file has the length of 1 to 4,294,967,295 whole sectors, else EINVAL. What can fail answers 0, or the errno of the system,
  * and then what it had before is still there. */
@@ -313,7 +313,7 @@ private:
  *
  *     vmig::parts own;
  *     if (own.ram.map(64) != 0 || own.images[0].open("disk.img") != 0) return false;
- *     return machine.make(&setup, std::move(own)) == vmig::status::ok;
+ *     return machine.make_over(&setup, std::move(own)) == vmig::status::ok;
  */
 struct parts {
     memory ram{};
@@ -331,9 +331,9 @@ struct parts {
 class lent;
 
 /* A machine, or none. It is freed with its owner and can be moved, and one that was moved away is none. It owns the parts that it
- * is made over: they are unmapped after it was freed, or release gives them back. Images of a setup are given back by release
- * alone, and RAM of a setup stays where it lies. Its calls of disks outside have numbers that no other machine of the process
- * has, unless its setup or its arrival says where they begin. */
+ * is made over: they are unmapped after it was freed, or release_parts gives them back. Images of a setup are given back by
+ * release alone, and RAM of a setup stays where it lies. Its calls of disks outside have numbers that no other machine of the
+ * process has, unless its setup or its arrival says where they begin. */
 class machine {
 public:
     machine() noexcept = default;
@@ -370,9 +370,9 @@ public:
 
     /* The same over parts, in the place of the RAM and of the images of the setup, which stays as it was: if it is ok the machine
      * owns them, and else they are as they were. */
-    [[nodiscard]] status make(const vmig_setup *setup, parts &&own) noexcept { return over(*setup, own, &machine::make); }
+    [[nodiscard]] status make_over(const vmig_setup *setup, parts &&own) noexcept { return over(*setup, own, &machine::make); }
 
-    /* BAD_IMAGES also where the images are parts: the other release gives them back. */
+    /* BAD_IMAGES also where the images are parts: release_parts gives them back. */
     [[nodiscard]] status release(vmig_image *slots, std::size_t count) noexcept
     {
         if (has_images()) return status::bad_images;
@@ -383,7 +383,7 @@ public:
 
     /* Frees it, and *back becomes the parts that it owned, in the place of what was there: none where it was not made over any.
      * NO_MACHINE, LENT. */
-    [[nodiscard]] status release(parts *back) noexcept
+    [[nodiscard]] status release_parts(parts *back) noexcept
     {
         vmig_image slots[16] = {};
         std::unique_ptr<parts> own = std::move(under);
@@ -531,8 +531,8 @@ public:
         return status{vmig_arrive(arrival, &held)};
     }
 
-    /* The same in parts, as make has them: release gives them back of an arrival too, also of one that failed. */
-    [[nodiscard]] status arrive(const vmig_arrival *arrival, parts &&own) noexcept
+    /* The same over parts, as make_over has them: release_parts gives them back of an arrival too, also of one that failed. */
+    [[nodiscard]] status arrive_over(const vmig_arrival *arrival, parts &&own) noexcept
     {
         return over(*arrival, own, &machine::arrive);
     }

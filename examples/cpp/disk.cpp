@@ -56,7 +56,7 @@ machine made(const std::string &disk)
     must_system(own.ram.map(ram_pages));
     must_system(own.images[0].open(disk.c_str()));
     setup.shapes = &shape, setup.count = 1, setup.base = base;
-    must(m.make(&setup, std::move(own)));
+    must(m.make_over(&setup, std::move(own)));
     return m;
 }
 
@@ -125,7 +125,7 @@ bool runs(const std::string &disk)
     run_guest(loan);
     must(std::move(loan).give_back(pages::none(), &m));
     const int syncs = serve(m);
-    must(m.release(&back));
+    must(m.release_parts(&back));
     return syncs == 1 && back.ram.data()[verdict] == 0 && back.images[0].data()[512 * sector] == 'v';
 }
 

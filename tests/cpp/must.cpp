@@ -39,7 +39,7 @@ machine made()
 
     must(own.ram.map(2));
     setup.shapes = &shape, setup.count = 1;
-    must(m.make(&setup, std::move(own)));
+    must(m.make_over(&setup, std::move(own)));
     return m;
 }
 

@@ -96,7 +96,7 @@ machine made(const disk_file &file)
     const vmig_setup setup = setup_of();
     machine m;
 
-    EXPECT(m.make(&setup, parts_of(file)) == status::ok);
+    EXPECT(m.make_over(&setup, parts_of(file)) == status::ok);
     return m;
 }
 
@@ -177,18 +177,18 @@ void a_refusal_leaves_them()
 
     EXPECT(parts().count() == 0 && own.count() == 1);
     setup.base = 1;
-    EXPECT(m.make(&setup, std::move(own)) == status::bad_base);
+    EXPECT(m.make_over(&setup, std::move(own)) == status::bad_base);
     EXPECT(own.count() == 1 && own.ram.size_bytes() == 2 * page);
     // A hole before an image is a disk of no sectors.
     std::swap(own.images[0], own.images[1]);
     setup.base = 0;
-    EXPECT(own.count() == 2 && m.make(&setup, std::move(own)) == status::bad_images && own.count() == 2);
+    EXPECT(own.count() == 2 && m.make_over(&setup, std::move(own)) == status::bad_images && own.count() == 2);
     std::swap(own.images[0], own.images[1]);
     setup.base = page;
-    EXPECT(m.make(&setup, std::move(own)) == status::ok && m.describe().base == page);
+    EXPECT(m.make_over(&setup, std::move(own)) == status::ok && m.describe().base == page);
     EXPECT(own.count() == 0 && own.ram.size_bytes() == 0 && setup.base == page && setup.count_images == 0 && setup.calls_from == 0);
     own = parts();
-    EXPECT(m.make(&setup, std::move(own)) == status::in_use && !is_free(file));
+    EXPECT(m.make_over(&setup, std::move(own)) == status::in_use && !is_free(file));
     EXPECT(m.release(nullptr, 0) == status::bad_images && m.describe().state == VMIG_IS_IDLE);
 }
 
@@ -202,12 +202,12 @@ void a_machine_keeps_them()
 
     EXPECT(!is_free(file) && m.describe().images == 1);
     other = std::move(m);
-    EXPECT(m.describe().state == VMIG_IS_NONE && m.release(&back) == status::no_machine && other.sector_read(0, 31, sector) == status::ok);
+    EXPECT(m.describe().state == VMIG_IS_NONE && m.release_parts(&back) == status::no_machine && other.sector_read(0, 31, sector) == status::ok);
     EXPECT(std::move(other).lend(&loan) == status::ok && !is_free(file));
     std::uint8_t *const ram = loan.data();
     ram[0] = 5;
     EXPECT(std::move(loan).give_back(pages::all(), &other) == status::ok);
-    EXPECT(other.release(&back) == status::ok && other.describe().state == VMIG_IS_NONE);
+    EXPECT(other.release_parts(&back) == status::ok && other.describe().state == VMIG_IS_NONE);
     EXPECT(back.ram.data() == ram && ram[0] == 5 && back.count() == 1 && back.images[0].sectors() == 32 && !is_free(file));
     back.images[0].data()[0] = 6;
     EXPECT(file.at(0) == 6);
@@ -245,16 +245,16 @@ void a_mixture()
 
     EXPECT(own.ram.map(2) == 0);
     setup.images = &image, setup.count_images = 1;
-    EXPECT(m.make(&setup, std::move(own)) == status::ok && m.sync(0, &error) == status::bad_images && error == 1);
+    EXPECT(m.make_over(&setup, std::move(own)) == status::ok && m.sync(0, &error) == status::bad_images && error == 1);
     EXPECT(m.release(&slot, 1) == status::ok && slot.at == bytes.data());
     setup = setup_of();
     setup.ram = {ram.data(), ram.size()};
-    EXPECT(own.images[0].open(file.path()) == 0 && m.make(&setup, std::move(own)) == status::ok);
-    EXPECT(m.release(&back) == status::ok && back.count() == 1 && back.ram.size_bytes() == 0);
+    EXPECT(own.images[0].open(file.path()) == 0 && m.make_over(&setup, std::move(own)) == status::ok);
+    EXPECT(m.release_parts(&back) == status::ok && back.count() == 1 && back.ram.size_bytes() == 0);
     setup = setup_of();
     setup.pages = 2;
-    EXPECT(m.make(&setup, parts()) == status::ok && m.sync(0, &error) == status::ok);
-    EXPECT(m.release(&back) == status::ok && back.count() == 0 && is_free(file));
+    EXPECT(m.make_over(&setup, parts()) == status::ok && m.sync(0, &error) == status::ok);
+    EXPECT(m.release_parts(&back) == status::ok && back.count() == 0 && is_free(file));
 }
 
 void what_a_sync_says()
@@ -282,7 +282,7 @@ void what_a_failed_sync_does()
     lent loan;
     int error = 0;
 
-    EXPECT(m.make(&setup, std::move(own)) == status::ok && std::move(m).lend(&loan) == status::ok);
+    EXPECT(m.make_over(&setup, std::move(own)) == status::ok && std::move(m).lend(&loan) == status::ok);
     EXPECT(loan.sync_all(&error) == status::ok && loan.describe().lost == 0);
     EXPECT(munmap(gone, page) == 0);
     EXPECT(loan.sync(0, &error) == status::disk_failed && error == ENOMEM && loan.describe().lost == 1);
@@ -322,11 +322,11 @@ void an_arrival_owns_them()
     parts own = parts_of(file), back;
     int error = 0;
 
-    EXPECT(m.arrive(&arrival, std::move(own)) == status::ok && own.count() == 0 && !is_free(file));
+    EXPECT(m.arrive_over(&arrival, std::move(own)) == status::ok && own.count() == 0 && !is_free(file));
     EXPECT(m.sync_all(&error) == status::no_machine);
     EXPECT(m.feed(stream.data(), stream.size()) == status::whole && m.finish() == status::ok);
     EXPECT(m.sync_all(&error) == status::ok && file.at(disk_len - 1) == 4 && stream_of(m) == stream);
-    EXPECT(m.release(&back) == status::ok && back.ram.data()[page] == 2 && back.images[0].data()[0] == 4);
+    EXPECT(m.release_parts(&back) == status::ok && back.ram.data()[page] == 2 && back.images[0].data()[0] == 4);
 }
 
 // They come back of one that failed too, and of one that was never begun.
@@ -339,11 +339,11 @@ void a_failed_arrival_gives_them_back()
     parts own = parts_of(file), back;
 
     arrival.base = 1;
-    EXPECT(m.arrive(&arrival, std::move(own)) == status::bad_base && own.count() == 1);
+    EXPECT(m.arrive_over(&arrival, std::move(own)) == status::bad_base && own.count() == 1);
     arrival.base = 0;
-    EXPECT(m.arrive(&arrival, std::move(own)) == status::ok && own.count() == 0);
+    EXPECT(m.arrive_over(&arrival, std::move(own)) == status::ok && own.count() == 0);
     EXPECT(m.feed(wrong, sizeof wrong) == status::stream_bad_magic);
-    EXPECT(m.release(&back) == status::ok && back.count() == 1 && back.ram.size_bytes() == 2 * page && !is_free(file));
+    EXPECT(m.release_parts(&back) == status::ok && back.count() == 1 && back.ram.size_bytes() == 2 * page && !is_free(file));
 }
 
 }  // namespace

@@ -6,10 +6,10 @@ namespace {
 
 [[maybe_unused]] void of_a_machine(vmig::machine &m, vmig::lent &loan, vmig::parts &own, std::uint8_t *bytes, std::uint64_t *words)
 {
-    m.make(static_cast<vmig_setup *>(nullptr));
-    m.make(nullptr, std::move(own));
+    m.make(nullptr);
+    m.make_over(nullptr, std::move(own));
     m.release(nullptr, 0);
-    m.release(&own);
+    m.release_parts(&own);
     m.describe();
     m.reg_read(0, 0, 4, nullptr);
     m.reg_write(0, 0, 4, 0, nullptr);
@@ -44,8 +44,8 @@ namespace {
     m.send_take(bytes, 1, nullptr);
     m.send_left(nullptr);
     m.save(bytes, 1, nullptr);
-    m.arrive(static_cast<vmig_arrival *>(nullptr));
-    m.arrive(nullptr, std::move(own));
+    m.arrive(nullptr);
+    m.arrive_over(nullptr, std::move(own));
     m.feed(bytes, 1);
     m.finish();
 }
