@@ -206,7 +206,7 @@ private:
  * unmapped with its owner, and can be moved: a machine takes it by `parts`, and release_parts gives it back. */
 class memory {
 public:
-    /* So many pages of 4,096 bytes, in the place of what it had: 0, or the errno of the system. */
+    /* Maps this number of pages of 4,096 bytes, in the place of what it had: 0, or the errno of the system. */
     [[nodiscard]] int map(std::uint32_t pages) noexcept
     {
         return bytes.map(std::uint64_t{pages} * 4096, MAP_PRIVATE | MAP_ANONYMOUS, -1);

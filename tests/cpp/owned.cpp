@@ -173,7 +173,6 @@ void a_refusal_leaves_them()
     vmig_setup setup = setup_of();
     parts own = parts_of(file);
     machine m;
-    lent loan;
 
     EXPECT(parts().count() == 0 && own.count() == 1);
     setup.base = 1;
