@@ -32,12 +32,15 @@
  * RULES, which nothing checks:
  * - A vmig_machine is VMIG_NONE (all zeros) before its first use, and only these calls write it. It may be moved, as by memcpy, but
  *   a copy must not be used beside it.
- * - A pointer whose count is 0 may be null, and no other: each out-parameter is written somewhere. Compilers that know the
- *   attribute `nonnull` warn of a null. A pointer and a count n name n items, which the call may read, and may also write unless
- *   the pointer is to const. Pointers are aligned as their types are; RAM and images have any alignment.
- * - RAM or an image that is null and has a length is refused all the same, as BAD_RAM or BAD_IMAGES, by vmig_make, vmig_arrive and
- *   vmig_give_back. The library cannot see it: the inline functions at the end of this header do, which macros of these three
- *   names call. (vmig_make)(..), and the address of vmig_make, are the library's own call, which takes such a pointer at its word.
+ * - A pointer whose count is 0 may be null, and no other: each out-parameter is written somewhere. A pointer and a count n name n
+ *   items, which the call may read, and may also write unless the pointer is to const. Pointers are aligned as their types are;
+ *   RAM and images have any alignment. gcc and clang warn of a null, of a null with a count, and of a buffer that is smaller than
+ *   its count, where they see it.
+ * - These are refused all the same: RAM or an image that is null and has a length, as BAD_RAM or BAD_IMAGES, by vmig_make,
+ *   vmig_arrive and vmig_give_back; and pages whose list or bitmap is null and has a count, or whose bitmap has none, as
+ *   TOO_SMALL, by vmig_give_back, vmig_mark and vmig_push. The library cannot see it: the inline functions at the end of this
+ *   header do, which macros of these five names call. (vmig_make)(..), and the address of vmig_make, are the library's own call,
+ *   which takes such a pointer at its word.
  * - What a call may write overlaps with nothing else that the call is given, no pointer points into a vmig_machine, and no image
  *   overlaps another one or RAM.
  * - One call at a time for each machine, also of calls that take it as const. Calls from several threads are ordered by a lock, or
@@ -298,13 +301,39 @@ extern "C" {
 #define VMIG_NULL_ 0
 #endif
 
-/* A status that nobody looks at is a mistake, and so is a null for one of the parameters of these numbers. */
+/* A status that nobody looks at is a mistake, and so is a null for one of the parameters of these numbers. So is a null with a
+ * count, and a buffer of fewer items than its count says: the at-th parameter is read or written, and the count-th is its count. */
 #if defined(__GNUC__)
 #define VMIG_CHECKED_(...) __attribute__((warn_unused_result, nonnull(__VA_ARGS__)))
 #define VMIG_NONNULL_(...) __attribute__((nonnull(__VA_ARGS__)))
 #else
 #define VMIG_CHECKED_(...)
 #define VMIG_NONNULL_(...)
+#endif
+
+#if defined(__has_attribute)
+#if __has_attribute(access)
+#define VMIG_READS_(at, count, bytes, len) __attribute__((access(read_only, at, count)))
+#define VMIG_WRITES_(at, count, buf, size) __attribute__((access(write_only, at, count)))
+#define VMIG_CHANGES_(at, count, buf, size) __attribute__((access(read_write, at, count)))
+#define VMIG_SECTOR_(buf)
+#elif __has_attribute(diagnose_if)
+#pragma clang diagnostic push
+#pragma clang diagnostic ignored "-Wgcc-compat"
+#define VMIG_WARNS_(when, what) __attribute__((diagnose_if(when, what, "warning")))
+#define VMIG_FITS_(at, count) VMIG_WARNS_((at) == VMIG_NULL_ && (count) > 0, "a null pointer with a count") \
+    VMIG_WARNS_(__builtin_object_size(at, 0) / sizeof *(at) < (count), "a buffer of fewer items than its count says")
+#define VMIG_READS_(at, count, bytes, len) VMIG_FITS_(bytes, len)
+#define VMIG_WRITES_(at, count, buf, size) VMIG_FITS_(buf, size)
+#define VMIG_CHANGES_(at, count, buf, size) VMIG_FITS_(buf, size)
+#define VMIG_SECTOR_(buf) VMIG_WARNS_(__builtin_object_size(buf, 0) < 512, "a buffer of fewer bytes than a sector")
+#endif
+#endif
+#ifndef VMIG_READS_
+#define VMIG_READS_(at, count, bytes, len)
+#define VMIG_WRITES_(at, count, buf, size)
+#define VMIG_CHANGES_(at, count, buf, size)
+#define VMIG_SECTOR_(buf)
 #endif
 
 /* The version of this library. It reads streams of versions 1 to 3. It writes version 3 where a device is for frames of more than
@@ -342,7 +371,8 @@ enum {
     VMIG_NO_MACHINE = 8,                /* the handle has no machine, or one that still arrives */
     VMIG_IN_USE = 9,                    /* the handle has a machine already, or one arrives; feed, finish: it has arrived */
     VMIG_NO_MEMORY = 10,                /* out of memory: malloc or realloc failed */
-    VMIG_TOO_SMALL = 11,                /* your buffer, your slots or your bitmap */
+    VMIG_TOO_SMALL = 11,                /* your buffer, your slots or your bitmap; of pages: a null with a count, or a bitmap
+                                         * without one */
     VMIG_BAD_SHAPE = 12,                /* not 1 to 16 devices, or one beyond the limits (VMIG_LARGE), or of an unknown kind */
     VMIG_BAD_IMAGES = 15,               /* contents or images that do not fit the disks; release: a slot that has sectors */
     VMIG_NOT_SENDING = 17,              /* the machine is not being sent */
@@ -461,13 +491,15 @@ typedef struct vmig_ram {
 #define VMIG_NO_RAM {VMIG_NULL_, 0}
 
 /* Pages of RAM: those of a list, those of a bitmap as KVM_GET_DIRTY_LOG fills it, both, or all. Begin with vmig_list, vmig_bitmap,
- * VMIG_NO_PAGES or VMIG_ALL_PAGES, and not field by field: a pointer whose count was forgotten names nothing, and its pages are
- * lost at the target. The pages of a list come in any order, and one may come twice. */
+ * VMIG_NO_PAGES or VMIG_ALL_PAGES, and not field by field: a list whose count was forgotten names nothing, and its pages are lost
+ * at the target. A bitmap without a count, and a null with one, are VMIG_TOO_SMALL. The pages of a list come in any order, and one
+ * may come twice. */
 typedef struct vmig_pages {
     const uint32_t *list;
     size_t count;
     const uint64_t *words;              /* bit k of words[n], the lowest being bit 0, is page first + 64 * n + k */
-    size_t count_words;                 /* at least one for each 64 pages of span, else VMIG_TOO_SMALL; 0: no bitmap */
+    size_t count_words;                 /* at least one for each 64 pages of span, else VMIG_TOO_SMALL; 0: no bitmap,
+                                         * and words is null then */
     uint32_t first, span;               /* the pages that the bitmap covers, as a memory slot has them. A span of 0 reaches from
                                          * first to RAM's end, and one that reaches past it is VMIG_OUT_OF_RAM. Bits past the
                                          * span are not looked at */
@@ -629,7 +661,7 @@ void vmig_free(vmig_machine *m) VMIG_NONNULL_(1);
  * hold what they held, and in part the sectors of the stream. Without images no slot is needed. RAM of yours is yours again too,
  * where it lay.
  * BAD_IMAGES (a slot whose sectors are not 0), TOO_SMALL (slots). */
-vmig_status vmig_release(vmig_machine *m, vmig_image *slots, size_t count) VMIG_CHECKED_(1);
+vmig_status vmig_release(vmig_machine *m, vmig_image *slots, size_t count) VMIG_CHECKED_(1) VMIG_CHANGES_(2, 3, slots, count);
 
 /* What the handle has. Never refused: of no machine the state is VMIG_IS_NONE, and the rest 0. */
 void vmig_describe(const vmig_machine *m, vmig_description *out) VMIG_NONNULL_(1, 2);
@@ -660,7 +692,8 @@ uint32_t vmig_lines(const vmig_machine *m) VMIG_NONNULL_(1);
  * were kept: the first ones, a frame whole or not at all. The rest is still yours. An entropy device and a console hold 4,096
  * bytes, a network device 64 frames, or fewer of longer ones (WHAT YOU PUT IN, above). The device may have work then: make a turn.
  * NO_DEVICE, WRONG_KIND (a block device), BAD_FRAME. */
-vmig_status vmig_input(vmig_machine *m, uint8_t dev, const uint8_t *bytes, size_t len, size_t *kept) VMIG_CHECKED_(1, 5);
+vmig_status vmig_input(vmig_machine *m, uint8_t dev, const uint8_t *bytes, size_t len, size_t *kept)
+    VMIG_CHECKED_(1, 5) VMIG_READS_(3, 4, bytes, len);
 
 /* *room becomes how many bytes (of a network device: frames) vmig_input would keep. NO_DEVICE, WRONG_KIND (a block device). */
 vmig_status vmig_room(const vmig_machine *m, uint8_t dev, size_t *room) VMIG_CHECKED_(1, 3);
@@ -694,7 +727,8 @@ vmig_status vmig_next(const vmig_machine *m, uint8_t *dev, uint8_t *pick) VMIG_C
  * or stays.
  * IDLE (nothing to do, or no such pick), TAKEN, MOVED, BAD_SECTOR, DISK_FAILED, COMPLETED, SENT, DROPPED, NEEDS_RESET. NO_DEVICE,
  * TOO_SMALL (it may send more than size: pick 1 alone sends, a longest frame, or 65,536 bytes of a console), NO_MEMORY. */
-vmig_status vmig_step(vmig_machine *m, uint8_t dev, uint8_t pick, uint8_t *buf, size_t size, uint32_t *len) VMIG_CHECKED_(1, 6);
+vmig_status vmig_step(vmig_machine *m, uint8_t dev, uint8_t pick, uint8_t *buf, size_t size, uint32_t *len)
+    VMIG_CHECKED_(1, 6) VMIG_WRITES_(4, 5, buf, size);
 
 /* A turn of the devices. Begin with VMIG_TURN, keep it with the machine, and set `left` before each turn. */
 typedef struct vmig_turn {
@@ -714,7 +748,8 @@ typedef struct vmig_turn {
  * vmig_sync_failed. SENT, DROPPED, NEEDS_RESET, BAD_SECTOR, DISK_FAILED, COMPLETED (an entropy device, with room now): `dev`,
  * `pick` was made last. NOT_KNOWN (of the turn), TOO_SMALL (size is less than vmig_describe's message), NO_MEMORY (of the first
  * step: nothing has changed; to let others go first, let vmig_next set dev and pick). */
-vmig_status vmig_work(vmig_machine *m, vmig_turn *turn, uint8_t *buf, size_t size) VMIG_CHECKED_(1, 2);
+vmig_status vmig_work(vmig_machine *m, vmig_turn *turn, uint8_t *buf, size_t size)
+    VMIG_CHECKED_(1, 2) VMIG_WRITES_(3, 4, buf, size);
 
 /* The disk of this device is lost, for good: it could not be brought to its file, or it is outside and its storage may have lost
  * writes that it answered. Call it also for a sync of your own that failed. From then on no flush of it is told done, nor a write
@@ -752,7 +787,8 @@ typedef struct vmig_call {
  * only read. At most 8 calls of a device are out, and devices take turns. Call it until VMIG_IDLE after each turn, and after each
  * answer; or where vmig_next says VMIG_CALL.
  * TOO_SMALL (size is less than 512). */
-vmig_status vmig_disk_call(vmig_machine *m, vmig_call *call, uint8_t *buf, size_t size) VMIG_CHECKED_(1, 2);
+vmig_status vmig_disk_call(vmig_machine *m, vmig_call *call, uint8_t *buf, size_t size)
+    VMIG_CHECKED_(1, 2) VMIG_WRITES_(3, 4, buf, size);
 
 /* `count` sectors of the call with this number were done, from its first one on: one at least, and no more than it has; of a flush
  * 0. bytes are those that were read, 512 * count; of other calls none. What it lacks is asked for anew, under another number.
@@ -760,7 +796,8 @@ vmig_status vmig_disk_call(vmig_machine *m, vmig_call *call, uint8_t *buf, size_
  * says that something is durable: that counts as failed. It is done while RAM is lent too, but for a read. After a refusal the call
  * is still out.
  * NOT_OUT, LENT (of a read), TOO_LONG (another count, or another number of bytes). */
-vmig_status vmig_disk_done(vmig_machine *m, uint64_t number, uint32_t count, const uint8_t *bytes, size_t len) VMIG_CHECKED_(1);
+vmig_status vmig_disk_done(vmig_machine *m, uint64_t number, uint32_t count, const uint8_t *bytes, size_t len)
+    VMIG_CHECKED_(1) VMIG_READS_(4, 5, bytes, len);
 
 /* The call with this number failed, and nothing of it can land any more: its request will end with an error. VMIG_OK also where
  * nothing waits for it any more. It is done while RAM is lent too. NOT_OUT. */
@@ -769,19 +806,23 @@ vmig_status vmig_disk_failed(vmig_machine *m, uint64_t number) VMIG_CHECKED_(1);
 /* The calls that are out: *count becomes how many, and the oldest of them, size at most, are at the front of calls, as they were
  * handed out, oldest first; what is after them is as it was. Room for 8 of each device is enough. For a host that lost the number
  * of a call, and lets it fail, or that counts the calls of a device. */
-vmig_status vmig_calls_out(const vmig_machine *m, vmig_call *calls, size_t size, size_t *count) VMIG_CHECKED_(1, 4);
+vmig_status vmig_calls_out(const vmig_machine *m, vmig_call *calls, size_t size, size_t *count)
+    VMIG_CHECKED_(1, 4) VMIG_WRITES_(2, 3, calls, size);
 
 /* ---- a look from outside ----------------------------------------------------------------------------------------------------- */
 
 /* A sector of the disk of a device, numbered from 0: VMIG_OK, and buf becomes its 512 bytes; or VMIG_BAD_SECTOR: it has none, and
  * buf is as it was. Nothing but the guest writes a disk. NO_DEVICE, WRONG_KIND (it has no disk), NO_SECTOR. */
-vmig_status vmig_sector_read(const vmig_machine *m, uint8_t dev, uint64_t sector, uint8_t buf[512]) VMIG_CHECKED_(1, 4);
+vmig_status vmig_sector_read(const vmig_machine *m, uint8_t dev, uint64_t sector, uint8_t buf[512])
+    VMIG_CHECKED_(1, 4) VMIG_SECTOR_(buf);
 
 /* ---- RAM --------------------------------------------------------------------------------------------------------------------- */
 
 /* An access of an interpreted guest, of up to 4,096 bytes, from a guest-physical address on. TOO_LONG, OUT_OF_RAM. */
-vmig_status vmig_ram_read(const vmig_machine *m, uint64_t addr, uint8_t *buf, size_t len) VMIG_CHECKED_(1);
-vmig_status vmig_ram_write(vmig_machine *m, uint64_t addr, const uint8_t *bytes, size_t len) VMIG_CHECKED_(1);
+vmig_status vmig_ram_read(const vmig_machine *m, uint64_t addr, uint8_t *buf, size_t len)
+    VMIG_CHECKED_(1) VMIG_WRITES_(3, 4, buf, len);
+vmig_status vmig_ram_write(vmig_machine *m, uint64_t addr, const uint8_t *bytes, size_t len)
+    VMIG_CHECKED_(1) VMIG_READS_(3, 4, bytes, len);
 
 /* Lends RAM of yours to you and the guest: *ram, whose len is 0 before, becomes it. Until it is given back you and your guest may
  * read and write these bytes, and no call does. It allocates nothing, and takes constant time.
@@ -807,20 +848,21 @@ vmig_status vmig_mark(vmig_machine *m, const vmig_pages *written) VMIG_CHECKED_(
  * vmig_give_back or vmig_mark named, and none that arrived. For a host that translates code, keeps a dirty log of its own, or shows
  * a frame buffer. It takes no memory.
  * NOT_KNOWN (it was made, or let arrive, without VMIG_LOG). */
-vmig_status vmig_written(vmig_machine *m, uint32_t *pages, size_t size, size_t *count) VMIG_CHECKED_(1, 4);
+vmig_status vmig_written(vmig_machine *m, uint32_t *pages, size_t size, size_t *count)
+    VMIG_CHECKED_(1, 4) VMIG_WRITES_(2, 3, pages, size);
 
 /* RAM that is mirrored: the machine's page n becomes the 4,096 bytes at ram + 4096 * n, for each page that is named, as if the
  * guest wrote it whole, so a machine that is being sent sends it anew; and seen[n] becomes its version. ram has len bytes and seen
  * has count entries, at least as many as RAM has bytes and pages, else TOO_SMALL. Only this call and vmig_pull write seen.
  * NOT_KNOWN, TOO_SMALL, OUT_OF_RAM (no such page), NO_MEMORY (a bitmap, or all). */
 vmig_status vmig_push(vmig_machine *m, const vmig_pages *written, const uint8_t *ram, size_t len, uint64_t *seen, size_t count)
-    VMIG_CHECKED_(1, 2);
+    VMIG_CHECKED_(1, 2) VMIG_READS_(3, 4, ram, len) VMIG_WRITES_(5, 6, seen, count);
 
 /* Hands out each page whose version is not seen[n], and each whose version is the greatest, UINT64_MAX, at which the version stops
  * counting: it goes to ram + 4096 * n, and seen[n] becomes its version. All else of ram and seen is as it was. *pulled becomes the
  * number of pages handed out. Sizes are as for vmig_push. TOO_SMALL. */
 vmig_status vmig_pull(const vmig_machine *m, uint8_t *ram, size_t len, uint64_t *seen, size_t count, uint32_t *pulled)
-    VMIG_CHECKED_(1, 6);
+    VMIG_CHECKED_(1, 6) VMIG_WRITES_(2, 3, ram, len) VMIG_CHANGES_(4, 5, seen, count);
 
 /* ---- a machine is sent ------------------------------------------------------------------------------------------------------- */
 
@@ -850,7 +892,8 @@ vmig_status vmig_send_abort(vmig_machine *m) VMIG_CHECKED_(1);
 /* The next bytes of the stream go to the front of buf, *got of them; 0, where size is not 0, says that none waits. After
  * vmig_send_stop and a 0 the stream is whole. Its cost is proportional to the bytes that it returns, so buf may be of any size.
  * After VMIG_SEND_FAILED the bytes that wait may end within a record. */
-vmig_status vmig_send_take(vmig_machine *m, uint8_t *buf, size_t size, size_t *got) VMIG_CHECKED_(1, 4);
+vmig_status vmig_send_take(vmig_machine *m, uint8_t *buf, size_t size, size_t *got)
+    VMIG_CHECKED_(1, 4) VMIG_WRITES_(2, 3, buf, size);
 
 /* What is left to be sent. */
 typedef struct vmig_left {
@@ -867,7 +910,8 @@ vmig_status vmig_send_left(const vmig_machine *m, vmig_left *left) VMIG_CHECKED_
  * buf is as it was: ask with size 0, which makes no stream and takes no memory. It looks at each page of RAM once, since a page of
  * zeros takes 5 bytes of a stream and another one 4,101. The machine continues. Flush the storage of its disks outside before the
  * saved bytes are good: what was answered and not flushed lies in a cache, and no guest will write it again. NO_MEMORY. */
-vmig_status vmig_save(const vmig_machine *m, uint8_t *buf, size_t size, size_t *len) VMIG_CHECKED_(1, 4);
+vmig_status vmig_save(const vmig_machine *m, uint8_t *buf, size_t size, size_t *len)
+    VMIG_CHECKED_(1, 4) VMIG_WRITES_(2, 3, buf, size);
 
 /* ---- a machine arrives ------------------------------------------------------------------------------------------------------- */
 
@@ -882,7 +926,7 @@ vmig_status vmig_arrive(vmig_arrival *arrival, vmig_machine *m) VMIG_CHECKED_(1,
  * at the header STREAM_TOO_LARGE comes before STREAM_MISMATCH, and nothing was written then. From then on each call is
  * VMIG_STREAM_FAILED, until vmig_free or vmig_release: what a peer sends on is looked at no more. Nothing may follow the stream's
  * last byte (STREAM_TRAILING): a source that waits for your word then needs to send no length. */
-vmig_status vmig_feed(vmig_machine *m, const uint8_t *bytes, size_t len) VMIG_CHECKED_(1);
+vmig_status vmig_feed(vmig_machine *m, const uint8_t *bytes, size_t len) VMIG_CHECKED_(1) VMIG_READS_(2, 3, bytes, len);
 
 /* The handle has the machine, idle. Sync its images (where that fails free it, and the source continues), then tell the source, and
  * wait for its word; then call vmig_sync_failed for each disk outside that is lost, read the lines, do its work, ask for calls of
@@ -894,7 +938,8 @@ vmig_status vmig_finish(vmig_machine *m) VMIG_CHECKED_(1);
  * tell, often 17 do, and *out is as it was. An arrival that has failed describes no pages and no devices: a host that will say what
  * machine it refused, as after STREAM_TOO_LARGE or STREAM_BAD_DEVICE, keeps the first 496 bytes for this call.
  * STREAM_BAD_MAGIC, STREAM_BAD_VERSION, STREAM_BAD_SHAPE, NO_MEMORY. */
-vmig_status vmig_stream_describe(const uint8_t *bytes, size_t len, vmig_description *out) VMIG_CHECKED_(3);
+vmig_status vmig_stream_describe(const uint8_t *bytes, size_t len, vmig_description *out)
+    VMIG_CHECKED_(3) VMIG_READS_(1, 2, bytes, len);
 
 static inline const char *vmig_status_name(vmig_status status)
 {
@@ -922,7 +967,7 @@ static inline const char *vmig_status_name(vmig_status status)
 #undef VMIG_NAMED_
 }
 
-/* ---- RAM and images that are null and have a length -------------------------------------------------------------------------- */
+/* ---- RAM, images and pages that are null and have a length ------------------------------------------------------------------- */
 
 static inline int vmig_is_null_ram_(const vmig_ram *ram) { return ram->at == VMIG_NULL_ && ram->len != 0; }
 
@@ -966,20 +1011,65 @@ VMIG_CHECKED_(1, 2) static inline vmig_status vmig_arrive_or_null_(vmig_arrival 
     return (vmig_arrive)(&copy, m);
 }
 
+/* Pages whose list or bitmap is null and has a count, or whose bitmap has none and would name nothing: a copy with a bitmap that is
+ * too small for its span. */
+VMIG_NONNULL_(1) static inline vmig_pages vmig_pages_or_few_(const vmig_pages *written)
+{
+    static const uint64_t word = 0;
+    int is_list = written->list == VMIG_NULL_ && written->count != 0;
+    int is_bitmap = (written->words == VMIG_NULL_) != (written->count_words == 0);
+    vmig_pages copy = *written;
+
+    if (!is_list && !is_bitmap) return copy;
+    copy.list = VMIG_NULL_, copy.count = 0;
+    copy.words = &word, copy.count_words = 1, copy.first = 0, copy.span = UINT32_MAX;
+    return copy;
+}
+
 VMIG_CHECKED_(1, 2, 3) static inline vmig_status vmig_give_back_or_null_(vmig_machine *m, vmig_ram *ram, const vmig_pages *written)
 {
+    vmig_pages pages = vmig_pages_or_few_(written);
     uint8_t byte = 0;
     vmig_ram none = {&byte, 1};
 
-    return (vmig_give_back)(m, vmig_is_null_ram_(ram) ? &none : ram, written);
+    return (vmig_give_back)(m, vmig_is_null_ram_(ram) ? &none : ram, &pages);
+}
+
+VMIG_CHECKED_(1, 2) static inline vmig_status vmig_mark_or_null_(vmig_machine *m, const vmig_pages *written)
+{
+    vmig_pages pages = vmig_pages_or_few_(written);
+
+    return (vmig_mark)(m, &pages);
+}
+
+static inline vmig_status vmig_push_or_null_(vmig_machine *m, const vmig_pages *written, const uint8_t *ram, size_t len,
+    uint64_t *seen, size_t count) VMIG_CHECKED_(1, 2) VMIG_READS_(3, 4, ram, len) VMIG_WRITES_(5, 6, seen, count);
+
+static inline vmig_status vmig_push_or_null_(vmig_machine *m, const vmig_pages *written, const uint8_t *ram, size_t len,
+    uint64_t *seen, size_t count)
+{
+    vmig_pages pages = vmig_pages_or_few_(written);
+
+    return (vmig_push)(m, &pages, ram, len, seen, count);
 }
 
 #define vmig_make(...) vmig_make_or_null_(__VA_ARGS__)
 #define vmig_arrive(...) vmig_arrive_or_null_(__VA_ARGS__)
 #define vmig_give_back(...) vmig_give_back_or_null_(__VA_ARGS__)
+#define vmig_mark(...) vmig_mark_or_null_(__VA_ARGS__)
+#define vmig_push(...) vmig_push_or_null_(__VA_ARGS__)
 
 #undef VMIG_CHECKED_
 #undef VMIG_NONNULL_
+#undef VMIG_READS_
+#undef VMIG_WRITES_
+#undef VMIG_CHANGES_
+#undef VMIG_SECTOR_
+#ifdef VMIG_FITS_
+#undef VMIG_FITS_
+#undef VMIG_WARNS_
+#pragma clang diagnostic pop
+#endif
 
 #ifdef __cplusplus
 }
