@@ -114,7 +114,8 @@ static int is_enough(struct host *h, int round)
     return vmig_send_left(&h->machine, &left) != VMIG_OK || left.dirty_pages + left.dirty_sectors <= FEW || round == ROUNDS;
 }
 
-/* The whole stream. RAM is back, and the bitmaps are on and empty; from the stop on the guest is paused. */
+/* The whole stream. RAM is back, and the bitmaps are on and empty; from the stop on the guest is paused. 0: it has failed; call vmig_send_abort,
+ * and let the guest run on. */
 static int send_machine(struct host *h)
 {
     uint64_t pages, sectors;
