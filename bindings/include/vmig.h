@@ -684,8 +684,8 @@ vmig_status vmig_reg_write(vmig_machine *m, uint8_t dev, uint32_t off, uint8_t w
     VMIG_CHECKED_(1, 6);
 
 /* The interrupt lines, level triggered: bit d is set while device d has an interrupt that its driver has not acknowledged; 0 of no
- * machine. No status. Read them after each call that may change them: a register write, a
- * step, a resize, a reset. Tell a controller of changes alone: some take a level that is told again for another interrupt. */
+ * machine. No status. Read them after each call that may change them: a register write, a step, a resize, a reset. Tell a
+ * controller of changes alone: some take a level that is told again for another interrupt. */
 uint32_t vmig_lines(const vmig_machine *m) VMIG_NONNULL_(1);
 
 /* The host puts bytes in: entropy, text for a console, or one frame, of 14 bytes to the longest of its device. *kept of its bytes
