@@ -1,4 +1,5 @@
-"""Checks of texts that are in the sources: laws that are handed on, the table of records, statuses that programs meet, and drops."""
+"""Checks of texts that are in the sources: laws that are handed on, the table of records, statuses that programs meet, comments of calls, and
+drops."""
 
 import re
 
@@ -56,6 +57,23 @@ def check_statuses(differences):
     return f"{len(names)} statuses are met"
 
 
+# How many lines a comment before a call has at the most: what is longer stands in the introduction.
+COMMENT_LINES = 6
+
+
+def check_comments(differences):
+    """Each call of vmig.h has a comment right before it, or before the call with which it shares one, that is short enough to be read alone."""
+    text = read(TOP / "bindings/include/vmig.h")
+    comments = re.findall(r"^(/\*(?:(?!\*/).)*\*/)\n(?:vmig_status|void|uint32_t) (vmig_\w+)\(", text, flags=re.M | re.S)
+    for comment, name in comments:
+        lines = comment.count("\n") + 1
+        if lines > COMMENT_LINES:
+            differences.append(f"vmig.h: the comment of {name} has {lines} lines, more than {COMMENT_LINES}")
+    if len(comments) < 41:
+        differences.append(f"vmig.h: only {len(comments)} calls have a comment right before them")
+    return f"{len(comments)} comments of calls are short"
+
+
 # What runs, or does not run, as a value is let go, and the files that may have it. No contract of a caller speaks of these.
 DROPS = [
     (r"impl\b[^{;]*\bDrop for\b", ("crates/region/src/kept_region.rt",), "a drop that is written by hand"),
@@ -74,4 +92,4 @@ def check_drops(differences):
     return f"{len(paths)} sources let go of values by derived drops"
 
 
-CHECKS = check_laws, check_records, check_statuses, check_drops
+CHECKS = check_laws, check_records, check_statuses, check_comments, check_drops

@@ -32,10 +32,15 @@
  * RULES, which nothing checks:
  * - A vmig_machine is VMIG_NONE (all zeros) before its first use, and only these calls write it. It may be moved, as by memcpy, but
  *   a copy must not be used beside it.
- * - A pointer whose count is 0 may be null, and no other: each out-parameter is written somewhere. Compilers that know the
- *   attribute `nonnull` warn of a null. A pointer and a count n name n items, which the call may read, and may also write unless
- *   the pointer is to const. Pointers are aligned as their types are; RAM and images have any alignment. (RAM or an image that is
- *   null and has a length is refused all the same: see `vmig_make`.)
+ * - A pointer whose count is 0 may be null, and no other: each out-parameter is written somewhere. A pointer and a count n name n
+ *   items, which the call may read, and may also write unless the pointer is to const. Pointers are aligned as their types are;
+ *   RAM and images have any alignment. gcc and clang warn of a null, of a null with a count, and of a buffer that is smaller than
+ *   its count, where they see it.
+ * - These are refused all the same: RAM or an image that is null and has a length, as BAD_RAM or BAD_IMAGES, by vmig_make,
+ *   vmig_arrive and vmig_give_back; and pages whose list or bitmap is null and has a count, or whose bitmap has none, as
+ *   TOO_SMALL, by vmig_give_back, vmig_mark and vmig_push. The library cannot see it: the inline functions at the end of this
+ *   header do, which macros of these five names call. (vmig_make)(..), and the address of vmig_make, are the library's own call,
+ *   which takes such a pointer at its word.
  * - What a call may write overlaps with nothing else that the call is given, no pointer points into a vmig_machine, and no image
  *   overlaps another one or RAM.
  * - One call at a time for each machine, also of calls that take it as const. Calls from several threads are ordered by a lock, or
@@ -86,16 +91,34 @@
  *     send_some, send_round,
  *       send_stop              NO_MACHINE  NO_MACHINE        NOT_SENDING  .            STOPPED      LENT
  *     send_abort               NO_MACHINE  NO_MACHINE        NOT_SENDING  .            .            LENT
- *     send_left, send_take     NO_MACHINE  NO_MACHINE        NOT_SENDING  .            .            as not lent
+ *     send_left, send_take     NO_MACHINE  NO_MACHINE        NOT_SENDING  .            .            (5)
  *
  *     (1) After VMIG_SEND_FAILED too, where send_begin, send_some, send_round and send_stop are SEND_FAILED (send_stop CALLS_OUT,
  *         if any call is out).
  *     (2) A machine that is idle or sending, and whose RAM is out.
  *     (3) Of an arrival that has failed they are STREAM_FAILED.
  *     (4) LENT of a read that is out.
+ *     (5) As if not lent: see the other columns.
  *
  * A machine is sending from vmig_send_begin on, and stopped after vmig_send_stop: its guest is paused then. vmig_send_abort makes
  * it idle again.
+ *
+ * STEPS. The work of the devices is made of steps. A step names a device and a `pick`, the number of the piece of work:
+ * - a block device: 0 takes the next request (none while 8 are outstanding), and k, from 1 to 8, brings the k-th request that it
+ *   has taken one unit on (a sector, a flush or the id), or ends it.
+ * - an entropy device: 0 fills the next buffer.
+ * - a network device and a console: 0 fills the next receive buffer, and 1 takes the next message to be sent.
+ *     vmig_next names the steps that have something to do, and vmig_step makes one; vmig_work does both, until a step needs you. A
+ * step that is named is not VMIG_IDLE, or it finds a queue empty, and then that queue has nothing to do until its driver notifies
+ * the device anew (a kick: a write to QueueNotify). What a step may send has to fit your buffer: the longest frame is enough for a
+ * network device, 65,536 bytes for a console, and 0 for a block or entropy device and for each pick but 1.
+ *     A step is VMIG_SYNC where the guest takes what it wrote to this disk for durable by it: it makes a flush, or it ends a write
+ * whose driver did not accept the feature FLUSH (VIRTIO 1.2, 5.2.6.2). Bring the image to its file before you make the step, or
+ * call vmig_sync_failed in its place. Of a disk in memory of the library, and of an image behind which no file lies, the answer is
+ * the same, and nothing is to be brought: make the step.
+ *     vmig_next is VMIG_CALL where no step of any device has anything to do, and vmig_disk_call would hand out a call, whatever
+ * the size of its buffer, 512 bytes at least. It is VMIG_IDLE where neither is so: what waits may not be handed out whole until a
+ * call that is out is answered, or numbers are used up.
  *
  * A TURN OF THE DEVICES, after each register write and each vmig_input, before the guest runs again. With RAM that is not lent:
  *
@@ -125,6 +148,13 @@
  * them after the turn, before the guest runs, is as good as one after each step. Do a console's steps before the register write
  * returns to the guest: Linux waits for them with interrupts off. A host that holds a device back, as for a rate, makes its steps
  * singly, by vmig_next and vmig_step.
+ *
+ * WHAT YOU PUT IN, by vmig_input, waits in its device until the guest takes it. Entropy devices and consoles hold 4,096 bytes.
+ * Network devices hold 64 frames, or, where the longest has more than 1,514 bytes, 96,896 / longest: 63 of 1,518, 10 of 9,018, one
+ * of 65,535, and no more of short ones. Put in entropy before the guest runs, and as it is taken: at an empty pool a request
+ * waits, and no step is named for it. A network device whose shape names its longest frame offers its driver MTU, which is 18
+ * bytes less: an Ethernet header and a VLAN tag. Of more than MTU + 14 bytes put in frames with a VLAN tag alone (VIRTIO 1.2,
+ * 5.1.4.1).
  *
  * DISKS IN YOUR MEMORY, as in a file that you mapped: a vmig_image says where the sectors of a disk are. What the guest writes is
  * there at once. From vmig_make or vmig_arrive until vmig_free or vmig_release the bytes are the machine's: nothing else reads or
@@ -179,6 +209,20 @@
  *   only then tell the target, and which of its disks are lost. It opens the storage, calls vmig_sync_failed for each that is lost,
  *   after vmig_finish, and then runs the guest.
  *
+ * A DISK THAT IS LOST, by vmig_sync_failed, could not be brought to its file; or it is outside, and its storage may have lost
+ * writes that it answered. That is for good: the system reports bytes that did not reach the storage once, and the next sync
+ * answers 0 though they are gone. The disk stays lost until the machine is freed, through vmig_reset and a driver's reset too, and
+ * in no stream. vmig_sync_failed is the call also for a sync of your own that failed without a step.
+ * - Of a disk in the machine each step that makes a flush is made as one whose disk failed (DISK_FAILED), so the guest reads an
+ *   error. A step that would end a write of a driver that did not accept FLUSH is named and made no more (vmig_next and vmig_work
+ *   pass it over, vmig_step is IDLE), so the guest reads no success. VMIG_SYNC is no longer reported for this disk; every other
+ *   step is as ever. End the guest soon, or move it: a move sends what the page cache still has, and what arrives lies in another
+ *   file. Make no machine over that file again: who opens it later gets no report.
+ * - Of a disk outside no answer of a flush, or of a write or clearing that is durable, counts as done any more, also of one that
+ *   is out: its request ends with an error, whatever vmig_disk_done was told. Calls are asked for as ever, and reads, and writes
+ *   and clearings that are not durable, are served as ever. What was durable when it was answered stays so. A machine that arrives
+ *   lies over the same storage: its host is told by yours, and makes this call after vmig_finish, before the guest runs.
+ *
  * RAM OF YOURS, as under hardware virtualization: the guest runs on memory of yours, and its devices read and write the same bytes:
  * nothing is copied. vmig_lend lends RAM to you, and you run the guest; registers are served while it is lent, and so is what you
  * put in; vmig_give_back takes RAM back for the devices' work:
@@ -188,20 +232,21 @@
  *         vmig_pages none = VMIG_NO_PAGES;
  *         if (vmig_lend(m, &ram) != VMIG_OK) return;
  *         while (!has_work(m)) {                             vmig_next is not VMIG_IDLE, for a register write kicked a queue
- *             run_guest(ram.at, ram.len);                    until one of its processors touches a device
+ *             run_guest(ram.at, ram.len);                    until one of its vCPUs touches a device
  *             access_register(m);                            by vmig_reg_write or vmig_reg_read; the others go on running
  *         }
- *         bring_all_processors_out();
+ *         bring_all_vcpus_out();
  *         if (vmig_give_back(m, &ram, &none) != VMIG_OK) return;
  *         do_work(m);                                        and vmig_disk_call until VMIG_IDLE, where a disk is outside
  *     }
  *
- * Every processor of the guest is outside while RAM is not lent, for the devices write into it then: for steps, copies, the end of
- * a round, the stop and RAM's own calls, and for nothing else. The devices see what was written at once, but a page is sent anew
- * only once it is named: at a return, or by vmig_mark, by a list (vmig_list) or a log of dirty pages as it is (vmig_bitmap). None
- * needs a name before vmig_send_begin; each that was written needs one before vmig_send_round and before vmig_send_stop.
- * vmig_send_left counts what was named: so mark, then ask what is left, then decide. Who may touch the bytes, to read or to write
- * them:
+ * Every vCPU, a processor of the guest, is outside while RAM is not lent, for the devices write into it then: for steps, copies,
+ * the end of a round, the stop and RAM's own calls, and for nothing else. The devices see what was written at once, but a page is
+ * sent anew only once it is named: at a return, or by vmig_mark, by a list (vmig_list) or a dirty bitmap as it is (vmig_bitmap).
+ * None needs a name before vmig_send_begin, but for vmig_pull; each that was written needs one before vmig_send_round and before
+ * vmig_send_stop. A list takes no memory, and time for its pages alone; a bitmap one look for each word and each page that is
+ * marked. vmig_send_left counts what was named: so mark, then ask what is left, then decide. Who may touch the bytes, to read or
+ * to write them:
  *
  *                         before make, arrive  idle, sending  lent  stopped  arriving, failed  after free, release
  *     you and the guest   yes                  no             yes   no       no                yes
@@ -221,11 +266,11 @@
  * before vmig_send_round and vmig_send_stop.
  *
  * A MACHINE IS SENT WHILE IT RUNS: vmig_send_begin, then vmig_send_some until VMIG_ROUND_DONE and vmig_send_round, as often as you
- * like, then vmig_send_stop. The guest is served as before between these. The bytes that are written wait inside, and
- * vmig_send_take hands them out when you like; after vmig_send_stop the bytes taken, in their order, are one stream. From then on
- * the guest is paused, until vmig_send_abort or vmig_free. vmig_send_abort says when the guest may run here again. The machine that
- * arrives may run once the source has said so, and not before: else two hosts run one guest. A host whose protocol has no such word
- * has let go of the guest with the last byte of the stream.
+ * like, then vmig_send_stop. The guest is served as before between these. The bytes of the stream are buffered until
+ * vmig_send_take drains them; after vmig_send_stop the bytes taken, in their order, are one stream. From then on the guest is
+ * paused, until vmig_send_abort or vmig_free. vmig_send_abort says when the guest may run here again. The machine that arrives may
+ * run once the source has said so, and not before: else two hosts run one guest. A host whose protocol has no such word has let go
+ * of the guest with the last byte of the stream.
  *
  * A MACHINE ARRIVES: vmig_arrive, with the most that you allow, then vmig_feed with the bytes of the stream in any pieces, as they
  * come over the wire, until VMIG_WHOLE, and vmig_finish. Before its guest runs read the lines, do the devices' work, and ask for
@@ -256,13 +301,39 @@ extern "C" {
 #define VMIG_NULL_ 0
 #endif
 
-/* A status that nobody looks at is a mistake, and so is a null for one of the parameters of these numbers. */
+/* A status that nobody looks at is a mistake, and so is a null for one of the parameters of these numbers. So is a null with a
+ * count, and a buffer of fewer items than its count says: the at-th parameter is read or written, and the count-th is its count. */
 #if defined(__GNUC__)
 #define VMIG_CHECKED_(...) __attribute__((warn_unused_result, nonnull(__VA_ARGS__)))
 #define VMIG_NONNULL_(...) __attribute__((nonnull(__VA_ARGS__)))
 #else
 #define VMIG_CHECKED_(...)
 #define VMIG_NONNULL_(...)
+#endif
+
+#if defined(__has_attribute)
+#if __has_attribute(access)
+#define VMIG_READS_(at, count, bytes, len) __attribute__((access(read_only, at, count)))
+#define VMIG_WRITES_(at, count, buf, size) __attribute__((access(write_only, at, count)))
+#define VMIG_CHANGES_(at, count, buf, size) __attribute__((access(read_write, at, count)))
+#define VMIG_SECTOR_(buf)
+#elif __has_attribute(diagnose_if)
+#pragma clang diagnostic push
+#pragma clang diagnostic ignored "-Wgcc-compat"
+#define VMIG_WARNS_(when, what) __attribute__((diagnose_if(when, what, "warning")))
+#define VMIG_FITS_(at, count) VMIG_WARNS_((at) == VMIG_NULL_ && (count) > 0, "a null pointer with a count") \
+    VMIG_WARNS_(__builtin_object_size(at, 0) / sizeof *(at) < (count), "a buffer of fewer items than its count says")
+#define VMIG_READS_(at, count, bytes, len) VMIG_FITS_(bytes, len)
+#define VMIG_WRITES_(at, count, buf, size) VMIG_FITS_(buf, size)
+#define VMIG_CHANGES_(at, count, buf, size) VMIG_FITS_(buf, size)
+#define VMIG_SECTOR_(buf) VMIG_WARNS_(__builtin_object_size(buf, 0) < 512, "a buffer of fewer bytes than a sector")
+#endif
+#endif
+#ifndef VMIG_READS_
+#define VMIG_READS_(at, count, bytes, len)
+#define VMIG_WRITES_(at, count, buf, size)
+#define VMIG_CHANGES_(at, count, buf, size)
+#define VMIG_SECTOR_(buf)
 #endif
 
 /* The version of this library. It reads streams of versions 1 to 3. It writes version 3 where a device is for frames of more than
@@ -300,7 +371,8 @@ enum {
     VMIG_NO_MACHINE = 8,                /* the handle has no machine, or one that still arrives */
     VMIG_IN_USE = 9,                    /* the handle has a machine already, or one arrives; feed, finish: it has arrived */
     VMIG_NO_MEMORY = 10,                /* out of memory: malloc or realloc failed */
-    VMIG_TOO_SMALL = 11,                /* your buffer, your slots or your bitmap */
+    VMIG_TOO_SMALL = 11,                /* your buffer, your slots or your bitmap; of pages: a null with a count, or a bitmap
+                                         * without one */
     VMIG_BAD_SHAPE = 12,                /* not 1 to 16 devices, or one beyond the limits (VMIG_LARGE), or of an unknown kind */
     VMIG_BAD_IMAGES = 15,               /* contents or images that do not fit the disks; release: a slot that has sectors */
     VMIG_NOT_SENDING = 17,              /* the machine is not being sent */
@@ -331,8 +403,8 @@ enum {
     VMIG_STREAM_BAD_PAGE = 38,          /* there is no such page, or, since version 2, its 4,096 bytes are all 0 */
     VMIG_STREAM_BAD_SECTOR = 39,        /* there is no such sector */
     VMIG_STREAM_BAD_ROUND = 40,         /* the end of a round that is not the next */
-    VMIG_STREAM_BAD_DEVICE = 41,        /* a device that is not the next, or cannot be: so it is of most arrivals whose base is not
-                                         * that of the machine that was sent */
+    VMIG_STREAM_BAD_DEVICE = 41,        /* an out-of-order device record, or an invalid device body: so it is of most arrivals whose
+                                         * base is not that of the machine that was sent */
     VMIG_STREAM_BAD_DIGEST = 42,        /* the digest is another */
     VMIG_STREAM_MISSING = 43,           /* a page, a sector or a device is missing */
     VMIG_STREAM_TRAILING = 44,          /* bytes after its end */
@@ -419,13 +491,15 @@ typedef struct vmig_ram {
 #define VMIG_NO_RAM {VMIG_NULL_, 0}
 
 /* Pages of RAM: those of a list, those of a bitmap as KVM_GET_DIRTY_LOG fills it, both, or all. Begin with vmig_list, vmig_bitmap,
- * VMIG_NO_PAGES or VMIG_ALL_PAGES, and not field by field: a pointer whose count was forgotten names nothing, and its pages are
- * lost at the target. The pages of a list come in any order, and one may come twice. */
+ * VMIG_NO_PAGES or VMIG_ALL_PAGES, and not field by field: a list whose count was forgotten names nothing, and its pages are lost
+ * at the target. A bitmap without a count, and a null with one, are VMIG_TOO_SMALL. The pages of a list come in any order, and one
+ * may come twice. */
 typedef struct vmig_pages {
     const uint32_t *list;
     size_t count;
     const uint64_t *words;              /* bit k of words[n], the lowest being bit 0, is page first + 64 * n + k */
-    size_t count_words;                 /* at least one for each 64 pages of span, else VMIG_TOO_SMALL; 0: no bitmap */
+    size_t count_words;                 /* at least one for each 64 pages of span, else VMIG_TOO_SMALL; 0: no bitmap,
+                                         * and words is null then */
     uint32_t first, span;               /* the pages that the bitmap covers, as a memory slot has them. A span of 0 reaches from
                                          * first to RAM's end, and one that reaches past it is VMIG_OUT_OF_RAM. Bits past the
                                          * span are not looked at */
@@ -573,12 +647,9 @@ enum {
 uint32_t vmig_version(void);
 
 /* Makes a machine as the setup says, in any mixture of RAM, of yours or of the library, and of disks: zeros, your contents, or
- * images.
- *     RAM or an image that is null and has a length is BAD_RAM or BAD_IMAGES, of vmig_arrive and vmig_give_back too. The library
- * cannot see it: the inline functions at the end of this header do, which macros of these three names call. (vmig_make)(..), and
- * the address of vmig_make, are the library's own call, which takes such a pointer at its word.
- * NOT_KNOWN, BAD_RAM (not whole pages, none or too many; pages and ram differ; null), BAD_SHAPE, BAD_BASE, BAD_IMAGES (contents and
- * images; counts, lengths or sectors that are not those of the disks; null), NO_MEMORY. */
+ * images. VMIG_OK takes RAM and images: ram of the setup is VMIG_NO_RAM then, and each image VMIG_NO_IMAGE.
+ * NOT_KNOWN, BAD_RAM (not whole pages, none or too many; pages and ram differ; null), BAD_SHAPE, BAD_BASE, BAD_IMAGES (contents
+ * and images; counts, lengths or sectors that are not those of the disks; null), NO_MEMORY. */
 vmig_status vmig_make(vmig_setup *setup, vmig_machine *m) VMIG_CHECKED_(1, 2);
 
 /* Frees whatever the handle has, also while RAM is lent; it is VMIG_NONE then. RAM and images of yours are yours again, where they
@@ -590,7 +661,7 @@ void vmig_free(vmig_machine *m) VMIG_NONNULL_(1);
  * hold what they held, and in part the sectors of the stream. Without images no slot is needed. RAM of yours is yours again too,
  * where it lay.
  * BAD_IMAGES (a slot whose sectors are not 0), TOO_SMALL (slots). */
-vmig_status vmig_release(vmig_machine *m, vmig_image *slots, size_t count) VMIG_CHECKED_(1);
+vmig_status vmig_release(vmig_machine *m, vmig_image *slots, size_t count) VMIG_CHECKED_(1) VMIG_CHANGES_(2, 3, slots, count);
 
 /* What the handle has. Never refused: of no machine the state is VMIG_IS_NONE, and the rest 0. */
 void vmig_describe(const vmig_machine *m, vmig_description *out) VMIG_NONNULL_(1, 2);
@@ -613,19 +684,16 @@ vmig_status vmig_reg_write(vmig_machine *m, uint8_t dev, uint32_t off, uint8_t w
     VMIG_CHECKED_(1, 6);
 
 /* The interrupt lines, level triggered: bit d is set while device d has an interrupt that its driver has not acknowledged; 0 of no
- * machine. No status. Read them after each call that may change them: a register write, a
- * step, a resize, a reset. Tell a controller of changes alone: some take a level that is told again for another interrupt. */
+ * machine. No status. Read them after each call that may change them: a register write, a step, a resize, a reset. Tell a
+ * controller of changes alone: some take a level that is told again for another interrupt. */
 uint32_t vmig_lines(const vmig_machine *m) VMIG_NONNULL_(1);
 
 /* The host puts bytes in: entropy, text for a console, or one frame, of 14 bytes to the longest of its device. *kept of its bytes
- * were kept: the first ones, a frame whole or not at all. The rest is still yours. Entropy devices and consoles hold 4,096 bytes.
- * Network devices hold 64 frames, or, where the longest has more than 1,514 bytes, 96,896 / longest: 63 of 1,518, 10 of 9,018, one
- * of 65,535, and no more of short ones. Put in entropy before the guest runs, and as it is taken: at an empty pool a request waits,
- * and no step is named for it.
- *     A network device whose shape names its longest frame offers its driver MTU, which is 18 bytes less: an Ethernet header and a
- * VLAN tag. Of more than MTU + 14 bytes put in frames with a VLAN tag alone (VIRTIO 1.2, 5.1.4.1).
+ * were kept: the first ones, a frame whole or not at all. The rest is still yours. An entropy device and a console hold 4,096
+ * bytes, a network device 64 frames, or fewer of longer ones (WHAT YOU PUT IN, above). The device may have work then: make a turn.
  * NO_DEVICE, WRONG_KIND (a block device), BAD_FRAME. */
-vmig_status vmig_input(vmig_machine *m, uint8_t dev, const uint8_t *bytes, size_t len, size_t *kept) VMIG_CHECKED_(1, 5);
+vmig_status vmig_input(vmig_machine *m, uint8_t dev, const uint8_t *bytes, size_t len, size_t *kept)
+    VMIG_CHECKED_(1, 5) VMIG_READS_(3, 4, bytes, len);
 
 /* *room becomes how many bytes (of a network device: frames) vmig_input would keep. NO_DEVICE, WRONG_KIND (a block device). */
 vmig_status vmig_room(const vmig_machine *m, uint8_t dev, size_t *room) VMIG_CHECKED_(1, 3);
@@ -645,28 +713,22 @@ vmig_status vmig_reset(vmig_machine *m) VMIG_CHECKED_(1);
 
 /* ---- work: steps of the devices, which read and write RAM -------------------------------------------------------------------- */
 
-/* Names a step that has something to do: *dev and *pick become its numbers. It is the first in turn after the step that they name
- * before the call, so begin with 0 and 0, and leave them to the next call. In turn are all picks of a device, then those of the
- * next device, and after the last device the first again.
- * VMIG_WORK. VMIG_SYNC, where the guest takes what it wrote to this disk for durable by that step: it makes a flush, or it ends a
- * write whose driver did not accept the feature FLUSH (VIRTIO 1.2, 5.2.6.2). Bring the image to its file before you make the step,
- * or call vmig_sync_failed in its place. Of a disk in memory of the library, and of an image behind which no file lies, the answer
- * is the same, and nothing is to be brought: make the step. VMIG_CALL, where no step of any device has anything to do, and
- * vmig_disk_call would hand out a call, whatever the size of its buffer, 512 bytes at least: *dev becomes its device, and *pick is
- * as it was. VMIG_IDLE, where neither is so: what waits may not be handed out whole until a call that is out is answered, or
- * numbers are used up; both are as they were. The step that is named is not VMIG_IDLE, or it finds a queue empty, and then that
- * queue has nothing to do until its driver notifies the device anew. It reads no RAM. */
+/* Names a step that has something to do: *dev and *pick become its numbers. Round robin: all picks of one device, then the next
+ * device, wrapping around, from the step on that comes after the one that they name before the call. Begin with 0 and 0, and leave
+ * them to the next call. It reads no RAM. VMIG_WORK: make the step. VMIG_SYNC: bring the device's disk to its file first, since
+ * the guest takes what it wrote for durable by this step; or call vmig_sync_failed in its place. VMIG_CALL: no step has anything
+ * to do, and vmig_disk_call would hand out a call; *dev becomes its device, *pick is as it was. VMIG_IDLE: neither is so; both are
+ * as they were. */
 vmig_status vmig_next(const vmig_machine *m, uint8_t *dev, uint8_t *pick) VMIG_CHECKED_(1, 2, 3);
 
-/* A device does one piece of its work, which the pick names. A block device: pick 0 takes the next request (none while 8 are
- * outstanding), and pick k, from 1 to 8, brings the k-th request that it has taken one unit on, or ends it. An entropy device: pick
- * 0 fills the next buffer. A network device and a console: pick 0 fills the next receive buffer, and pick 1 takes the next message
- * to be sent, which goes into buf; the bytes of buf after it are as they were. *len becomes the length of a message (SENT), or the
- * used length (COMPLETED), and is as it was with any other status.
- * IDLE (nothing to do, or a pick that names no work of the device), TAKEN, MOVED, BAD_SECTOR, DISK_FAILED, COMPLETED, SENT,
- * DROPPED, NEEDS_RESET. NO_DEVICE, TOO_SMALL (it may send more than size: the longest frame is enough for a network device,
- * 65,536 for a console, and 0 for a block or entropy device and for each pick but 1), NO_MEMORY. */
-vmig_status vmig_step(vmig_machine *m, uint8_t dev, uint8_t pick, uint8_t *buf, size_t size, uint32_t *len) VMIG_CHECKED_(1, 6);
+/* A device does one piece of its work. Of a block device pick 0 takes the next request, and k, 1 to 8, brings the k-th that it has
+ * taken one unit on, or ends it. Of the others 0 fills the next buffer, and of a network device and a console 1 takes the next
+ * message to be sent, to the front of buf, whose other bytes stay. *len becomes its length (SENT), or the used length (COMPLETED),
+ * or stays.
+ * IDLE (nothing to do, or no such pick), TAKEN, MOVED, BAD_SECTOR, DISK_FAILED, COMPLETED, SENT, DROPPED, NEEDS_RESET. NO_DEVICE,
+ * TOO_SMALL (it may send more than size: pick 1 alone sends, a longest frame, or 65,536 bytes of a console), NO_MEMORY. */
+vmig_status vmig_step(vmig_machine *m, uint8_t dev, uint8_t pick, uint8_t *buf, size_t size, uint32_t *len)
+    VMIG_CHECKED_(1, 6) VMIG_WRITES_(4, 5, buf, size);
 
 /* A turn of the devices. Begin with VMIG_TURN, keep it with the machine, and set `left` before each turn. */
 typedef struct vmig_turn {
@@ -680,29 +742,20 @@ typedef struct vmig_turn {
 
 #define VMIG_TURN {0, 0, 0, 0, 0, 0, {0, 0}}
 
-/* The steps that vmig_next names, one after another, as vmig_step makes them, until one of these comes. Call it again to go on.
- * VMIG_IDLE: no step has anything to do; a call of a disk outside may wait to be asked all the same. VMIG_WORK: there is more to
- * do; `left` is 0, or memory was refused to a step that was not the first of this call: that one is made by the next call.
- * VMIG_SYNC: a step was passed over, see vmig_next; bring the disk to its file, and make the step by vmig_step, or call
- * vmig_sync_failed. SENT, DROPPED, NEEDS_RESET, BAD_SECTOR, DISK_FAILED, and COMPLETED of an entropy device, which has room for
- * bytes now: of the step `dev`, `pick`, which was made last.
- * NOT_KNOWN (of the turn), TOO_SMALL (size is less than vmig_describe's message), NO_MEMORY (of the first step, and then nothing
- * has changed; to let others go first, let vmig_next set dev and pick). */
-vmig_status vmig_work(vmig_machine *m, vmig_turn *turn, uint8_t *buf, size_t size) VMIG_CHECKED_(1, 2);
+/* Makes the steps that vmig_next names, until one of these comes; call it again to go on. VMIG_IDLE: no step has anything to do (a
+ * call of a disk outside may wait). VMIG_WORK: there is more; `left` is 0, or memory was refused to a later step, which the next
+ * call makes. VMIG_SYNC: `dev`, `pick` was passed over: bring its disk to its file, and make it by vmig_step, or call
+ * vmig_sync_failed. SENT, DROPPED, NEEDS_RESET, BAD_SECTOR, DISK_FAILED, COMPLETED (an entropy device, with room now): `dev`,
+ * `pick` was made last. NOT_KNOWN (of the turn), TOO_SMALL (size is less than vmig_describe's message), NO_MEMORY (of the first
+ * step: nothing has changed; to let others go first, let vmig_next set dev and pick). */
+vmig_status vmig_work(vmig_machine *m, vmig_turn *turn, uint8_t *buf, size_t size)
+    VMIG_CHECKED_(1, 2) VMIG_WRITES_(3, 4, buf, size);
 
-/* The disk of this device is lost: it could not be brought to its file; or it is outside, and its storage may have lost writes that
- * it answered. That is for good: the system reports bytes that did not reach the storage once, and the next sync answers 0 though
- * they are gone. The disk stays lost until the machine is freed, through vmig_reset and a driver's reset too, and in no stream. It
- * is the call also for a sync of your own that failed without a step.
- *     Of a disk in the machine each step that makes a flush is made as one whose disk failed (DISK_FAILED), so the guest reads an
- * error. A step that would end a write of a driver that did not accept FLUSH is named and made no more (vmig_next and vmig_work
- * pass it over, vmig_step is IDLE), so the guest reads no success. None of them says VMIG_SYNC of this disk any more, and every
- * other step is as ever. End the guest soon, or move it: a move sends what the page cache still has, and what arrives lies in
- * another file. Make no machine over that file again: who opens it later gets no report.
- *     Of a disk outside no answer of a flush, or of a write or clearing that is durable, counts as done any more, also of one that
- * is out: its request ends with an error, whatever vmig_disk_done was told. Calls are asked for as ever, and reads, and writes and
- * clearings that are not durable, are served as ever. What was durable when it was answered stays so. A machine that arrives lies
- * over the same storage: its host is told by yours, and makes this call after vmig_finish, before the guest runs.
+/* The disk of this device is lost, for good: it could not be brought to its file, or it is outside and its storage may have lost
+ * writes that it answered. Call it also for a sync of your own that failed. From then on no flush of it is told done, nor a write
+ * or clearing that has to be durable: a flush ends with an error (A DISK THAT IS LOST, above, says which requests wait). VMIG_SYNC
+ * is no longer reported for this disk; other steps are unaffected. It stays lost through each reset, until the machine is freed,
+ * and in no stream.
  * NO_DEVICE, WRONG_KIND (it has no disk). */
 vmig_status vmig_sync_failed(vmig_machine *m, uint8_t dev) VMIG_CHECKED_(1);
 
@@ -734,7 +787,8 @@ typedef struct vmig_call {
  * only read. At most 8 calls of a device are out, and devices take turns. Call it until VMIG_IDLE after each turn, and after each
  * answer; or where vmig_next says VMIG_CALL.
  * TOO_SMALL (size is less than 512). */
-vmig_status vmig_disk_call(vmig_machine *m, vmig_call *call, uint8_t *buf, size_t size) VMIG_CHECKED_(1, 2);
+vmig_status vmig_disk_call(vmig_machine *m, vmig_call *call, uint8_t *buf, size_t size)
+    VMIG_CHECKED_(1, 2) VMIG_WRITES_(3, 4, buf, size);
 
 /* `count` sectors of the call with this number were done, from its first one on: one at least, and no more than it has; of a flush
  * 0. bytes are those that were read, 512 * count; of other calls none. What it lacks is asked for anew, under another number.
@@ -742,7 +796,8 @@ vmig_status vmig_disk_call(vmig_machine *m, vmig_call *call, uint8_t *buf, size_
  * says that something is durable: that counts as failed. It is done while RAM is lent too, but for a read. After a refusal the call
  * is still out.
  * NOT_OUT, LENT (of a read), TOO_LONG (another count, or another number of bytes). */
-vmig_status vmig_disk_done(vmig_machine *m, uint64_t number, uint32_t count, const uint8_t *bytes, size_t len) VMIG_CHECKED_(1);
+vmig_status vmig_disk_done(vmig_machine *m, uint64_t number, uint32_t count, const uint8_t *bytes, size_t len)
+    VMIG_CHECKED_(1) VMIG_READS_(4, 5, bytes, len);
 
 /* The call with this number failed, and nothing of it can land any more: its request will end with an error. VMIG_OK also where
  * nothing waits for it any more. It is done while RAM is lent too. NOT_OUT. */
@@ -751,33 +806,35 @@ vmig_status vmig_disk_failed(vmig_machine *m, uint64_t number) VMIG_CHECKED_(1);
 /* The calls that are out: *count becomes how many, and the oldest of them, size at most, are at the front of calls, as they were
  * handed out, oldest first; what is after them is as it was. Room for 8 of each device is enough. For a host that lost the number
  * of a call, and lets it fail, or that counts the calls of a device. */
-vmig_status vmig_calls_out(const vmig_machine *m, vmig_call *calls, size_t size, size_t *count) VMIG_CHECKED_(1, 4);
+vmig_status vmig_calls_out(const vmig_machine *m, vmig_call *calls, size_t size, size_t *count)
+    VMIG_CHECKED_(1, 4) VMIG_WRITES_(2, 3, calls, size);
 
 /* ---- a look from outside ----------------------------------------------------------------------------------------------------- */
 
 /* A sector of the disk of a device, numbered from 0: VMIG_OK, and buf becomes its 512 bytes; or VMIG_BAD_SECTOR: it has none, and
  * buf is as it was. Nothing but the guest writes a disk. NO_DEVICE, WRONG_KIND (it has no disk), NO_SECTOR. */
-vmig_status vmig_sector_read(const vmig_machine *m, uint8_t dev, uint64_t sector, uint8_t buf[512]) VMIG_CHECKED_(1, 4);
+vmig_status vmig_sector_read(const vmig_machine *m, uint8_t dev, uint64_t sector, uint8_t buf[512])
+    VMIG_CHECKED_(1, 4) VMIG_SECTOR_(buf);
 
 /* ---- RAM --------------------------------------------------------------------------------------------------------------------- */
 
 /* An access of an interpreted guest, of up to 4,096 bytes, from a guest-physical address on. TOO_LONG, OUT_OF_RAM. */
-vmig_status vmig_ram_read(const vmig_machine *m, uint64_t addr, uint8_t *buf, size_t len) VMIG_CHECKED_(1);
-vmig_status vmig_ram_write(vmig_machine *m, uint64_t addr, const uint8_t *bytes, size_t len) VMIG_CHECKED_(1);
+vmig_status vmig_ram_read(const vmig_machine *m, uint64_t addr, uint8_t *buf, size_t len)
+    VMIG_CHECKED_(1) VMIG_WRITES_(3, 4, buf, len);
+vmig_status vmig_ram_write(vmig_machine *m, uint64_t addr, const uint8_t *bytes, size_t len)
+    VMIG_CHECKED_(1) VMIG_READS_(3, 4, bytes, len);
 
 /* Lends RAM of yours to you and the guest: *ram, whose len is 0 before, becomes it. Until it is given back you and your guest may
- * read and write these bytes, and no call does. It takes no memory, and as long for any size of RAM.
+ * read and write these bytes, and no call does. It allocates nothing, and takes constant time.
  * BAD_RAM (its len is not 0), NOT_YOURS. */
 vmig_status vmig_lend(vmig_machine *m, vmig_ram *ram) VMIG_CHECKED_(1, 2);
 
-/* Takes RAM back, with all the guest's processors outside; *ram is VMIG_NO_RAM then. Its address may be another, if the bytes moved
- * there: RAM lies there from then on. `written` names the pages that the guest or you wrote meanwhile: the machine takes each for
- * written whole, so a machine that is being sent sends it anew. A page that was written and is named neither here nor at a later
- * return nor by vmig_mark, before the next vmig_send_round or vmig_send_stop, is lost at the target: nothing checks it. Before
- * vmig_send_begin none needs a name, but for vmig_pull. A list takes no memory, and time for its pages alone; a bitmap one look for
- * each word and each page that is marked.
- * NOT_KNOWN, BAD_RAM (another length than what was lent; null), TOO_SMALL, OUT_OF_RAM (no such page), NO_MEMORY (a bitmap, or all).
- * After a refusal RAM is still lent. */
+/* Takes RAM back, with all vCPUs outside; *ram is VMIG_NO_RAM then. Its address may be another, if the bytes moved there: RAM lies
+ * there from then on. `written` names the pages that the guest or you wrote meanwhile: each counts as written whole, and is sent
+ * anew. A page that was written and is named neither here, nor at a later return, nor by vmig_mark, before the next
+ * vmig_send_round or vmig_send_stop, is lost at the target: nothing checks it. After a refusal RAM is still lent.
+ * NOT_KNOWN, BAD_RAM (another length than what was lent; null), TOO_SMALL, OUT_OF_RAM (no such page), NO_MEMORY (a bitmap, or
+ * all). */
 vmig_status vmig_give_back(vmig_machine *m, vmig_ram *ram, const vmig_pages *written) VMIG_CHECKED_(1, 2, 3);
 
 /* Names pages that were written while RAM was lent, and not named when it came back, as vmig_give_back does: each is taken for
@@ -791,25 +848,27 @@ vmig_status vmig_mark(vmig_machine *m, const vmig_pages *written) VMIG_CHECKED_(
  * vmig_give_back or vmig_mark named, and none that arrived. For a host that translates code, keeps a dirty log of its own, or shows
  * a frame buffer. It takes no memory.
  * NOT_KNOWN (it was made, or let arrive, without VMIG_LOG). */
-vmig_status vmig_written(vmig_machine *m, uint32_t *pages, size_t size, size_t *count) VMIG_CHECKED_(1, 4);
+vmig_status vmig_written(vmig_machine *m, uint32_t *pages, size_t size, size_t *count)
+    VMIG_CHECKED_(1, 4) VMIG_WRITES_(2, 3, pages, size);
 
 /* RAM that is mirrored: the machine's page n becomes the 4,096 bytes at ram + 4096 * n, for each page that is named, as if the
  * guest wrote it whole, so a machine that is being sent sends it anew; and seen[n] becomes its version. ram has len bytes and seen
  * has count entries, at least as many as RAM has bytes and pages, else TOO_SMALL. Only this call and vmig_pull write seen.
  * NOT_KNOWN, TOO_SMALL, OUT_OF_RAM (no such page), NO_MEMORY (a bitmap, or all). */
 vmig_status vmig_push(vmig_machine *m, const vmig_pages *written, const uint8_t *ram, size_t len, uint64_t *seen, size_t count)
-    VMIG_CHECKED_(1, 2);
+    VMIG_CHECKED_(1, 2) VMIG_READS_(3, 4, ram, len) VMIG_WRITES_(5, 6, seen, count);
 
 /* Hands out each page whose version is not seen[n], and each whose version is the greatest, UINT64_MAX, at which the version stops
  * counting: it goes to ram + 4096 * n, and seen[n] becomes its version. All else of ram and seen is as it was. *pulled becomes the
  * number of pages handed out. Sizes are as for vmig_push. TOO_SMALL. */
 vmig_status vmig_pull(const vmig_machine *m, uint8_t *ram, size_t len, uint64_t *seen, size_t count, uint32_t *pulled)
-    VMIG_CHECKED_(1, 6);
+    VMIG_CHECKED_(1, 6) VMIG_WRITES_(2, 3, ram, len) VMIG_CHANGES_(4, 5, seen, count);
 
 /* ---- a machine is sent ------------------------------------------------------------------------------------------------------- */
 
-/* The machine begins to be sent: the head of its stream is written, and every page and sector is due in round 1. It writes two bits
- * for each of them, with the guest outside where RAM is yours: some 17 ms for 64 GiB of disks, 310 ms for 1 TiB. NO_MEMORY. */
+/* The machine begins to be sent: the head of its stream is written, and every page and sector is due, which is to be sent, in
+ * round 1. It writes two bits for each of them, with the guest outside where RAM is yours: some 17 ms for 64 GiB of disks, 310 ms
+ * for 1 TiB. NO_MEMORY. */
 vmig_status vmig_send_begin(vmig_machine *m) VMIG_CHECKED_(1);
 
 /* Copies up to `most` pages and sectors that are due, those with the least numbers first and pages before sectors: their bytes wait
@@ -831,9 +890,10 @@ vmig_status vmig_send_stop(vmig_machine *m, uint64_t *pages, uint64_t *sectors) 
 vmig_status vmig_send_abort(vmig_machine *m) VMIG_CHECKED_(1);
 
 /* The next bytes of the stream go to the front of buf, *got of them; 0, where size is not 0, says that none waits. After
- * vmig_send_stop and a 0 the stream is whole. Its cost is that of the bytes that it gives, so buf may be of any size. After
- * VMIG_SEND_FAILED the bytes that wait may end within a record. */
-vmig_status vmig_send_take(vmig_machine *m, uint8_t *buf, size_t size, size_t *got) VMIG_CHECKED_(1, 4);
+ * vmig_send_stop and a 0 the stream is whole. Its cost is proportional to the bytes that it returns, so buf may be of any size.
+ * After VMIG_SEND_FAILED the bytes that wait may end within a record. */
+vmig_status vmig_send_take(vmig_machine *m, uint8_t *buf, size_t size, size_t *got)
+    VMIG_CHECKED_(1, 4) VMIG_WRITES_(2, 3, buf, size);
 
 /* What is left to be sent. */
 typedef struct vmig_left {
@@ -850,7 +910,8 @@ vmig_status vmig_send_left(const vmig_machine *m, vmig_left *left) VMIG_CHECKED_
  * buf is as it was: ask with size 0, which makes no stream and takes no memory. It looks at each page of RAM once, since a page of
  * zeros takes 5 bytes of a stream and another one 4,101. The machine continues. Flush the storage of its disks outside before the
  * saved bytes are good: what was answered and not flushed lies in a cache, and no guest will write it again. NO_MEMORY. */
-vmig_status vmig_save(const vmig_machine *m, uint8_t *buf, size_t size, size_t *len) VMIG_CHECKED_(1, 4);
+vmig_status vmig_save(const vmig_machine *m, uint8_t *buf, size_t size, size_t *len)
+    VMIG_CHECKED_(1, 4) VMIG_WRITES_(2, 3, buf, size);
 
 /* ---- a machine arrives ------------------------------------------------------------------------------------------------------- */
 
@@ -865,7 +926,7 @@ vmig_status vmig_arrive(vmig_arrival *arrival, vmig_machine *m) VMIG_CHECKED_(1,
  * at the header STREAM_TOO_LARGE comes before STREAM_MISMATCH, and nothing was written then. From then on each call is
  * VMIG_STREAM_FAILED, until vmig_free or vmig_release: what a peer sends on is looked at no more. Nothing may follow the stream's
  * last byte (STREAM_TRAILING): a source that waits for your word then needs to send no length. */
-vmig_status vmig_feed(vmig_machine *m, const uint8_t *bytes, size_t len) VMIG_CHECKED_(1);
+vmig_status vmig_feed(vmig_machine *m, const uint8_t *bytes, size_t len) VMIG_CHECKED_(1) VMIG_READS_(2, 3, bytes, len);
 
 /* The handle has the machine, idle. Sync its images (where that fails free it, and the source continues), then tell the source, and
  * wait for its word; then call vmig_sync_failed for each disk outside that is lost, read the lines, do its work, ask for calls of
@@ -877,7 +938,8 @@ vmig_status vmig_finish(vmig_machine *m) VMIG_CHECKED_(1);
  * tell, often 17 do, and *out is as it was. An arrival that has failed describes no pages and no devices: a host that will say what
  * machine it refused, as after STREAM_TOO_LARGE or STREAM_BAD_DEVICE, keeps the first 496 bytes for this call.
  * STREAM_BAD_MAGIC, STREAM_BAD_VERSION, STREAM_BAD_SHAPE, NO_MEMORY. */
-vmig_status vmig_stream_describe(const uint8_t *bytes, size_t len, vmig_description *out) VMIG_CHECKED_(3);
+vmig_status vmig_stream_describe(const uint8_t *bytes, size_t len, vmig_description *out)
+    VMIG_CHECKED_(3) VMIG_READS_(1, 2, bytes, len);
 
 static inline const char *vmig_status_name(vmig_status status)
 {
@@ -905,7 +967,7 @@ static inline const char *vmig_status_name(vmig_status status)
 #undef VMIG_NAMED_
 }
 
-/* ---- RAM and images that are null and have a length -------------------------------------------------------------------------- */
+/* ---- RAM, images and pages that are null and have a length ------------------------------------------------------------------- */
 
 static inline int vmig_is_null_ram_(const vmig_ram *ram) { return ram->at == VMIG_NULL_ && ram->len != 0; }
 
@@ -949,20 +1011,65 @@ VMIG_CHECKED_(1, 2) static inline vmig_status vmig_arrive_or_null_(vmig_arrival 
     return (vmig_arrive)(&copy, m);
 }
 
+/* Pages whose list or bitmap is null and has a count, or whose bitmap has none and would name nothing: a copy with a bitmap that is
+ * too small for its span. */
+VMIG_NONNULL_(1) static inline vmig_pages vmig_pages_or_few_(const vmig_pages *written)
+{
+    static const uint64_t word = 0;
+    int is_list = written->list == VMIG_NULL_ && written->count != 0;
+    int is_bitmap = (written->words == VMIG_NULL_) != (written->count_words == 0);
+    vmig_pages copy = *written;
+
+    if (!is_list && !is_bitmap) return copy;
+    copy.list = VMIG_NULL_, copy.count = 0;
+    copy.words = &word, copy.count_words = 1, copy.first = 0, copy.span = UINT32_MAX;
+    return copy;
+}
+
 VMIG_CHECKED_(1, 2, 3) static inline vmig_status vmig_give_back_or_null_(vmig_machine *m, vmig_ram *ram, const vmig_pages *written)
 {
+    vmig_pages pages = vmig_pages_or_few_(written);
     uint8_t byte = 0;
     vmig_ram none = {&byte, 1};
 
-    return (vmig_give_back)(m, vmig_is_null_ram_(ram) ? &none : ram, written);
+    return (vmig_give_back)(m, vmig_is_null_ram_(ram) ? &none : ram, &pages);
+}
+
+VMIG_CHECKED_(1, 2) static inline vmig_status vmig_mark_or_null_(vmig_machine *m, const vmig_pages *written)
+{
+    vmig_pages pages = vmig_pages_or_few_(written);
+
+    return (vmig_mark)(m, &pages);
+}
+
+static inline vmig_status vmig_push_or_null_(vmig_machine *m, const vmig_pages *written, const uint8_t *ram, size_t len,
+    uint64_t *seen, size_t count) VMIG_CHECKED_(1, 2) VMIG_READS_(3, 4, ram, len) VMIG_WRITES_(5, 6, seen, count);
+
+static inline vmig_status vmig_push_or_null_(vmig_machine *m, const vmig_pages *written, const uint8_t *ram, size_t len,
+    uint64_t *seen, size_t count)
+{
+    vmig_pages pages = vmig_pages_or_few_(written);
+
+    return (vmig_push)(m, &pages, ram, len, seen, count);
 }
 
 #define vmig_make(...) vmig_make_or_null_(__VA_ARGS__)
 #define vmig_arrive(...) vmig_arrive_or_null_(__VA_ARGS__)
 #define vmig_give_back(...) vmig_give_back_or_null_(__VA_ARGS__)
+#define vmig_mark(...) vmig_mark_or_null_(__VA_ARGS__)
+#define vmig_push(...) vmig_push_or_null_(__VA_ARGS__)
 
 #undef VMIG_CHECKED_
 #undef VMIG_NONNULL_
+#undef VMIG_READS_
+#undef VMIG_WRITES_
+#undef VMIG_CHANGES_
+#undef VMIG_SECTOR_
+#ifdef VMIG_FITS_
+#undef VMIG_FITS_
+#undef VMIG_WARNS_
+#pragma clang diagnostic pop
+#endif
 
 #ifdef __cplusplus
 }

@@ -1,5 +1,6 @@
 /* RAM or an image that is null and has a length: vmig_make, vmig_arrive and vmig_give_back refuse it by its name, in the order of all refusals, and
- * nothing is taken. The calls of the library by the same names are there too, by their addresses. */
+ * nothing is taken. Pages that are null and have a count, or whose bitmap has none: vmig_give_back, vmig_mark and vmig_push refuse these. The calls
+ * of the library by the same names are there too, by their addresses. */
 #include "driver.h"
 
 enum { PAGES = 2, RAM = PAGES * 4096 };
@@ -140,6 +141,69 @@ static void giving_back(void)
     vmig_free(&m);
 }
 
+/* ---- pages ----------------------------------------------------------------------------------------------------------------------- */
+
+/* A list or a bitmap that is null and has a count, or a bitmap without one; and two that are right. */
+enum { NULL_LIST, NULL_BITMAP, NO_COUNT, WRONG, NO_PAGES = WRONG, BOTH, PAGES_CASES };
+
+static vmig_pages pages_of(int wrong)
+{
+    static const uint32_t list[] = {0, 1};
+    static const uint64_t word = 3;
+    vmig_pages pages = vmig_list(wrong == BOTH ? list : NULL, wrong == BOTH ? 2 : 0);
+
+    if (wrong == NULL_LIST) pages.count = 1;
+    if (wrong == NULL_BITMAP) pages.count_words = 1;
+    if (wrong == NO_COUNT || wrong == BOTH) pages.words = &word;
+    if (wrong == BOTH) pages.count_words = 1;
+    return pages;
+}
+
+/* What is refused before comes before, and what comes after them does not. */
+static void in_order(vmig_machine *m, vmig_ram *ram, int wrong)
+{
+    static const uint32_t beyond[] = {PAGES};
+    vmig_ram null = {NULL, sizeof room};
+    vmig_machine none = VMIG_NONE;
+    vmig_pages pages = pages_of(wrong);
+    uint64_t seen[PAGES];
+
+    expect("no machine", vmig_mark(&none, &pages), VMIG_NO_MACHINE);
+    expect("lent", vmig_mark(m, &pages), VMIG_LENT);
+    expect("lent", vmig_push(m, &pages, room, sizeof room, seen, PAGES), VMIG_LENT);
+    expect("null RAM", vmig_give_back(m, &null, &pages), VMIG_BAD_RAM);
+    pages.zero = 1;
+    expect("unknown", vmig_give_back(m, ram, &pages), VMIG_NOT_KNOWN);
+    pages.zero = 0;
+    if (wrong == NO_COUNT) pages.list = beyond, pages.count = 1;
+    expect("beside no such page", vmig_give_back(m, ram, &pages), VMIG_TOO_SMALL);
+    expect("it is lent still", ram->at == room && description_of(m).lent == 1, 1);
+}
+
+static void naming(void)
+{
+    vmig_machine m = VMIG_NONE;
+    vmig_ram ram = {room, sizeof room};
+    uint64_t seen[PAGES] = {7, 7};
+
+    expect("make", make_over(&ram, DISKS + 1, 1, NULL, 0, &m), VMIG_OK);
+    for (int wrong = 0; wrong < PAGES_CASES; wrong++) {
+        vmig_pages pages = pages_of(wrong);
+        vmig_status status = wrong < WRONG ? VMIG_TOO_SMALL : VMIG_OK;
+        static uint8_t other[RAM];
+
+        expect("not lent", vmig_give_back(&m, &ram, &pages), VMIG_NOT_LENT);
+        expect("mark", vmig_mark(&m, &pages), status);
+        expect("push", vmig_push(&m, &pages, other, sizeof other, seen, PAGES), status);
+        expect("seen", seen[0] == 7 && seen[1] == 7, wrong != BOTH);
+        expect("lend", vmig_lend(&m, &ram), VMIG_OK);
+        if (wrong < WRONG) in_order(&m, &ram, wrong);
+        expect("back", vmig_give_back(&m, &ram, &pages), status);
+        if (status != VMIG_OK) expect("back", vmig_give_back(&m, &ram, &(vmig_pages)VMIG_NO_PAGES), VMIG_OK);
+    }
+    vmig_free(&m);
+}
+
 /* The calls of the library, by their addresses and by their names in brackets. */
 static void by_address(void)
 {
@@ -170,6 +234,7 @@ int main(void)
         arriving(null, 0);
     }
     giving_back();
+    naming();
     by_address();
     return ended("null_lengths");
 }

@@ -17,6 +17,7 @@ struct access {
 };
 
 /* What your hypervisor has beside this. */
+void load_guest(uint8_t *ram);                                      /* what it boots from; and its memory slot is set to this memory */
 enum why run_guest(uint8_t *ram, struct access *access);            /* until a vCPU touches a register, or its time is over */
 void finish_read(uint32_t value);
 void stop_vcpus(void);                                              /* all come out, until run_guest */
@@ -56,6 +57,7 @@ static vmig_status make(struct host *h, int file)
     *h = (struct host){.machine = VMIG_NONE, .ram = VMIG_NO_RAM, .disk = image, .turn = VMIG_TURN};
     setup.shapes = shapes, setup.count = DEVICES;
     setup.ram = map_ram(), setup.images = &image, setup.count_images = 1;
+    if (setup.ram.len != 0) load_guest(setup.ram.at);
     return vmig_make(&setup, &h->machine);
 }
 
@@ -189,10 +191,16 @@ static void fill_rings(uint8_t *ram)
     store(ram, AVAIL + 2 * NEXT_QUEUE + 2, 1, 2);
 }
 
+void load_guest(uint8_t *ram)
+{
+    expect("zeros", ram[0], 0);
+    fill_rings(ram);
+}
+
 enum why run_guest(uint8_t *ram, struct access *access)
 {
     stopped = 0;
-    if (at_script == 0) fill_rings(ram);
+    expect("RAM with its rings", ram[DATA], 0x5a);
     if (at_script == count_script) return ENDED;
     *access = script[at_script++];
     return TOUCHED;

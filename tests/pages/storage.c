@@ -104,6 +104,17 @@ static vmig_status do_work(struct host *h)
     return status;
 }
 
+/* An exit of the guest for a register: off bytes from the beginning of the window of its device on. *value goes in, or comes out. */
+static vmig_status answer_exit(struct host *h, int is_write, uint32_t off, uint8_t width, uint32_t *value)
+{
+    uint32_t byte;
+    vmig_status status;
+
+    if (!is_write) return vmig_reg_read(&h->machine, 0, off, width, value);
+    status = vmig_reg_write(&h->machine, 0, off, width, *value, &byte);
+    return status == VMIG_OK ? do_work(h) : status;
+}
+
 /* ---- the host's interrupt controller, and the guest ---- */
 #include <stdlib.h>
 #include "driver.h"
@@ -121,6 +132,7 @@ void set_lines(uint32_t level)
 static uint64_t request(struct host *h, uint32_t type, uint64_t sector)
 {
     vmig_machine *m = &h->machine;
+    uint32_t queue = 0;
 
     put(m, HEADER, type, 8);
     put(m, HEADER + 8, sector, 8);
@@ -128,8 +140,8 @@ static uint64_t request(struct host *h, uint32_t type, uint64_t sector)
     describe(m, 0, 0, HEADER, 16, HAS_NEXT, type == FLUSH ? 2 : 1);
     describe(m, 0, 1, DATA, LENGTH, HAS_NEXT | (type == READ ? WRITABLE : 0), 2);
     describe(m, 0, 2, OUTCOME, 1, WRITABLE, 0);
-    offer(m, 0, ++offered, 0);
-    expect("a turn", do_work(h), VMIG_IDLE);
+    make_available(m, 0, ++offered, 0);
+    expect("a kick, and the turn after it", answer_exit(h, 1, 0x050, 4, &queue), VMIG_IDLE);
     expect("its line", lines, 1);
     return get(m, OUTCOME, 1);
 }
@@ -180,6 +192,7 @@ int main(void)
 {
     char name[] = "/tmp/vmig-pages-storage-XXXXXX";
     int file = mkstemp(name);
+    uint32_t kind = 77;
     struct host h;
 
     if (file < 0 || unlink(name) != 0 || ftruncate(file, SECTORS * SECTOR) != 0) {
@@ -187,6 +200,8 @@ int main(void)
         return 0;
     }
     expect("make", make(&h, file), VMIG_OK);
+    expect("a read", answer_exit(&h, 0, 0x008, 4, &kind), VMIG_OK);
+    expect("a block device", kind, 2);
     again(&h, 0);
     writes_and_reads(&h, 5, 1);
     again(&h, 1 << 9);
