@@ -6,7 +6,7 @@ use Rattle.c_handle.specs.Admission.{Admits, first_refusal}
 use Rattle.c_handle.specs.AdmissionSeen.{AdmissionSeen, Denied}
 use Rattle.c_handle.specs.ArrivalSeen.{ArrivalSeen}
 use Rattle.c_handle.specs.Arriving.{Ends, FeedsKept, FeedsWithin, FinishesKept, after_finish, has_more, refused_before, taken_status}
-use Rattle.c_handle.specs.Awaited.{IsClosed, IsFed, TellsOf, TellsWhole, ram_coming, stream_status}
+use Rattle.c_handle.specs.Awaited.{IsClosed, IsFed, RefusesUntouched, TellsOf, TellsWhole, ram_coming, stream_status}
 use Rattle.c_handle.specs.Kept.{State, Arriving}
 use Rattle.c_machine.proofs.Imaging.{eq_of}
 
@@ -19,10 +19,10 @@ was_denied r before after piece status denied = inr (inr (record { denied = deni
 pub was_fed : (r next : ArrivalSeen) (before after : AdmissionSeen) (piece : List ℕ) (ended : Bool) (status : ℕ) → Admits before piece None after → IsFed r piece next → TellsWhole next ended → status ≡ taken_status ended → FeedsWithin before r piece status after next
 was_fed r next before after piece ended status admitted is_fed tells is = inl (record { admitted = admitted; fed = is_fed; ended = ended; tells = tells; status_is = is })
 
-pub was_not_fed : (r next : ArrivalSeen) (before let_in after : AdmissionSeen) (piece : List ℕ) (error : RecvError) (status : ℕ) → Admits before piece None let_in → TellsOf r piece error → status ≡ stream_status error → IsClosed r next
+pub was_not_fed : (r next : ArrivalSeen) (before let_in after : AdmissionSeen) (piece : List ℕ) (error : RecvError) (status : ℕ) → Admits before piece None let_in → TellsOf r piece error → RefusesUntouched r piece error next → status ≡ stream_status error → IsClosed r next
     → after ≡ Denied status → FeedsWithin before r piece status after next
-was_not_fed r next before let_in after piece error status admitted why is failed denied =
-    inr (inl (record { let_in = let_in; admitted = admitted; error = error; why = why; status_is = is; failed = failed; denied = denied }))
+was_not_fed r next before let_in after piece error status admitted why untouched is failed denied =
+    inr (inl (record { let_in = let_in; admitted = admitted; error = error; why = why; untouched = untouched; status_is = is; failed = failed; denied = denied }))
 
 -- An end that is not refused before.
 ended : (places : ℕ) (admission after : AdmissionSeen) (k : State) (r : ArrivalSeen) (status : ℕ) (next : State) (answer : Option ℕ) → k ≡ Arriving r → answer ≡ refused_before (first_refusal admission) → answer ≡ None → has_more places (ram_coming r) ≡ false → Ends r status next

@@ -17,6 +17,7 @@ use Rattle.wire.specs.Header.{Begins, Opening, header}
 use Rattle.wire.proofs.PartLengths.{length_header}
 use Rattle.wire.specs.Stream.{IsStream, device_texts, opening_in, shapes_in, texts}
 use Rattle.wire.proofs.Unique.{pages_limits}
+use Rattle.receiver.specs.Calls.{WantsDevice}
 use Rattle.receiver.specs.Disks.{AreHonestDisks, HasFailed, MarksRefused, disk_marks_of, sizes_of}
 use Rattle.receiver.specs.Receiving.{HasBeenFed, HasRounds, IsFinish, end_error, IsWholeFor, NoFault, Received, TellsNow, place_aside, ram_len_in}
 use Rattle.receiver.specs.declared.recv_error.RecvError.{RecvError}
@@ -94,10 +95,10 @@ more_come r next piece b ram sizes fed quiet h =
     record { come = (fed b h.0, header); fit = inl header; quiet = rw (ram, sizes) (quiet b h.0) }
 
 pub more_fed : (r next : Received) (piece : List ℕ) → next.ram ≡ r.ram → next.place ≡ r.place → next.sizes ≡ r.sizes → ((b : List ℕ) → HasBeenFed r b → HasBeenFed next (b ++ piece)) → ((b : List ℕ) → HasBeenFed r b → NoFault r.ram r.sizes (b ++ piece)) → IsFed (AtBody r) piece (AtBody next)
-more_fed r next piece ram place sizes fed quiet = record { went_on = tt; goes_on = λ b h. more_come r next piece b ram sizes fed quiet h; ram = ram; place = place }
+more_fed r next piece ram place sizes fed quiet = record { went_on = tt; goes_on = λ b h. more_come r next piece b ram sizes fed quiet h; waits = tt; ram = ram; place = place }
 
-pub more_refused : (r : Received) (new : List Marks) (piece : List ℕ) (e : RecvError) → AreSteady r → MarksRefused r.marks e new → ((b : List ℕ) → HasBeenFed r b → TellsNow r.ram r.sizes b piece e) → TellsOf (AtBody r) piece e
-more_refused r new piece e steady marks tells = λ b h. told r.ram r.sizes b piece e (inl (longer r.ram.limits b piece r.sizes h.1)) (tells b h.0) (never_failed r new e steady marks)
+pub more_refused : (r : Received) (new : List Marks) (piece : List ℕ) (e : RecvError) → AreSteady r → MarksRefused r.marks e new → ((b : List ℕ) → HasBeenFed r b → TellsNow r.ram r.sizes b piece e) → (e ≡ NoMemory → WantsDevice r piece) → TellsOf (AtBody r) piece e
+more_refused r new piece e steady marks tells memory = record { why = λ b h. told r.ram r.sizes b piece e (inl (longer r.ram.limits b piece r.sizes h.1)) (tells b h.0) (never_failed r new e steady marks); memory = memory }
 
 -- The rest of a piece that completed the header.
 pub cut_piece : (held all piece front rest : List ℕ) (few : ℕ) → all ≡ held ++ front → front ≡ take few piece → rest ≡ drop few piece → all ++ rest ≡ held ++ piece
@@ -110,7 +111,7 @@ rest_taken (Err e) r front rest bytes begun all h = tt
 
 pub rest_refused : (result : Result Progress RecvError) (ram : RamTerms) (r : Received) (front rest bytes : List ℕ) → r.ram ≡ ram → GoesOnWith front (AtBody r) → front ++ rest ≡ bytes → IfErr result (λ e. TellsOf (AtBody r) rest e) → IfErr result (λ e. TellsWhy ram bytes e)
 rest_refused (Ok next) ram r front rest bytes is begun all h = tt
-rest_refused (Err e) ram r front rest bytes is begun all h = subst (λ (n : RamTerms). TellsWhy n bytes e) is (subst (λ (b : List ℕ). TellsWhy r.ram b e) all (h front begun.come))
+rest_refused (Err e) ram r front rest bytes is begun all h = subst (λ (n : RamTerms). TellsWhy n bytes e) is (subst (λ (b : List ℕ). TellsWhy r.ram b e) all (h.why front begun.come))
 
 pub rest_placed : (result : Result Progress RecvError) (place : Option Ptr) (r : Received) (rest : List ℕ) → r.place ≡ place → IfOk result (λ next. IsFed (AtBody r) rest (awaited_by next)) → IfOk result (λ next. awaited_place (awaited_by next) ≡ place)
 rest_placed (Ok next) place r rest is h = h.place ∙ is
@@ -251,7 +252,7 @@ head_waits terms ram held all piece few is size short waits =
     subst (λ (l : List ℕ). GoesOnWith l (AtHead (told_by terms ram) (place_aside ram) all)) (none_cut held all piece few is size short) (head_goes_on (told_by terms ram) (place_aside ram) all here)
 
 pub head_fed : (ram : RamTerms) (place : Option Ptr) (held piece : List ℕ) (next : ArrivalSeen) → awaited_ram next ≡ ram → awaited_place next ≡ place → GoesOnWith (held ++ piece) next → IsFed (AtHead ram place held) piece next
-head_fed ram place held piece next based there h = record { went_on = tt; goes_on = λ b is. subst (λ (x : List ℕ). GoesOnWith (x ++ piece) next) (sym is) h; ram = based; place = there }
+head_fed ram place held piece next based there h = record { went_on = tt; goes_on = λ b is. subst (λ (x : List ℕ). GoesOnWith (x ++ piece) next) (sym is) h; waits = tt; ram = based; place = there }
 
 pub head_refused : (ram : RamTerms) (place : Option Ptr) (held piece : List ℕ) (e : RecvError) → TellsWhy ram (held ++ piece) e → TellsOf (AtHead ram place held) piece e
 head_refused ram place held piece e h = λ b is. subst (λ (x : List ℕ). TellsWhy ram (x ++ piece) e) (sym is) h

@@ -1,6 +1,6 @@
 -- The laws of the calls of disks outside.
 use Rattle.std.proofs.Common.{◌≡◌, ◌/◌, ◌-◌, ◌^◌, ◌∙◌, ◌≤◌, ◌&&◌, arith, length, min, not, ℕ, zero, suc, Bool, true, false, List, [], refl, sym, subst, inl, inr, slice_get, replicate}
-use Rattle.std.specs.Prelude.{Option, Some, None}
+use Rattle.std.specs.Prelude.{Option, Some, None, if◌then◌else◌}
 use Rattle.std.specs.List.{list_any}
 use Rattle.std.proofs.lemmas.Option.{slice_get_within}
 use Rattle.blk.specs.declared.outside.DiskCall.{DiskCall}
@@ -15,13 +15,16 @@ use Rattle.machine.specs.Seen.{state_of}
 use Rattle.machine.specs.State.{DeviceState, MachineState}
 use Rattle.machine.specs.declared.event.DiskAnswer.{DiskAnswer}
 use Rattle.machine.specs.declared.event.DiskAnswer.TheVariants as answers
+use Rattle.sender.specs.declared.mig_error.MigError.TheVariants.{AlreadyStopped}
 use Rattle.c_machine.specs.Made.{block_size}
-use Rattle.c_handle.specs.CallLaws.{AnswersStayFrom, FirstCallsAreFrom, ForeignIsNotOut, HandsStayFrom, LostAnswersFail, NextCallIsHandedOut, UnusedIsNotOut}
-use Rattle.c_handle.specs.DiskCalls.{HandsFrom, HasHandedNone, IsNotOut, counted_as, counts_in, handing_refusal}
+use Rattle.c_handle.specs.CallLaws.{AnswersStayFrom, FirstCallsAreFrom, ForeignIsNotOut, HandsStayFrom, LostAnswersFail, NextCallIsHandedOut, StopFindsNoneOut, StoppedHandsNone, UnusedIsNotOut}
+use Rattle.c_handle.specs.DiskCalls.{HandsFrom, HandsUnless, HasHandedNone, IsNotOut, counted_as, counts_in, handing_refusal}
 use Rattle.c_handle.specs.Kept.{KeptSeen, State, Still, Moving, Arriving, Lent, first_calls, is_lost}
 use Rattle.c_handle.specs.OnHandle.{Unless}
-use Rattle.c_handle.specs.Outside.{AnswersIf, HasAnswered, HasNotAnswered, answer_refusal, devices_of, unfit}
-use Rattle.c_handle.specs.Resetting.{stop_refusal}
+use Rattle.c_handle.specs.Outside.{AnswersIf, HasAnswered, HasNotAnswered, devices_of, unfit}
+use Rattle.c_handle.specs.Mirror.{is_closed}
+use Rattle.c_handle.specs.Resetting.{state_refusal, stop_refusal}
+use Rattle.c_handle.specs.SendStatus.{mig_status}
 use Rattle.c_handle.specs.declared.outside.Call.{Call}
 
 -- Numbers.
@@ -50,7 +53,7 @@ answers_unless from None k number fits answer status next log calls are (inl h) 
 answers_unless from None k number fits answer status next log calls are (inr h) = subst (AreFrom from) (sym h.1.calls_same) are
 
 pub answers_stay_from : AnswersStayFrom
-answers_stay_from from k number fits answer status next log calls are h = answers_unless from (answer_refusal k.state) k number fits answer status next log calls are h
+answers_stay_from from k number fits answer status next log calls are h = answers_unless from (state_refusal k.state) k number fits answer status next log calls are h
 
 not_out_if : (k : KeptSeen) (number : ℕ) (fits : DiskCall → Bool) (answer : DiskCall → DiskAnswer) (status : ℕ) (next : State) (log : Option (List Bool)) (calls : AllCalls) → IsNotOut k.calls number
     → AnswersIf k number fits answer status next log calls → HasNotAnswered k status next log calls 28
@@ -103,3 +106,20 @@ counts_lost lost found d call answer there is makes =
 
 pub lost_answers_fail : LostAnswersFail
 lost_answers_fail k place d answer there is makes = counts_lost (is_lost k place.dev) (slice_get (devices_of k.state) place.dev) d place.call answer there is makes
+
+-- Stopped machines.
+pub stop_finds_none_out : StopFindsNoneOut
+stop_finds_none_out false k next status pages old_pages sectors old_sectors h fine = refl
+stop_finds_none_out true (Still m) (Still next) status pages old_pages sectors old_sectors h fine = absurd (omega (arith, h.0.0, fine))
+stop_finds_none_out true (Moving l) (Moving next) status pages old_pages sectors old_sectors h fine = absurd (omega (arith, h.0.0, fine))
+stop_finds_none_out true (Arriving r) (Arriving next) status pages old_pages sectors old_sectors h fine = absurd (omega (arith, h.0.0, fine))
+stop_finds_none_out true (Lent x) (Lent next) status pages old_pages sectors old_sectors h fine = absurd (omega (arith, h.0.0, fine))
+stop_finds_none_out true _ _ status pages old_pages sectors old_sectors h fine = absurd h
+
+handed_none : (closed : Bool) (m : MachineState) (calls after : AllCalls) (status : ℕ) (call old_call : Call) (buf new_buf : List ℕ) → closed ≡ true
+    → HandsUnless (if closed then Some (mig_status AlreadyStopped) else None) m calls status call old_call buf new_buf after → after ≡ calls
+handed_none true m calls after status call old_call buf new_buf is h = h.calls_same
+handed_none false m calls after status call old_call buf new_buf is h = absurd cc
+
+pub stopped_hands_none : StoppedHandsNone
+stopped_hands_none l calls after status call old_call buf new_buf stopped h = handed_none (is_closed l.phase) (state_of l.machine) calls after status call old_call buf new_buf stopped h

@@ -12,9 +12,9 @@ use Rattle.c_handle.specs.DiskCalls.{HandsFrom, HandsUnless, HasHandedNone, IsOu
 use Rattle.machine.specs.State.{MachineState}
 use Rattle.c_handle.specs.Kept.{KeptSeen, LoanSeen, State, Still, Moving, Arriving, Lent, is_lost}
 use Rattle.c_handle.specs.Outside as outside
-use Rattle.c_handle.specs.Outside.{Answers, AnswersIf, AnswersKept, HandsCall, HandsKept, HasAnswered, HasNotAnswered, Meets, MeetsLent, MeetsMoving, RefusedAnswersNothing, RefusedHandsNothing, Unfound, answer_refusal, counted_answer, devices_of, is_lent, lent_refusal, unfit}
+use Rattle.c_handle.specs.Outside.{Answers, AnswersIf, AnswersKept, HandsCall, HandsKept, HasAnswered, HasNotAnswered, Meets, MeetsLent, MeetsMoving, RefusedAnswersNothing, RefusedHandsNothing, Unfound, counted_answer, devices_of, is_lent, unfit}
 use Rattle.c_handle.specs.OnHandle.{Unless}
-use Rattle.c_handle.specs.Resetting.{stop_refusal}
+use Rattle.c_handle.specs.Resetting.{loan_refusal, state_refusal, stop_refusal}
 use Rattle.c_handle.specs.declared.outside.Call.{Call}
 
 -- By the state.
@@ -45,8 +45,8 @@ puts_none k x (answers.Gave bytes) is fits = let here : unfit (Lent x) (answers.
 puts_none k x (answers.Did count) is fits = refl
 puts_none k x answers.Failed is fits = refl
 
-pub goes_lent : (k : State) (x : LoanSeen) → k ≡ Lent x → answer_refusal k ≡ None → lent_refusal x ≡ None
-goes_lent k x is goes = subst (λ (s : State). answer_refusal s ≡ None) is goes
+pub goes_lent : (k : State) (x : LoanSeen) → k ≡ Lent x → state_refusal k ≡ None → loan_refusal x ≡ None
+goes_lent k x is goes = subst (λ (s : State). state_refusal s ≡ None) is goes
 
 -- What counts as a failure fits as the answer did.
 no_bytes : (lent : Bool) → (lent && false) ≡ false
@@ -77,12 +77,12 @@ failed_counts true = refl
 failed_counts false = refl
 
 -- By whether the call is out, and the answer is one to it.
-pub answered : (k : KeptSeen) (number : ℕ) (fits : DiskCall → Bool) (answer : DiskCall → DiskAnswer) (place : Place) (next : State) (log : Option (List Bool)) (calls : AllCalls) → answer_refusal k.state ≡ None → IsOut k.calls number place
+pub answered : (k : KeptSeen) (number : ℕ) (fits : DiskCall → Bool) (answer : DiskCall → DiskAnswer) (place : Place) (next : State) (log : Option (List Bool)) (calls : AllCalls) → state_refusal k.state ≡ None → IsOut k.calls number place
     → unfit k.state (answer place.call) (fits place.call) ≡ None → Meets place (counted_answer k place (answer place.call)) k.state k.written next log → calls ≡ without k.calls place.dev place.i → AnswersKept k number fits answer 0 next log calls
 answered k number fits answer place next log calls none out fit meets are =
     rw none (inl (record { place = place; is_out = out; answered = rw fit (record { status_is = refl; meets = meets; calls_are = are }) }))
 
-pub answered_as : (k : KeptSeen) (number count : ℕ) (bytes : List ℕ) (fits : Bool) (given counted : DiskAnswer) (place : Place) (next : State) (log : Option (List Bool)) (calls : AllCalls) → answer_refusal k.state ≡ None → IsOut k.calls number place
+pub answered_as : (k : KeptSeen) (number count : ℕ) (bytes : List ℕ) (fits : Bool) (given counted : DiskAnswer) (place : Place) (next : State) (log : Option (List Bool)) (calls : AllCalls) → state_refusal k.state ≡ None → IsOut k.calls number place
     → given ≡ done_with count bytes place.call → fits ≡ fits_done count bytes place.call → unfit k.state given fits ≡ None → counted ≡ counted_answer k place given → Meets place counted k.state k.written next log
     → calls ≡ without k.calls place.dev place.i → AnswersKept k number (fits_done count bytes) (done_with count bytes) 0 next log calls
 answered_as k number count bytes fits given counted place next log calls none out gives fit taken is meets are =
@@ -90,14 +90,14 @@ answered_as k number count bytes fits given counted place next log calls none ou
     let counted_so : counted ≡ counted_answer k place (done_with count bytes place.call) = subst (λ (a : DiskAnswer). counted ≡ counted_answer k place a) gives is in
     answered k number (fits_done count bytes) (done_with count bytes) place next log calls none out taken_so (subst (λ (a : DiskAnswer). Meets place a k.state k.written next log) counted_so meets) are
 
-pub failed_as : (k : KeptSeen) (number : ℕ) (given : DiskAnswer) (place : Place) (next : State) (log : Option (List Bool)) (calls : AllCalls) → answer_refusal k.state ≡ None → IsOut k.calls number place → given ≡ answers.Failed
+pub failed_as : (k : KeptSeen) (number : ℕ) (given : DiskAnswer) (place : Place) (next : State) (log : Option (List Bool)) (calls : AllCalls) → state_refusal k.state ≡ None → IsOut k.calls number place → given ≡ answers.Failed
     → Meets place given k.state k.written next log → calls ≡ without k.calls place.dev place.i → AnswersKept k number (λ call. true) (λ call. answers.Failed) 0 next log calls
 failed_as k number given place next log calls none out is meets are =
     let counts = counts_in (is_lost k place.dev) (slice_get (devices_of k.state) place.dev) place.call in
     let counted : given ≡ counted_as counts answers.Failed = is ∙ sym (failed_counts counts) in
     answered k number (λ call. true) (λ call. answers.Failed) place next log calls none out (failure_taken k.state) (subst (λ (a : DiskAnswer). Meets place a k.state k.written next log) counted meets) are
 
-pub misfit : (k : KeptSeen) (number count : ℕ) (bytes : List ℕ) (fits : Bool) (given : DiskAnswer) (place : Place) (status : ℕ) → answer_refusal k.state ≡ None → IsOut k.calls number place → given ≡ done_with count bytes place.call
+pub misfit : (k : KeptSeen) (number count : ℕ) (bytes : List ℕ) (fits : Bool) (given : DiskAnswer) (place : Place) (status : ℕ) → state_refusal k.state ≡ None → IsOut k.calls number place → given ≡ done_with count bytes place.call
     → fits ≡ fits_done count bytes place.call → unfit k.state given fits ≡ Some status → AnswersKept k number (fits_done count bytes) (done_with count bytes) status k.state k.written k.calls
 misfit k number count bytes fits given place status none out gives fit why =
     let so : unfit k.state (done_with count bytes place.call) (fits_done count bytes place.call) ≡ Some status = subst (λ (a : DiskAnswer). unfit k.state a (fits_done count bytes place.call) ≡ Some status) gives (subst (λ (b : Bool). unfit k.state given b ≡ Some status) fit why) in
@@ -108,8 +108,8 @@ unfound_by : (refusal : Option ℕ) (k : KeptSeen) (number : ℕ) (fits : DiskCa
 unfound_by (Some reason) k number fits answer status why = record { status_is = why; state_same = refl; log_same = refl; calls_same = refl }
 unfound_by None k number fits answer status why = inr (why.1, record { status_is = why.0; state_same = refl; log_same = refl; calls_same = refl })
 
-pub unfound : (k : KeptSeen) (number : ℕ) (fits : DiskCall → Bool) (answer : DiskCall → DiskAnswer) (status : ℕ) → Unfound (answer_refusal k.state) k.calls number status → AnswersKept k number fits answer status k.state k.written k.calls
-unfound k number fits answer status why = unfound_by (answer_refusal k.state) k number fits answer status why
+pub unfound : (k : KeptSeen) (number : ℕ) (fits : DiskCall → Bool) (answer : DiskCall → DiskAnswer) (status : ℕ) → Unfound (state_refusal k.state) k.calls number status → AnswersKept k number fits answer status k.state k.written k.calls
+unfound k number fits answer status why = unfound_by (state_refusal k.state) k number fits answer status why
 
 -- Why it is not found.
 pub refused_by : (refusal found : Option ℕ) (calls : AllCalls) (number status : ℕ) → found ≡ refusal → found ≡ Some status → Unfound refusal calls number status
@@ -147,4 +147,4 @@ same_answers None k number fits answer status next log calls some (inl h) = same
 same_answers None k number fits answer status next log calls some (inr h) = same_not k status 28 next log calls h.1
 
 pub refused_answers_nothing : RefusedAnswersNothing
-refused_answers_nothing k number fits answer status next log calls h some = same_answers (answer_refusal k.state) k number fits answer status next log calls some h
+refused_answers_nothing k number fits answer status next log calls h some = same_answers (state_refusal k.state) k number fits answer status next log calls some h

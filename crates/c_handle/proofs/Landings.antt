@@ -10,14 +10,15 @@ use Rattle.machine.specs.Seen.{Marks, Seen, all_marks, no_marks, state_of}
 use Rattle.machine.specs.First.{dealt_marks}
 use Rattle.machine.specs.State.{base_of}
 use Rattle.wire.specs.Stream.{IsStream, shapes_in}
+use Rattle.receiver.specs.Calls.{IsUntouched, WantsDevice}
 use Rattle.receiver.specs.Disks.{AreHonestDisks, MarksAfter, MarksRefused, disk_marks_of, sizes_of}
-use Rattle.receiver.specs.Receiving.{HasBeenFed, IsGivenUp, NoFault, Received, TellsNow, ram_len_in}
+use Rattle.receiver.specs.Receiving.{HasBeenFed, HasHeaderFor, IsGivenUp, MayTouch, NoFault, Received, TellsNow, ram_len_in}
 use Rattle.receiver.specs.declared.ram_terms.RamTerms.{RamTerms}
 use Rattle.receiver.specs.declared.recv_error.RecvError.{RecvError}
 use Rattle.receiver.specs.declared.recv_error.RecvError.TheVariants.{BadMagic, BadVersion, BadShape, ShapeMismatch, BadTag, BadPage, BadSector, BadRound, BadDevice, BadDigest, Missing, Trailing, Truncated, DiskFailed, NoMemory, AlreadyFailed}
 use Rattle.mapped_disk.specs.declared.image.Image.{Image}
 use Rattle.c_handle.specs.ArrivalSeen.{ArrivalSeen, AtHead, AtBody, Refused, Over}
-use Rattle.c_handle.specs.Awaited.{AreSteady, HasArrived, IsClosed, IsFed, TellsOf, awaited_sizes, is_over}
+use Rattle.c_handle.specs.Awaited.{AreSteady, HasArrived, IsClosed, IsFed, RefusesUntouched, TellsOf, awaited_sizes, is_over}
 use Rattle.c_handle.specs.Landing.{AreDisksOf, IsAwaitedAt, image_state}
 use Rattle.c_machine.specs.Mapping.{AreTaken, contents}
 use Rattle.c_handle.specs.Kept.{Arriving}
@@ -51,17 +52,19 @@ not_true : (b : Bool) → ¬ (b ≡ true) → b ≡ false
 not_true true not = absurd (not refl)
 not_true false not = refl
 
-pub fed_over : (r next : Received) (piece : List ℕ) → ¬ (r.failed ≡ true) → next.ram ≡ r.ram → next.sizes ≡ r.sizes → ((b : List ℕ) → HasBeenFed r b → HasBeenFed next (b ++ piece)) → ((b : List ℕ) → HasBeenFed r b → NoFault r.ram r.sizes (b ++ piece)) → next.place ≡ r.place → IsFed (Over r) piece (Over next)
-fed_over r next piece fine ram sizes fed quiet place = record {
+pub fed_over : (r next : Received) (piece : List ℕ) → ¬ (r.failed ≡ true) → next.ram ≡ r.ram → next.sizes ≡ r.sizes → ((b : List ℕ) → HasBeenFed r b → HasBeenFed next (b ++ piece)) → ((b : List ℕ) → HasBeenFed r b → NoFault r.ram r.sizes (b ++ piece)) → next.place ≡ r.place
+    → ((b : List ℕ) → HasBeenFed r b → ¬ (HasHeaderFor r.ram r.sizes (b ++ piece)) → IsUntouched r next) → IsFed (Over r) piece (Over next)
+fed_over r next piece fine ram sizes fed quiet place waits = record {
   went_on = not_true r.failed fine;
   goes_on = λ b h. record { come = fed b h; fit = tt; quiet = rw (ram, sizes) (quiet b h) };
+  waits = waits;
   ram = ram;
   place = place;
 }
 
 pub told_over : (r next : Received) (piece : List ℕ) (e : RecvError) → AreSteady r → next.sizes ≡ r.sizes → next.failed ≡ true → MarksRefused r.marks e next.marks → (r.failed ≡ true → e ≡ AlreadyFailed) → ((b : List ℕ) → HasBeenFed r b → TellsNow r.ram r.sizes b piece e)
-    → TellsOf (Over r) piece e × IsClosed (Over r) (Over next)
-told_over r next piece e steady sizes failed marks already tells = (record { already = already; why = tells; steady = never_failed r next.marks e steady marks }, (failed, sizes))
+    → (e ≡ NoMemory → WantsDevice r piece) → TellsOf (Over r) piece e × IsClosed (Over r) (Over next)
+told_over r next piece e steady sizes failed marks already tells memory = (record { already = already; why = tells; steady = never_failed r next.marks e steady marks; memory = memory }, (failed, sizes))
 
 -- The marks are as they were, but for a failure that there was not.
 kept_marks : (old new : List Marks) (e : RecvError) → ¬ (e ≡ DiskFailed) → MarksRefused old e new → new ≡ old
@@ -94,14 +97,21 @@ not_ok : {A : Type 0} (x : A) (e : RecvError) → ¬ (◌≡◌ {A = Result A Re
 not_ok x e is = cc
 
 pub fed_if : {A : Type 0} (r next : Received) (piece : List ℕ) (result : Result A RecvError) → (r.failed ≡ true → result ≡ Err AlreadyFailed) → next.ram ≡ r.ram → next.sizes ≡ r.sizes → OnOk result ((b : List ℕ) → HasBeenFed r b → HasBeenFed next (b ++ piece))
-    → OnOk result ((b : List ℕ) → HasBeenFed r b → NoFault r.ram r.sizes (b ++ piece)) → next.place ≡ r.place → IfOk result (λ x. IsFed (Over r) piece (Over next))
-fed_if r next piece (Ok x) already ram sizes fed quiet place = fed_over r next piece (λ failed. not_ok x AlreadyFailed (already failed)) ram sizes fed quiet place
-fed_if r next piece (Err e) already ram sizes fed quiet place = tt
+    → OnOk result ((b : List ℕ) → HasBeenFed r b → NoFault r.ram r.sizes (b ++ piece)) → next.place ≡ r.place
+    → OnOk result ((b : List ℕ) → HasBeenFed r b → ¬ (HasHeaderFor r.ram r.sizes (b ++ piece)) → IsUntouched r next) → IfOk result (λ x. IsFed (Over r) piece (Over next))
+fed_if r next piece (Ok x) already ram sizes fed quiet place waits = fed_over r next piece (λ failed. not_ok x AlreadyFailed (already failed)) ram sizes fed quiet place waits
+fed_if r next piece (Err e) already ram sizes fed quiet place waits = tt
 
 pub told_if : {A : Type 0} (r next : Received) (piece : List ℕ) (result : Result A RecvError) → AreSteady r → next.sizes ≡ r.sizes → OnErr result (next.failed ≡ true) → MarksAfter r.marks result next.marks → (r.failed ≡ true → result ≡ Err AlreadyFailed)
-    → IfErr result (λ e. (b : List ℕ) → HasBeenFed r b → TellsNow r.ram r.sizes b piece e) → IfErr result (λ e. TellsOf (Over r) piece e × IsClosed (Over r) (Over next))
-told_if r next piece (Ok x) steady sizes failed marks already tells = tt
-told_if r next piece (Err e) steady sizes failed marks already tells = told_over r next piece e steady sizes failed marks (λ f. one_error (Err e) e AlreadyFailed refl (already f)) tells
+    → IfErr result (λ e. (b : List ℕ) → HasBeenFed r b → TellsNow r.ram r.sizes b piece e) → (result ≡ Err NoMemory → WantsDevice r piece)
+    → IfErr result (λ e. TellsOf (Over r) piece e × IsClosed (Over r) (Over next))
+told_if r next piece (Ok x) steady sizes failed marks already tells memory = tt
+told_if r next piece (Err e) steady sizes failed marks already tells memory = told_over r next piece e steady sizes failed marks (λ f. one_error (Err e) e AlreadyFailed refl (already f)) tells (λ is. memory (ap Err is))
+
+pub untouched_if : {A : Type 0} (r next : Received) (piece : List ℕ) (result : Result A RecvError) → (r.failed ≡ true → IsUntouched r next)
+    → IfErr result (λ e. (b : List ℕ) → HasBeenFed r b → ¬ (MayTouch r.ram r.sizes (b ++ piece) e) → IsUntouched r next) → IfErr result (λ e. RefusesUntouched (Over r) piece e (Over next))
+untouched_if r next piece (Ok x) gone before = tt
+untouched_if r next piece (Err e) gone before = record { gone = gone; before = before }
 
 -- The slots that the disks go into are free, and there is one for each.
 abbrev AreSlotsOf : ArrivalSeen → List Image → Type 0

@@ -19,10 +19,9 @@ use Rattle.c_handle.specs.Mirror.{is_closed}
 use Rattle.c_handle.specs.Migrated.{AreCounted, AreTold, GoesOn, IsLeft, IsLeftLent, HasEnded, HasStopped, HasTaken, IsAnswered, IsMostByStop, SendsIf, SendsSome, SendsUpTo, TakesKept, end_status, is_none_due, send_refusal, stopped_pages, stopped_sectors}
 use Rattle.c_handle.specs.SendStatus.{live_status, mig_status}
 use Rattle.machine.specs.Layout.{pages_of}
-use Rattle.machine.specs.Parked.{WhateverRam}
-use Rattle.sender.specs.Calls.{StopsWithin}
 use Rattle.sender.specs.LiveState.{now}
-use Rattle.sender.specs.Parked.{LiveParkedSeen, live_back}
+use Rattle.sender.specs.Parked.{LiveParkedSeen}
+use Rattle.sender.specs.StopBytes.{IsStopBytes, IsStopBytesLent}
 use Rattle.sender.specs.declared.event.Left.{Left}
 use Rattle.c_handle.specs.declared.migrating.SendLeft.{SendLeft}
 use Rattle.c_handle.specs.Kept.{State, Still, Moving}
@@ -129,19 +128,19 @@ counted pages due dirty items stop status left a b c d told = record {
 }
 
 pub left_moving : (l : LiveSeen) (items : Left) (stop status : ℕ) (left : SendLeft) → items.due_pages ≡ member_count (take (pages_of (now l)) l.due) → items.due_sectors ≡ member_count (drop (pages_of (now l)) l.due)
-    → items.dirty_pages ≡ member_count (take (pages_of (now l)) l.dirty) → items.dirty_sectors ≡ member_count (drop (pages_of (now l)) l.dirty) → IsMostByStop (is_closed l.phase) (StopsWithin l) stop → AreTold items stop status left → IsLeft l status left
+    → items.dirty_pages ≡ member_count (take (pages_of (now l)) l.dirty) → items.dirty_sectors ≡ member_count (drop (pages_of (now l)) l.dirty) → IsMostByStop (is_closed l.phase) (IsStopBytes l) stop → AreTold items stop status left → IsLeft l status left
 left_moving l items stop status left a b c d within told = record {
   status_is = told.status_is;
   counted = counted (pages_of (now l)) l.due l.dirty items stop status left a b c d told;
-  stop_bytes = subst (λ (n : ℕ). IsMostByStop (is_closed l.phase) (StopsWithin l) n) (sym (ap (λ (s : SendLeft). s.stop_bytes) told.left_is)) within;
+  stop_bytes = subst (λ (n : ℕ). IsMostByStop (is_closed l.phase) (IsStopBytes l) n) (sym (ap (λ (s : SendLeft). s.stop_bytes) told.left_is)) within;
   reserved = ap (λ (s : SendLeft). s.reserved) told.left_is;
 }
 
 pub left_moving_lent : (l : LiveParkedSeen) (items : Left) (stop status : ℕ) (left : SendLeft) → items.due_pages ≡ member_count (take (length l.parked.versions) l.due) → items.due_sectors ≡ member_count (drop (length l.parked.versions) l.due)
-    → items.dirty_pages ≡ member_count (take (length l.parked.versions) l.dirty) → items.dirty_sectors ≡ member_count (drop (length l.parked.versions) l.dirty) → IsMostByStop (is_closed l.phase) (λ bytes. WhateverRam l.parked (λ m. StopsWithin (live_back l m []) bytes)) stop → AreTold items stop status left → IsLeftLent l status left
+    → items.dirty_pages ≡ member_count (take (length l.parked.versions) l.dirty) → items.dirty_sectors ≡ member_count (drop (length l.parked.versions) l.dirty) → IsMostByStop (is_closed l.phase) (IsStopBytesLent l) stop → AreTold items stop status left → IsLeftLent l status left
 left_moving_lent l items stop status left a b c d within told = record {
   status_is = told.status_is;
   counted = counted (length l.parked.versions) l.due l.dirty items stop status left a b c d told;
-  stop_bytes = subst (λ (n : ℕ). IsMostByStop (is_closed l.phase) (λ bytes. WhateverRam l.parked (λ m. StopsWithin (live_back l m []) bytes)) n) (sym (ap (λ (s : SendLeft). s.stop_bytes) told.left_is)) within;
+  stop_bytes = subst (λ (n : ℕ). IsMostByStop (is_closed l.phase) (IsStopBytesLent l) n) (sym (ap (λ (s : SendLeft). s.stop_bytes) told.left_is)) within;
   reserved = ap (λ (s : SendLeft). s.reserved) told.left_is;
 }

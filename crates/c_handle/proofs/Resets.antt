@@ -29,7 +29,7 @@ use Rattle.sender.specs.declared.phase.Phase.{Phase}
 use Rattle.sender.specs.declared.phase.Phase.TheVariants as phases
 use Rattle.c_handle.specs.Dropping.{drops_out}
 use Rattle.c_handle.specs.Kept.{KeptSeen, LoanSeen, StillLent, MovingLent, State, Still, Moving, Arriving, Lent}
-use Rattle.c_handle.specs.Resetting.{AreDone, HasPages, IsDone, ResetsKept, drops_any, drops_below, has_input, loan_refusal, made_in, reset_of, reset_refusal, resets_from, shapes_in, stop_refusal}
+use Rattle.c_handle.specs.Resetting.{AreDone, HasPages, IsDone, ResetsKept, drops_any, drops_below, has_input, loan_refusal, made_in, reset_of, state_refusal, resets_from, shapes_in, stop_refusal}
 use Rattle.c_machine.specs.Status.{status_of}
 use Rattle.c_handle.specs.SendStatus.{live_status}
 use Rattle.c_handle.specs.Told.{Tells, TellsSo}
@@ -94,7 +94,7 @@ going_for phases.Failed e going = refl
 pub record IsDoneBy (k : State) (status : ℕ) (next : State) : Type 0 where
   pub status_is : status ≡ 0
   pub shapes : shapes_in next ≡ shapes_in k
-  pub going : reset_refusal next ≡ None
+  pub going : state_refusal next ≡ None
   pub pages : HasPages next
 
 abbrev pub IsFine : State → Event → Type 0
@@ -150,7 +150,7 @@ loan_done (MovingLent l) (MovingLent next) e status number before none pages fin
 loan_done (StillLent p) (MovingLent next) e status number before none pages fine t = absurd t
 loan_done (MovingLent l) (StillLent next) e status number before none pages fine t = absurd t
 
-done_by : (k next : State) (e : Event) (status number before : ℕ) → reset_refusal k ≡ None → HasPages k → IsFine k e → Tells k e status number before next → IsDoneBy k status next
+done_by : (k next : State) (e : Event) (status number before : ℕ) → state_refusal k ≡ None → HasPages k → IsFine k e → Tells k e status number before next → IsDoneBy k status next
 done_by (Still m) (Still next) e status number before none pages fine t = record { status_is = t.status_is ∙ fine m next t.reply refl t.applied; shapes = t.applied.shape.devices; going = refl; pages = tt }
 done_by (Moving l) (Moving next) e status number before none pages fine t = live_done (refusal_for l.phase (Guest e)) l next e t.reply status (going_for l.phase e none) none fine t.status_is t.serves
 done_by (Lent x) (Lent next) e status number before none pages fine t = loan_done x next e status number before none pages fine t
@@ -166,11 +166,11 @@ done_by (Lent x) (Moving next) e status number before none pages fine t = absurd
 done_by (Lent x) (Arriving next) e status number before none pages fine t = absurd t
 
 -- The two events of a device.
-pub wrote_in : (k next : State) (dev status number : ℕ) (shape : Shape) → reset_refusal k ≡ None → HasPages k → slice_get (shapes_in k) dev ≡ Some shape → Tells k (RegWrite dev 112 4 0) status number 0 next → IsDoneBy k status next
+pub wrote_in : (k next : State) (dev status number : ℕ) (shape : Shape) → state_refusal k ≡ None → HasPages k → slice_get (shapes_in k) dev ≡ Some shape → Tells k (RegWrite dev 112 4 0) status number 0 next → IsDoneBy k status next
 wrote_in k next dev status number shape none pages there t =
     done_by k next (RegWrite dev 112 4 0) status number 0 none pages (λ m after reply same applied. wrote m after dev shape reply (ap (λ (l : List Shape). slice_get l dev) same ∙ there) applied) t
 
-pub dropped_in : (k next : State) (dev status : ℕ) (shape : Shape) → reset_refusal k ≡ None → HasPages k → slice_get (shapes_in k) dev ≡ Some shape → has_input shape ≡ true → TellsSo k (Drop dev) status next → IsDoneBy k status next
+pub dropped_in : (k next : State) (dev status : ℕ) (shape : Shape) → state_refusal k ≡ None → HasPages k → slice_get (shapes_in k) dev ≡ Some shape → has_input shape ≡ true → TellsSo k (Drop dev) status next → IsDoneBy k status next
 dropped_in k next dev status shape none pages there some t =
     done_by k next (Drop dev) status 0 0 none pages (λ m after reply same applied. dropped m after dev shape reply (ap (λ (l : List Shape). slice_get l dev) same ∙ there) some applied) t
 
@@ -246,11 +246,11 @@ pub drops_none : (k : KeptSeen) (dev count : ℕ) → count ≤ dev → count �
 drops_none k dev count past all before = sym (not_more (drops_any k) (drops_below dev k) before (λ is. drops_more k (length (shapes_in k.state)) dev (omega (arith, past, all)) is))
 
 -- By whether it is refused.
-pub refused : (k : KeptSeen) (status : ℕ) (answer : Option ℕ) → answer ≡ reset_refusal k.state → answer ≡ Some status → ResetsKept k status k.state
+pub refused : (k : KeptSeen) (status : ℕ) (answer : Option ℕ) → answer ≡ state_refusal k.state → answer ≡ Some status → ResetsKept k status k.state
 refused k status answer is why = rw (sym is ∙ why) (refl, refl)
 
-pub kept_out : (k : KeptSeen) (answer : Option ℕ) (drops : Bool) → answer ≡ reset_refusal k.state → answer ≡ None → drops ≡ drops_any k → drops ≡ true → ResetsKept k 29 k.state
+pub kept_out : (k : KeptSeen) (answer : Option ℕ) (drops : Bool) → answer ≡ state_refusal k.state → answer ≡ None → drops ≡ drops_any k → drops ≡ true → ResetsKept k 29 k.state
 kept_out k answer drops is none asked so = rw (sym is ∙ none, sym asked ∙ so) (refl, refl)
 
-pub was_reset : (k : KeptSeen) (next : State) (answer : Option ℕ) (drops : Bool) → answer ≡ reset_refusal k.state → answer ≡ None → drops ≡ drops_any k → drops ≡ false → AreDone k.state (resets_from 0 (shapes_in k.state)) next → ResetsKept k 0 next
+pub was_reset : (k : KeptSeen) (next : State) (answer : Option ℕ) (drops : Bool) → answer ≡ state_refusal k.state → answer ≡ None → drops ≡ drops_any k → drops ≡ false → AreDone k.state (resets_from 0 (shapes_in k.state)) next → ResetsKept k 0 next
 was_reset k next answer drops is none asked so done = rw (sym is ∙ none, sym asked ∙ so) (refl, done)

@@ -7,7 +7,7 @@ use Rattle.receiver.specs.declared.recv_error.RecvError.TheVariants.{AlreadyFail
 use Rattle.c_handle.specs.Admission.{Admits, first_refusal}
 use Rattle.c_handle.specs.AdmissionSeen.{AdmissionSeen, Denied}
 use Rattle.c_handle.specs.ArrivalSeen.{ArrivalSeen}
-use Rattle.c_handle.specs.Awaited.{HasArrived, HasSameDisks, IsClosed, IsFed, TellsEnd, TellsOf, TellsWhole, ram_coming, stream_status}
+use Rattle.c_handle.specs.Awaited.{HasArrived, HasSameDisks, IsClosed, IsFed, RefusesUntouched, TellsEnd, TellsOf, TellsWhole, ram_coming, stream_status}
 use Rattle.c_handle.specs.OnHandle.{Refuses, Unless}
 use Rattle.c_machine.specs.Status.{done, in_use, no_machine, stream_too_large, whole}
 use Rattle.c_handle.specs.Kept.{KeptSeen, State, Still, Moving, Arriving, Lent}
@@ -31,6 +31,7 @@ pub record HasNotFed (admission : AdmissionSeen) (r : ArrivalSeen) (piece : List
   pub admitted : Admits admission piece None let_in
   pub error : RecvError
   pub why : TellsOf r piece error
+  pub untouched : RefusesUntouched r piece error next
   pub status_is : status ≡ stream_status error
   pub failed : IsClosed r next
   pub denied : after ≡ Denied status

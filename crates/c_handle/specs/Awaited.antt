@@ -3,9 +3,10 @@ use denote.RawPtr.{Ptr}
 use Rattle.std.specs.Prelude.{◌≡◌, ◌≢◌, ℕ, ◌+◌, List, [], ◌++◌, length, map, Option, Some, None, Bool, true, false}
 use Rattle.machine.specs.Seen.{Seen, no_marks, state_of}
 use Rattle.machine.specs.State.{base_of}
+use Rattle.receiver.specs.Calls.{IsUntouched, WantsDevice}
 use Rattle.receiver.specs.Codes.{recv_code_of}
 use Rattle.receiver.specs.Faults.{Fault}
-use Rattle.receiver.specs.Receiving.{HasBeenFed, HasRounds, IsFinish, end_error, IsWholeFor, NoFault, Received, TellsNow, place_aside, ram_len_in}
+use Rattle.receiver.specs.Receiving.{HasBeenFed, HasHeaderFor, HasRounds, IsFinish, MayTouch, end_error, IsWholeFor, NoFault, Received, TellsNow, place_aside, ram_len_in}
 use Rattle.receiver.specs.Opened.{ram_at, told_by}
 use Rattle.receiver.specs.declared.ram_terms.RamTerms.{RamTerms}
 use Rattle.receiver.specs.declared.recv_error.RecvError.{RecvError}
@@ -147,10 +148,27 @@ HasSameDisks (Over r) (Over next) = next.disks ≡ r.disks
 HasSameDisks (Over r) next = ⊥
 HasSameDisks a next = Unit {0}
 
+-- Until a header for these images and this RAM is whole, they hold what they held.
+abbrev pub WaitsForHeader : ArrivalSeen → List ℕ → ArrivalSeen → Type 0
+WaitsForHeader (Over r) piece (Over next) = (b : List ℕ) → HasBeenFed r b → ¬ (HasHeaderFor r.ram r.sizes (b ++ piece)) → IsUntouched r next
+WaitsForHeader (Over r) piece next = ⊥
+WaitsForHeader a piece next = Unit {0}
+
+-- A piece that is refused for this reason changes neither after an earlier refusal, nor before what allows to touch them is whole.
+pub record TouchesLate (r : Received) (piece : List ℕ) (error : RecvError) (next : Received) : Type 0 where
+  pub gone : r.failed ≡ true → IsUntouched r next
+  pub before : (b : List ℕ) → HasBeenFed r b → ¬ (MayTouch r.ram r.sizes (b ++ piece) error) → IsUntouched r next
+
+abbrev pub RefusesUntouched : ArrivalSeen → List ℕ → RecvError → ArrivalSeen → Type 0
+RefusesUntouched (Over r) piece error (Over next) = TouchesLate r piece error next
+RefusesUntouched (Over r) piece error next = ⊥
+RefusesUntouched a piece error next = Unit {0}
+
 -- The next piece was taken.
 pub record IsFed (a : ArrivalSeen) (piece : List ℕ) (next : ArrivalSeen) : Type 0 where
   pub went_on : IsOpen a
   pub goes_on : (b : List ℕ) → HasCome a b → GoesOnWith (b ++ piece) next
+  pub waits : WaitsForHeader a piece next
   pub ram : awaited_ram next ≡ awaited_ram a
   pub place : awaited_place next ≡ awaited_place a
 
@@ -161,23 +179,30 @@ pub record IsFaulty (ram : RamTerms) (bytes : List ℕ) (error : RecvError) : Ty
   pub at : ℕ
   pub fault : Fault ram sizes bytes error at
 
--- Why bytes are refused: memory was refused, or there is a fault in them.
+-- Why bytes are refused: memory was refused, which is wanted for a header and for the records of devices, or there is a fault in them.
 abbrev pub TellsWhy : RamTerms → List ℕ → RecvError → Type 0
 TellsWhy ram bytes NoMemory = Unit {0}
 TellsWhy ram bytes error = IsFaulty ram bytes error
 
 -- Why a piece is refused over images: as their receiver says, which knows the length of the RAM that was handed in, and never
--- because a disk failed.
+-- because a disk failed. After the header memory is refused only where a record of a device is wanted.
 pub record IsToldOver (r : Received) (piece : List ℕ) (error : RecvError) : Type 0 where
   pub already : r.failed ≡ true → error ≡ AlreadyFailed
   pub why : (b : List ℕ) → HasBeenFed r b → TellsNow r.ram r.sizes b piece error
   pub steady : error ≢ DiskFailed
+  pub memory : error ≡ NoMemory → WantsDevice r piece
+
+-- The same over disks of the library.
+pub record IsToldOf (r : Received) (piece : List ℕ) (error : RecvError) : Type 0 where
+  pub why : (b : List ℕ) → HasCome (AtBody r) b → TellsWhy r.ram (b ++ piece) error
+  pub memory : error ≡ NoMemory → WantsDevice r piece
 
 -- Why a piece is refused: a refusal came before, or all bytes up to the end of the piece are refused.
 abbrev pub TellsOf : ArrivalSeen → List ℕ → RecvError → Type 0
 TellsOf Refused piece error = error ≡ AlreadyFailed
 TellsOf (Over r) piece error = IsToldOver r piece error
-TellsOf a piece error = (b : List ℕ) → HasCome a b → TellsWhy (awaited_ram a) (b ++ piece) error
+TellsOf (AtBody r) piece error = IsToldOf r piece error
+TellsOf (AtHead ram place held) piece error = (b : List ℕ) → b ≡ held → TellsWhy ram (b ++ piece) error
 
 -- Why no machine is made of all bytes: a refusal came before, or they are not yet the stream of a machine. It is never that memory was
 -- refused.

@@ -3,13 +3,13 @@ use Rattle.std.specs.Prelude.{Bool, true, false, ◌≡◌, ◌==◌, ℕ, zero,
 use Rattle.dirtylog.specs.Members.{member_count}
 use Rattle.disk_calls.specs.Calls.{is_any_out}
 use Rattle.machine.specs.Layout.{pages_of}
-use Rattle.machine.specs.Parked.{WhateverRam}
 use Rattle.machine.specs.Seen.{AreHonest, Seen, state_of}
-use Rattle.sender.specs.Calls.{Serves, StopsWithin}
+use Rattle.sender.specs.Calls.{Serves}
 use Rattle.sender.specs.Follows.{Relates}
 use Rattle.sender.specs.History.{nothing}
 use Rattle.sender.specs.LiveState.{HasPlaces, LiveSeen, now}
-use Rattle.sender.specs.Parked.{LiveParkedSeen, live_back}
+use Rattle.sender.specs.Parked.{LiveParkedSeen}
+use Rattle.sender.specs.StopBytes.{IsStopBytes, IsStopBytesLent}
 use Rattle.sender.specs.declared.event.Left.{Left}
 use Rattle.sender.specs.declared.event.LiveEvent.TheVariants as events
 use Rattle.sender.specs.declared.event.LiveReply.{LiveReply}
@@ -158,23 +158,23 @@ pub record AreCounted (pages : ℕ) (due dirty : List Bool) (left : SendLeft) : 
   pub dirty_pages : left.dirty_pages ≡ member_count (take pages dirty)
   pub dirty_sectors : left.dirty_sectors ≡ member_count (drop pages dirty)
 
--- A bound on the bytes that a stop would still write: 0 of a machine that was stopped.
+-- The most bytes that a stop would still write: 0 of a machine that was stopped.
 abbrev pub IsMostByStop : Bool → (ℕ → Type 0) → ℕ → Type 0
-IsMostByStop true within bytes = bytes ≡ 0
-IsMostByStop false within bytes = within bytes
+IsMostByStop true going bytes = bytes ≡ 0
+IsMostByStop false going bytes = going bytes
 
 -- How many pages and sectors are due in this round, and how many were written since; and the most bytes that a stop would write.
 pub record IsLeft (l : LiveSeen) (status : ℕ) (left : SendLeft) : Type 0 where
   pub status_is : status ≡ done
   pub counted : AreCounted (pages_of (now l)) l.due l.dirty left
-  pub stop_bytes : IsMostByStop (is_closed l.phase) (StopsWithin l) left.stop_bytes
+  pub stop_bytes : IsMostByStop (is_closed l.phase) (IsStopBytes l) left.stop_bytes
   pub reserved : left.reserved ≡ replicate 3 0
 
 -- As above, while its RAM is lent: as far as its pages were named.
 pub record IsLeftLent (l : LiveParkedSeen) (status : ℕ) (left : SendLeft) : Type 0 where
   pub status_is : status ≡ done
   pub counted : AreCounted (length l.parked.versions) l.due l.dirty left
-  pub stop_bytes : IsMostByStop (is_closed l.phase) (λ bytes. WhateverRam l.parked (λ m. StopsWithin (live_back l m []) bytes)) left.stop_bytes
+  pub stop_bytes : IsMostByStop (is_closed l.phase) (IsStopBytesLent l) left.stop_bytes
   pub reserved : left.reserved ≡ replicate 3 0
 
 abbrev pub LeavesKept : State → ℕ → SendLeft → SendLeft → Type 0

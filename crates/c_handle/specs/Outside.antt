@@ -24,7 +24,7 @@ use Rattle.c_machine.specs.Status as statuses
 use Rattle.c_handle.specs.DiskCalls.{HandsUnless, HasHandedNone, IsNotOut, IsOut, MeetsParked, MeetsStill, asker_lent, asker_of, counted_as, counts_in, done_with, fits_done, puts_bytes}
 use Rattle.c_handle.specs.Kept.{KeptSeen, LoanSeen, State, StillLent, MovingLent, Still, Moving, Arriving, Lent, is_lost, parked_in}
 use Rattle.c_handle.specs.OnHandle.{OfState, Unless}
-use Rattle.c_handle.specs.Resetting.{stop_refusal}
+use Rattle.c_handle.specs.Resetting.{state_refusal, stop_refusal}
 use Rattle.c_handle.specs.declared.outside.Call.{Call}
 
 -- A machine that was stopped asks for nothing; so does what arrives, and one that has lent its RAM.
@@ -114,17 +114,6 @@ abbrev pub AnswersIf : KeptSeen → ℕ → (DiskCall → Bool) → (DiskCall �
 AnswersIf k number fits answer status next log calls =
     AnswersAt k number fits answer status next log calls ⊎ (IsNotOut k.calls number × HasNotAnswered k status next log calls statuses.not_out)
 
--- Why no call is answered, whatever its number: there is no machine that takes an answer.
-abbrev pub lent_refusal : LoanSeen → Option ℕ
-lent_refusal (StillLent p) = None
-lent_refusal (MovingLent l) = stop_refusal l.phase
-
-abbrev pub answer_refusal : State → Option ℕ
-answer_refusal (Still m) = None
-answer_refusal (Moving l) = stop_refusal l.phase
-answer_refusal (Arriving r) = Some statuses.no_machine
-answer_refusal (Lent x) = lent_refusal x
-
 -- No call of this number is found, for this reason: the state, or that none is out.
 abbrev pub Unfound : Option ℕ → AllCalls → ℕ → ℕ → Type 0
 Unfound (Some reason) calls number status = status ≡ reason
@@ -132,7 +121,7 @@ Unfound None calls number status = (status ≡ statuses.not_out) × IsNotOut cal
 
 abbrev pub AnswersKept : KeptSeen → ℕ → (DiskCall → Bool) → (DiskCall → DiskAnswer) → ℕ → State → Option (List Bool) → AllCalls → Type 0
 AnswersKept k number fits answer status next log calls =
-    Unless (answer_refusal k.state) (HasNotAnswered k status next log calls) (AnswersIf k number fits answer status next log calls)
+    Unless (state_refusal k.state) (HasNotAnswered k status next log calls) (AnswersIf k number fits answer status next log calls)
 
 pub record DoesAnswer (k : KeptSeen) (number : ℕ) (fits : DiskCall → Bool) (answer : DiskCall → DiskAnswer) (status : ℕ) (after : Option KeptSeen) : Type 0 where
   pub next : State

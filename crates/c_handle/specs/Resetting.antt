@@ -71,11 +71,12 @@ abbrev pub loan_refusal : LoanSeen → Option ℕ
 loan_refusal (StillLent p) = None
 loan_refusal (MovingLent l) = stop_refusal l.phase
 
-abbrev pub reset_refusal : State → Option ℕ
-reset_refusal (Still m) = None
-reset_refusal (Moving l) = stop_refusal l.phase
-reset_refusal (Arriving r) = Some no_machine
-reset_refusal (Lent x) = loan_refusal x
+-- Why no device is reset and no call of a disk is answered: there is no machine, or it was stopped.
+abbrev pub state_refusal : State → Option ℕ
+state_refusal (Still m) = None
+state_refusal (Moving l) = stop_refusal l.phase
+state_refusal (Arriving r) = Some no_machine
+state_refusal (Lent x) = loan_refusal x
 
 -- The reset of one of the devices below this number would drop a request whose call is out.
 abbrev pub drops_below : ℕ → KeptSeen → Bool
@@ -93,7 +94,7 @@ refusal_with None false = None
 
 abbrev pub ResetsKept : KeptSeen → ℕ → State → Type 0
 ResetsKept k status next =
-    Unless (refusal_with (reset_refusal k.state) (drops_any k)) (λ reason. (status ≡ reason) × (next ≡ k.state)) ((status ≡ done) × AreDone k.state (resets_from 0 (shapes_in k.state)) next)
+    Unless (refusal_with (state_refusal k.state) (drops_any k)) (λ reason. (status ≡ reason) × (next ≡ k.state)) ((status ≡ done) × AreDone k.state (resets_from 0 (shapes_in k.state)) next)
 
 -- The guest of the machine of a handle reboots, also while its RAM is lent.
 abbrev pub Resets : Option KeptSeen → ℕ → Option KeptSeen → Type 0

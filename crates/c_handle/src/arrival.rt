@@ -5,8 +5,7 @@
 //!
 //! Images are held in each stage: a refused end gives them back (`Receiver::finish_or_back`), as a refused piece does, so a status loses no
 //! image. They then hold some of the stream's sectors: the receiver writes each as it comes. That they are of other sizes than the stream's
-//! disks is reported at the header's end, by the receiver (36). That no sector is written before is tested, and no clause says it: of a piece
-//! that is refused `feed` promises the sizes and the marks of the disks, and nothing of their sectors.
+//! disks is reported at the header's end, by the receiver (36), before a sector or a page is written.
 
 ghost use Rattle.std.specs.Prelude.{◌≡◌, ◌++◌, IfErr, IfOk, false, length};
 ghost use Rattle.machine.specs.Shapes.{disk_sizes};
@@ -77,7 +76,7 @@ impl Model for Arrival {
 
 impl Arrival {
     ghost use Rattle.std.specs.Prelude.{◌≡◌, IfErr, IfOk, MatchOption, false, length, true};
-    ghost use Rattle.c_handle.specs.Awaited.{CountsRounds, HasArrived, HasSameDisks, IsAtHead, IsClosed, IsFed, TellsEnd, TellsOf, TellsWhole, arrived_by, are_images, awaited_base, awaited_sizes, is_over, nothing_fed, ram_coming, refused_for_good};
+    ghost use Rattle.c_handle.specs.Awaited.{CountsRounds, HasArrived, HasSameDisks, IsAtHead, IsClosed, IsFed, RefusesUntouched, TellsEnd, TellsOf, TellsWhole, arrived_by, are_images, awaited_base, awaited_sizes, is_over, nothing_fed, ram_coming, refused_for_good};
     ghost use Rattle.receiver.specs.Opened.{told_by};
     ghost use Rattle.receiver.specs.Receiving.{place_aside};
     ghost use Rattle.c_handle.specs.Landing.{AreDisksOf, IsAwaitedAt};
@@ -122,6 +121,7 @@ impl Arrival {
     pub(crate) fn feed(&mut self, alloc: Global, piece: &[u8]) -> Result<(), RecvError>
         ensures fed { IfOk result (λ x. IsFed self.old piece.now self.new) }
         ensures refused { IfErr result (λ e. TellsOf self.old piece.now e × IsClosed self.old self.new) }
+        ensures untouched { IfErr result (λ e. RefusesUntouched self.old piece.now e self.new) }
         ensures disks { is_over self.new ≡ is_over self.old }
     {
         match &mut self.progress {
@@ -144,6 +144,7 @@ impl Arrival {
         requires { IsAtHead self.old }
         ensures fed { IfOk result (λ x. IsFed self.old piece.now self.new) }
         ensures refused { IfErr result (λ e. TellsOf self.old piece.now e × IsClosed self.old self.new) }
+        ensures untouched { IfErr result (λ e. RefusesUntouched self.old piece.now e self.new) }
         ensures disks { is_over self.new ≡ false }
     {
         let Progress::Head(terms, ram, held) = mem::replace(&mut self.progress, Progress::Failed)

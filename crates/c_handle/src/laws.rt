@@ -1,7 +1,7 @@
 //! Laws over the definitions alone. These functions do nothing: their contracts are the laws.
 
 ghost use Rattle.c_handle.specs.ArrivedLogs.{ArrivedHasPlaces};
-ghost use Rattle.c_handle.specs.CallLaws.{AnswersStayFrom, FirstCallsAreFrom, ForeignIsNotOut, HandsStayFrom, LostAnswersFail, NextCallIsHandedOut, UnusedIsNotOut};
+ghost use Rattle.c_handle.specs.CallLaws.{AnswersStayFrom, FirstCallsAreFrom, ForeignIsNotOut, HandsStayFrom, LostAnswersFail, NextCallIsHandedOut, StopFindsNoneOut, StoppedHandsNone, UnusedIsNotOut};
 ghost use Rattle.c_handle.specs.Durable.{FailedIsLost, FailedMirrors, FailedStaysPlain, RefusedFailsNothing};
 ghost use Rattle.c_handle.specs.Mirror.{AppliedMirrors, PulledMirrors, PushedMirrors, UnseenMirrors};
 ghost use Rattle.c_machine.specs.Plain.{PlainStays, RefusedChangesNothing};
@@ -78,6 +78,12 @@ pub fn foreign_answers_are_not_out()
 /// Where `next` tells of a call, the next hand-out gives one, whatever room there is for it.
 pub fn next_call_is_handed_out()
     ensures { NextCallIsHandedOut }
+{}
+
+/// No call of a stopped machine is out: its stop found none, and it hands none out.
+pub fn stopped_has_no_call_out()
+    ensures found { StopFindsNoneOut }
+    ensures none { StoppedHandsNone }
 {}
 
 /// Of a disk that is lost no flush, and no durable write or clearing, is told done, also where it was out when the disk was lost.

@@ -2,9 +2,7 @@
 
 ghost use Rattle.std.specs.Prelude.{◌≡◌, IfErr, IfOk, [], drop, take};
 ghost use Rattle.disk_calls.specs.Calls.{is_any_out};
-ghost use Rattle.machine.specs.Parked.{WhateverRam};
-ghost use Rattle.sender.specs.Calls.{StopsWithin};
-ghost use Rattle.sender.specs.Parked.{live_back};
+ghost use Rattle.sender.specs.StopBytes.{IsStopBytes, IsStopBytesLent};
 ghost use Rattle.c_handle.specs.Mirror.{is_closed};
 ghost use Rattle.c_handle.specs.Migrated.{AbortsKept, AreTold, BeginsKept, EndsKept, HasBegun, HasEnded, HasStopped, HasTaken, IsAnswered, IsLeft, IsLeftLent, IsMostByStop, LeavesKept, SendsKept, SendsSome, SendsUpTo, StopsKept, StopsUnless, TakesKept, send_refusal};
 ghost use Rattle.c_handle.specs.Kept.{are_mapped, held_state, state_in};
@@ -289,9 +287,9 @@ fn tell_left<D: Disk>(live: &Moving<D>, left: &mut SendLeft) -> u32
     left_status(items, most_by_stop(live), left)
 }
 
-/// A bound on the bytes that a stop would still write: none where it was made.
+/// The most bytes that a stop would still write: none where it was made.
 fn most_by_stop<D: Disk>(live: &Moving<D>) -> u64
-    ensures { IsMostByStop (is_closed live.now.phase) (StopsWithin live.now) result }
+    ensures { IsMostByStop (is_closed live.now.phase) (IsStopBytes live.now) result }
 {
     if has_stopped(live.phase()) {
         return 0;
@@ -308,7 +306,7 @@ fn tell_left_lent<D: Disk>(live: &MovingLent<D>, left: &mut SendLeft) -> u32
 
 /// As above, while its RAM is lent.
 fn most_by_stop_lent<D: Disk>(live: &MovingLent<D>) -> u64
-    ensures { IsMostByStop (is_closed live.now.phase) (λ bytes. WhateverRam live.now.parked (λ m. StopsWithin (live_back live.now m []) bytes)) result }
+    ensures { IsMostByStop (is_closed live.now.phase) (IsStopBytesLent live.now) result }
 {
     if has_stopped(live.phase()) {
         return 0;

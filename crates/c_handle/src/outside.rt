@@ -14,16 +14,17 @@ ghost use Rattle.machine.specs.declared.event.DiskAnswer.TheVariants as answers;
 ghost use Rattle.machine.specs.declared.machine.TheConstants.{DEVICES_MAX};
 ghost use Rattle.c_handle.specs.DiskCalls.{HandsFrom, HandsUnless, IsAllowed, IsAskedFor, IsOut, MeetsParked, MeetsStill, answer_in, answers_call, asker_lent, asker_of, counted, counts_in, done_as, done_with, filled_with, fits_done, is_durable, is_part, puts_bytes, told_call, what_of};
 ghost use Rattle.c_handle.specs.Kept.{FitsLog, is_lost, loan_of};
-ghost use Rattle.c_handle.specs.Outside.{AnswersKept, HandsKept, Meets, MeetsLent, MeetsLiveParked, MeetsMoving, Unfound, answer_refusal, counted_answer, devices_of, is_lent, lent_refusal, unfit};
+ghost use Rattle.c_handle.specs.Outside.{AnswersKept, HandsKept, Meets, MeetsLent, MeetsLiveParked, MeetsMoving, Unfound, counted_answer, devices_of, is_lent, unfit};
+ghost use Rattle.c_handle.specs.Resetting.{loan_refusal, state_refusal};
 
 use crate::calls_out::CallsOut;
 use crate::devices::Devices;
 use crate::kept::{Kept, Moving, by_state};
 use crate::loan::{Loan, MovingLent};
 use crate::logging::{gave, live_gave};
-use crate::resetting::stop_refusal;
+use crate::resetting::{state_refusal, stop_refusal};
 use blk::{DiskCall, SECTOR_SIZE, What};
-use c_machine::status::{CALL, DONE, IDLE, LENT, NO_MACHINE, NOT_OUT, TOO_LONG, TOO_SMALL};
+use c_machine::status::{CALL, DONE, IDLE, LENT, NOT_OUT, TOO_LONG, TOO_SMALL};
 use disk_calls::{Handed, Place, counts};
 use machine::{Disk, Machine, OutsideCall, PageLog, Parked};
 
@@ -232,29 +233,16 @@ pub fn answer_failed(kept: &mut Kept, number: u64) -> u32
 /// Where the call with this number is, or the status that says why it is not answered.
 #[tactic(auto, using(crate::proofs::HandedCalls::refused_by))]
 fn place_of(kept: &Kept, number: u64) -> Result<Place, u32>
-    ensures found { IfOk result (λ place. (answer_refusal kept.now.state ≡ None) × IsOut kept.now.calls number place × (place.dev < DEVICES_MAX)) }
-    ensures refused { IfErr result (λ status. Unfound (answer_refusal kept.now.state) kept.now.calls number status) }
+    ensures found { IfOk result (λ place. (state_refusal kept.now.state ≡ None) × IsOut kept.now.calls number place × (place.dev < DEVICES_MAX)) }
+    ensures refused { IfErr result (λ status. Unfound (state_refusal kept.now.state) kept.now.calls number status) }
 {
-    if let Some(status) = answer_refusal(kept) {
+    if let Some(status) = state_refusal(kept) {
         return Err(status);
     }
     match kept.calls.find(number) {
         Some(place) => Ok(place),
         None => Err(NOT_OUT),
     }
-}
-
-/// Why no call is answered, whatever its number, if so.
-fn answer_refusal(kept: &Kept) -> Option<u32>
-    ensures { result ≡ answer_refusal kept.now.state }
-{
-    by_state!(&kept.held;
-        still(_) => None,
-        moving(live) => stop_refusal(live.phase()),
-        still_lent(_) => None,
-        moving_lent(live) => stop_refusal(live.phase()),
-        arriving(_) => Some(NO_MACHINE),
-    )
 }
 
 /// Why this is not taken as the answer of a call, whether or not it fits it, if so.
@@ -353,7 +341,7 @@ fn done_as(what: What, count: u32, bytes: &[u8]) -> Given<'_>
 /// Hands the answer of a call to the request that asked for it, if it still waits, and takes the call out.
 #[tactic(auto, using(crate::proofs::HandedCalls::meets_still, crate::proofs::HandedCalls::meets_moving, crate::proofs::HandedCalls::meets_lent, crate::proofs::HandedCalls::puts_none, crate::proofs::HandedCalls::goes_lent, crate::proofs::SamePages::met_lent))]
 fn hand_in(kept: &mut Kept, place: Place, given: Given<'_>)
-    requires goes { answer_refusal kept.old.state ≡ None }
+    requires goes { state_refusal kept.old.state ≡ None }
     requires fits { unfit kept.old.state (answer_in given) true ≡ None }
     requires out { (number : ℕ) × IsOut kept.old.calls number place }
     requires there { place.dev < DEVICES_MAX }
@@ -449,7 +437,7 @@ fn meet_moving<D: Disk>(
 /// Hands an answer that puts no bytes into RAM to a machine whose RAM is lent.
 fn meet_lent<D: Disk>(loan: &mut Loan<D>, place: Place, calls: &CallsOut, given: Given<'_>)
     requires none { puts_bytes (answer_in given) ≡ false }
-    requires goes { lent_refusal (loan_of loan.old) ≡ None }
+    requires goes { loan_refusal (loan_of loan.old) ≡ None }
     requires there { place.dev < DEVICES_MAX }
     ensures { MeetsLent place (answer_in given.entry) (loan_of loan.old) (loan_of loan.new) }
 {

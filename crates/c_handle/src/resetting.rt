@@ -6,7 +6,7 @@
 ghost use Rattle.std.specs.Prelude.{◌≡◌, ◌<◌, ◌≤◌, None, Some, length, slice_get};
 ghost use Rattle.machine.specs.declared.machine.TheConstants.{DEVICES_MAX};
 ghost use Rattle.machine.specs.declared.shape.Shape.{Shape};
-ghost use Rattle.c_handle.specs.Resetting.{AreDone, HasPages, ResetsKept, drops_any, has_input, reset_of, reset_refusal, shapes_in, stop_refusal};
+ghost use Rattle.c_handle.specs.Resetting.{AreDone, HasPages, ResetsKept, drops_any, has_input, reset_of, state_refusal, shapes_in, stop_refusal};
 
 use crate::dropping::drops_out;
 use crate::kept::{Kept, by_state};
@@ -25,7 +25,7 @@ pub fn reset(kept: &mut Kept) -> u32
     ensures resets { ResetsKept kept.old result kept.new.state }
     ensures kind { kept.new ≡ record kept.old { state = kept.new.state } }
 {
-    if let Some(status) = reset_refusal(kept) {
+    if let Some(status) = state_refusal(kept) {
         return status;
     }
     if drops_any(kept) {
@@ -50,9 +50,9 @@ fn drops_any(kept: &Kept) -> bool
     false
 }
 
-/// Why no device is reset, if none is, by the state.
-fn reset_refusal(kept: &Kept) -> Option<u32>
-    ensures { result ≡ reset_refusal kept.now.state }
+/// Why no device is reset and no call of a disk is answered, by the state, if so.
+pub(crate) fn state_refusal(kept: &Kept) -> Option<u32>
+    ensures { result ≡ state_refusal kept.now.state }
 {
     by_state!(&kept.held;
         still(_) => None,
@@ -111,11 +111,11 @@ fn shape_of(kept: &Kept, dev: u8) -> Shape
 
 fn reset_device(kept: &mut Kept, dev: u8)
     requires there { dev < length (shapes_in kept.old.state) }
-    requires going { reset_refusal kept.old.state ≡ None }
+    requires going { state_refusal kept.old.state ≡ None }
     requires pages { HasPages kept.old.state }
     ensures done { (shape : Shape) → slice_get (shapes_in kept.old.state) dev ≡ Some shape → AreDone kept.old.state (reset_of dev shape) kept.new.state }
     ensures shapes { shapes_in kept.new.state ≡ shapes_in kept.old.state }
-    ensures going { reset_refusal kept.new.state ≡ None }
+    ensures going { state_refusal kept.new.state ≡ None }
     ensures pages { HasPages kept.new.state }
     ensures kind { kept.new ≡ record kept.old { state = kept.new.state } }
 {

@@ -20,7 +20,7 @@ use Rattle.receiver.specs.Disks.{all_marks_in}
 use Rattle.receiver.specs.declared.recv_error.RecvError.{RecvError}
 use Rattle.receiver.specs.declared.recv_error.RecvError.TheVariants.{AlreadyFailed, Truncated}
 use Rattle.receiver.specs.Fed.{IsKnownIn, IsReadWhole, IsReading}
-use Rattle.receiver.specs.Receiving.{HasBeenFed, IsFinish, IsGivenUp, IsKnown, IsReceiver, ReaderSeen, Received, end_error, place_in, received_with, IsTaken, IsWholeFor, NoNext, has_ended, has_failed}
+use Rattle.receiver.specs.Receiving.{HasBeenFed, IsFinish, IsGivenUp, IsKnown, IsPastHead, IsReceiver, ReaderSeen, Received, end_error, place_in, received_with, IsTaken, IsWholeFor, NoNext, has_ended, has_failed}
 use Rattle.receiver.specs.declared.intake.Intake.{Intake}
 use Rattle.receiver.specs.declared.stage.Stage.{Stage}
 use Rattle.receiver.specs.declared.stage.Stage.TheVariants as stages
@@ -77,8 +77,9 @@ abbrev pub seen_of : RamTerms → List DiskState → Option Memory → Option Ro
 seen_of ram disks aside room digest stage = record { ram = ram; disks = disks; aside = aside; room = room; digest = digest; stage = stage }
 
 -- A receiver that is given back.
-pub given_back_as : (r : ReaderSeen) (held : List ℕ) (new : Received) → new.failed ≡ true → new.ram ≡ r.ram → new.disks ≡ r.disks → new.sizes ≡ sizes_in r.disks → new.marks ≡ all_marks_in r.disks → new.place ≡ place_in r.aside r.stage → IsGivenUp (received_with r held) new
-given_back_as r held new failed ram disks sizes marks place = record { failed = failed; ram = ram; disks = disks; sizes = sizes; marks = marks; place = place }
+pub given_back_as : (r : ReaderSeen) (held : List ℕ) (new : Received) → new.failed ≡ true → new.ram ≡ r.ram → new.disks ≡ r.disks → new.sizes ≡ sizes_in r.disks → new.marks ≡ all_marks_in r.disks → (¬ (IsPastHead r.stage) → new.aside ≡ r.aside) → new.place ≡ place_in r.aside r.stage
+    → IsGivenUp (received_with r held) new
+given_back_as r held new failed ram disks sizes marks aside place = record { failed = failed; ram = ram; disks = disks; aside = aside; sizes = sizes; marks = marks; place = place }
 
 -- A receiver that has read the digest has come to the end of a whole stream.
 pub has_come : (r : ReaderSeen) (held : List ℕ) (room lacking : ℕ) (i : Intake) → IsReceiver r held room lacking → r.stage ≡ stages.Records i → i.ended ≡ true → (front : List ℕ) × IsReadWhole r.ram r.disks front i

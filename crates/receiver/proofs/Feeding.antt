@@ -14,8 +14,8 @@ use Rattle.machine.specs.Room.{RoomSeen}
 use Rattle.receiver.specs.Calls.{Feeds, IsNew}
 use Rattle.receiver.specs.Disks.{AreKept, all_marks_in, disk_marks_of, sizes_in, sizes_of}
 use Rattle.receiver.specs.Faults.{Fault}
-use Rattle.receiver.specs.Reading.{IsFirst, TakesPiece, place_of}
-use Rattle.receiver.specs.Receiving.{HasBeenFed, IsPastHead, IsKnown, IsReceiver, IsTaken, Knows, NoFault, ReaderSeen, TellsFault, TellsNow, has_failed, place_aside, place_in, received_with}
+use Rattle.receiver.specs.Reading.{HasSameStore, IsFirst, TakesPiece, place_of}
+use Rattle.receiver.specs.Receiving.{HasBeenFed, IsPastHead, IsKnown, IsReceiver, IsTaken, Knows, MayTouch, NoFault, ReaderSeen, TellsFault, TellsNow, has_failed, place_aside, place_in, received_with}
 use Rattle.receiver.specs.Waiting.{LacksBytes}
 use Rattle.receiver.specs.declared.stage.Stage.{Stage}
 use Rattle.receiver.specs.declared.stage.Stage.TheVariants as stages
@@ -24,6 +24,7 @@ use Rattle.receiver.specs.declared.recv_error.RecvError.{RecvError}
 use Rattle.receiver.specs.declared.recv_error.RecvError.TheVariants.{AlreadyFailed, NoMemory}
 use Rattle.receiver.proofs.Knowing.{no_fault_known}
 use Rattle.receiver.proofs.Prefixes.{holds}
+use Rattle.receiver.proofs.Untouched.{seen_same, taken_untouched}
 use Rattle.receiver.proofs.Wanting.{err_again, fed_wants, ok_not_err}
 use Rattle.receiver.proofs.Working.{tells_more}
 
@@ -51,9 +52,9 @@ all_bytes : (front held piece b : List ℕ) → b ≡ front ++ held → b ++ pie
 all_bytes front held piece b is = ap (λ (x : List ℕ). x ++ piece) is ∙ append_assoc front held piece
 
 -- A piece that is taken.
-pub fed_on : (r n : ReaderSeen) (held rest piece : List ℕ) (x : Unit {0}) → IsBytes piece → n.ram ≡ r.ram → place_of n ≡ place_of r → AreKept r.disks n.disks → has_failed r.stage ≡ false
+pub fed_on : (r n : ReaderSeen) (held rest piece : List ℕ) (x : Unit {0}) → IsBytes piece → n.ram ≡ r.ram → place_of n ≡ place_of r → AreKept r.disks n.disks → has_failed r.stage ≡ false → (n.stage ≡ stages.Head → HasSameStore r n)
     → ((b : List ℕ) → HasBeenFed (received_with r held) b → IsTaken n.ram n.disks n.digest (b ++ piece) rest n.stage) → Feeds (received_with r held) piece (Ok x) (received_with n rest)
-fed_on r n held rest piece x are ram place same on more = record {
+fed_on r n held rest piece x are ram place same on waits more = record {
   ram = ram;
   sizes = same.sizes;
   marks = same.marks;
@@ -65,6 +66,9 @@ fed_on r n held rest piece x are ram place same on more = record {
   place = place;
   already = λ f. absurd (true_false _ f on);
   memory = λ e. absurd (ok_not_err e);
+  gone = λ f. absurd (true_false _ f on);
+  waits = λ b h never. seen_same r n held rest (taken_untouched r n (b ++ piece) rest ram same.sizes waits (more b h) never);
+  untouched = tt;
 }
 
 past_on : (stage : Stage) → has_failed stage ≡ true → IsPastHead stage → ⊥
@@ -120,7 +124,7 @@ pub fed_as_taken : (r n : ReaderSeen) (held rest piece : List ℕ) (had has lack
 fed_as_taken r n held rest piece had has lacking x are kept p =
     let on : has_failed r.stage ≡ false = not_failed_before r n held had piece rest has p in
     let some = kept.known on in
-    fed_on r n held rest piece tt are p.ram p.place (p.took some.0 some.1).0 on
+    fed_on r n held rest piece tt are p.ram p.place (p.took some.0 some.1).0 on p.waits
     (λ b h. subst (λ (x : List ℕ). IsTaken n.ram n.disks n.digest x rest n.stage) (sym (all_bytes h.taken.front held piece b h.taken.whole)) (p.took h.taken.front h.taken.known).1)
 
 -- A piece that was refused: now, or after a refusal before.
@@ -142,6 +146,11 @@ refused_now old new before held none piece had has lacking e kept p on =
       place = p.place;
       already = λ f. absurd (true_false _ f on);
       memory = λ is b fed opening rest begins from at. fed_wants old before piece b opening rest from (λ front known past. p.memory kept.roomy front known past (err_again is)) fed begins at;
+      gone = λ f. absurd (true_false _ f on);
+      waits = tt;
+      untouched = λ b h never.
+          let all = all_bytes h.taken.front before piece b h.taken.whole in
+          seen_same old new before none (p.untouched kept.roomy h.taken.front h.taken.known (λ m. never (subst (λ (x : List ℕ). MayTouch old.ram (sizes_in old.disks) x e) (sym all) m)));
     }
 
 refused_then : (old new : ReaderSeen) (before held none piece : List ℕ) (had has : ℕ) (e : RecvError) → TakesPiece old before had piece (Err e) new held has → has_failed old.stage ≡ true → Feeds (received_with old before) piece (Err e) (received_with new none)
@@ -159,6 +168,9 @@ refused_then old new before held none piece had has e p failed =
       place = p.place;
       already = λ f. rw is refl;
       memory = λ none_left. absurd (let no : AlreadyFailed ≡ NoMemory = sym is ∙ (let one : e ≡ NoMemory = cc in one) in cc);
+      gone = λ f. record { disks = ap (λ (r : ReaderSeen). r.disks) same; aside = ap (λ (r : ReaderSeen). r.aside) same };
+      waits = tt;
+      untouched = λ b h. absurd (true_false _ failed h.goes_on);
     }
 
 pub fed_as_told : (old new : ReaderSeen) (before held none piece : List ℕ) (had has lacking : ℕ) (e : RecvError) → IsReceiver old before had lacking → TakesPiece old before had piece (Err e) new held has → Feeds (received_with old before) piece (Err e) (received_with new none)
@@ -169,13 +181,14 @@ fed_as_told old new before held none piece had has lacking e kept p = by_flag (h
     by_flag false on = refused_now old new before held none piece had has lacking e kept p on
 
 -- A receiver that was fed nothing.
-pub first_new : {D : Type 0} {ram : RamTerms} {aside : Option Memory} (state : D → DiskState) (disks : List D) (r : ReaderSeen) (held : List ℕ) → IsFirst ram (map state disks) aside r → held ≡ [] → IsNew state disks ram (place_aside aside) (received_with r held)
+pub first_new : {D : Type 0} {ram : RamTerms} {aside : Option Memory} (state : D → DiskState) (disks : List D) (r : ReaderSeen) (held : List ℕ) → IsFirst ram (map state disks) aside r → held ≡ [] → IsNew state disks ram aside (received_with r held)
 first_new state disks r held f none = record {
   fed = record { goes_on = ap has_failed f.stage; bytes = λ i. omega arith; taken = record { front = []; whole = sym none; known = subst (λ (x : List ℕ). Knows r [] x) (sym none) f.known } };
   ram = f.ram;
   sizes = ap sizes_in f.disks;
   marks = ap all_marks_in f.disks;
   disks = f.disks;
+  aside = f.aside;
   place = ap (place_in r.aside) f.stage ∙ ap place_aside f.aside;
 }
 

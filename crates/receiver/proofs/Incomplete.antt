@@ -30,6 +30,7 @@ use Rattle.receiver.specs.declared.recv_error.RecvError.TheVariants as errors
 use Rattle.receiver.proofs.Feeding.{fed_on, is_receiver}
 use Rattle.receiver.proofs.Prefixes.{holds_here}
 use Rattle.receiver.proofs.Standing.{second_low}
+use Rattle.receiver.proofs.Untouched.{same_again}
 use Rattle.receiver.proofs.Working.{kept}
 
 -- The held bytes begin with a head, and as many as any head has; the record is incomplete also with the piece behind them.
@@ -123,7 +124,7 @@ on_reading stages.Failed reads = absurd reads
 -- The piece is taken, and the receiver is one still.
 pub held_on : (r : ReaderSeen) (held piece : List ℕ) (lacking : ℕ) → IsBytes piece → length piece < lacking → LacksBytes r.stage held lacking → Feeds (received_with r held) piece (Ok tt) (received_with r (held ++ piece))
 held_on r held piece lacking are less l =
-    fed_on r r held (held ++ piece) piece tt are refl refl (kept r.disks) (on_reading r.stage l.reads) (λ b h. record {
+    fed_on r r held (held ++ piece) piece tt are refl refl (kept r.disks) (on_reading r.stage l.reads) (λ head. same_again r) (λ b h. record {
       front = h.taken.front;
       whole = ap (λ (x : List ℕ). x ++ piece) h.taken.whole ∙ append_assoc h.taken.front held piece;
       known = known_on r.ram r.disks r.digest h.taken.front held piece r.stage (within_body r.stage held piece lacking are less l) h.taken.known;

@@ -47,13 +47,15 @@ not_opened r bytes waits = record {
   place = refl;
   later = λ past. (refl, refl);
   failed = λ f. (refl, refl);
+  stays = tt;
+  waits = λ head. refl;
   opened = λ held head k. subst (λ (stage : Stage). HeaderAt r bytes (Ok 0) r stage) (sym head) (refl, (waits head).0, refl);
 }
 
 -- The header is refused. The RAM stands where it stood.
-pub open_refused : (r new : ReaderSeen) (bytes : List ℕ) (e : RecvError) → r.stage ≡ stages.Head → new.ram ≡ r.ram → new.disks ≡ r.disks → new.stage ≡ r.stage → new.aside ≡ r.aside
+pub open_refused : (r new : ReaderSeen) (bytes : List ℕ) (e : RecvError) → r.stage ≡ stages.Head → new.ram ≡ r.ram → new.disks ≡ r.disks → new.stage ≡ r.stage → new.aside ≡ r.aside → new ≡ r
     → AreRefused r.disks r.disks e × Tells e ((at : ℕ) × Fault r.ram (sizes_in r.disks) bytes e at) → ReadsHeader r bytes (Err e) new
-open_refused r new bytes e head ram disks stage aside t = record {
+open_refused r new bytes e head ram disks stage aside same t = record {
   ram = ram;
   disks = disks;
   within = tt;
@@ -61,6 +63,8 @@ open_refused r new bytes e head ram disks stage aside t = record {
   place = ap (λ a. place_in a new.stage) aside ∙ ap (place_in r.aside) stage;
   later = λ past. absurd (head_not_past r.stage head past);
   failed = λ f. absurd (true_false _ f (head_not_failed r.stage head));
+  stays = same;
+  waits = tt;
   opened = λ held h k. (subst (λ (ds : List DiskState). AreRefused r.disks ds e) (sym disks) t.0, t.1);
 }
 
@@ -79,6 +83,8 @@ piece_of_nothing r before piece had none few on = record {
   place = refl;
   already = λ f. absurd (true_false _ f on);
   memory = λ roomy front k past e. absurd cc;
+  waits = λ head. record { disks = refl; aside = refl };
+  untouched = tt;
   took = λ front k. (kept r.disks, record { front = front; whole = ap (λ (x : List ℕ). front ++ x) (no_more before piece none); known = k });
 }
   where
@@ -95,6 +101,8 @@ piece_refused_again r before piece had failed = record {
   place = refl;
   already = λ f. (refl, refl);
   memory = λ roomy front k past e. absurd cc;
+  waits = tt;
+  untouched = λ roomy front k never. record { disks = refl; aside = refl };
   took = λ front k. absurd (subst (λ (stage : Stage). IsKnown r.ram r.disks r.digest front before stage) (failed_is r.stage failed) k);
 }
 

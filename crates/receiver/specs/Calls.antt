@@ -1,7 +1,7 @@
 -- What the calls of a receiver promise, each in one record. What is said of bytes is said of each list that may have been fed.
 use Rattle.std.specs.Prelude.{◌≡◌, ℕ, ◌+◌, List, [], ◌++◌, length, map, true, false, Result, Ok, Err, IfOk, IfErr, OnOk, OnErr, Option, Some}
-use denote.RawPtr.{Ptr}
 use Rattle.blk.specs.Disk.{DiskState}
+use Rattle.guestmem.specs.Memory.{Memory}
 use Rattle.machine.specs.First.{dealt_marks}
 use Rattle.machine.specs.Limits.{IsWithinLimits}
 use Rattle.machine.specs.Seen.{Seen, all_marks, state_of}
@@ -11,27 +11,33 @@ use Rattle.wire.specs.Header as told
 use Rattle.wire.specs.Stream.{IsStream, shapes_in}
 use Rattle.receiver.specs.Disks.{AreHonestDisks, MarksAfter, disk_marks_of, sizes_of}
 use Rattle.receiver.specs.Opened.{terms_at}
-use Rattle.receiver.specs.Receiving.{HasBeenFed, HasDevice, IsArrived, IsFinish, IsGivenUp, IsReceived, IsWholeFor, NoFault, Received, RefusesSlice, TellsNow, end_error, ram_len_in}
+use Rattle.receiver.specs.Receiving.{HasBeenFed, HasDevice, HasHeaderFor, IsArrived, IsFinish, IsGivenUp, IsReceived, IsWholeFor, MayTouch, NoFault, Received, RefusesSlice, TellsNow, end_error, place_aside, ram_len_in}
 use Rattle.receiver.specs.declared.ram_terms.RamTerms.{RamTerms}
 use Rattle.receiver.specs.declared.recv_error.RecvError.{RecvError}
 use Rattle.receiver.specs.declared.terms.Terms.{Terms}
 use Rattle.receiver.specs.declared.recv_error.RecvError.TheVariants.{AlreadyFailed, NoMemory, Truncated}
 
--- A receiver that was fed nothing, with these disks, of which the host says this of RAM; the RAM that was handed in lies at `at`.
-pub record IsNew {D : Type 0} (state : D → DiskState) (given : List D) (terms : RamTerms) (at : Option Ptr) (new : Received) : Type 0 where
+-- A receiver that was fed nothing, with these disks and the RAM that was handed in, of which the host says this.
+pub record IsNew {D : Type 0} (state : D → DiskState) (given : List D) (terms : RamTerms) (handed : Option Memory) (new : Received) : Type 0 where
   pub fed : HasBeenFed new []
   pub ram : new.ram ≡ terms
   pub sizes : new.sizes ≡ sizes_of state given
   pub marks : new.marks ≡ disk_marks_of state given
   pub disks : new.disks ≡ map state given
-  pub place : new.place ≡ at
+  pub aside : new.aside ≡ handed
+  pub place : new.place ≡ place_aside handed
 
 -- After the header memory is refused only where a device's record is whole that ends in this piece.
 abbrev pub WantsDevice : Received → List ℕ → Type 0
 WantsDevice old piece = (b : List ℕ) → HasBeenFed old b → (opening : told.Opening) (rest : List ℕ) → told.Begins b opening rest
     → (from : ℕ) → from + length old.held ≡ length b → HasDevice old.ram old.sizes (b ++ piece) from
 
--- A piece was fed, and taken or refused.
+-- The disks hold what they held, and so does the RAM that was handed in.
+pub record IsUntouched (old new : Received) : Type 0 where
+  pub disks : new.disks ≡ old.disks
+  pub aside : new.aside ≡ old.aside
+
+-- A piece was fed, and taken or refused. Until a header for these disks and this RAM is whole, neither is touched.
 pub record Feeds (old : Received) (piece : List ℕ) (result : Result (Unit {0}) RecvError) (new : Received) : Type 0 where
   pub ram : new.ram ≡ old.ram
   pub sizes : new.sizes ≡ old.sizes
@@ -43,6 +49,9 @@ pub record Feeds (old : Received) (piece : List ℕ) (result : Result (Unit {0})
   pub place : new.place ≡ old.place
   pub already : old.failed ≡ true → result ≡ Err AlreadyFailed
   pub memory : result ≡ Err NoMemory → WantsDevice old piece
+  pub gone : old.failed ≡ true → IsUntouched old new
+  pub waits : OnOk result ((b : List ℕ) → HasBeenFed old b → ¬ (HasHeaderFor old.ram old.sizes (b ++ piece)) → IsUntouched old new)
+  pub untouched : IfErr result (λ e. (b : List ℕ) → HasBeenFed old b → ¬ (MayTouch old.ram old.sizes (b ++ piece) e) → IsUntouched old new)
 
 -- The result is a refusal for this reason. `why` reads it off what the refusal gives.
 abbrev pub FailsAs : {T E : Type 0} → (E → RecvError) → Result T E → RecvError → Type 0

@@ -1,5 +1,5 @@
 -- What the calls of a reader promise: all of a receiver but the bytes that it holds.
-use Rattle.std.specs.Prelude.{◌≡◌, ◌≤◌, ℕ, ◌+◌, List, [], ◌++◌, length, take, drop, true, Result, Ok, Err, IfOk, OnOk, OnErr, Option, Some}
+use Rattle.std.specs.Prelude.{◌≡◌, ◌≤◌, ℕ, ◌+◌, List, [], ◌++◌, length, take, drop, true, Result, Ok, Err, IfOk, IfErr, OnOk, OnErr, Option, Some}
 use denote.RawPtr.{Ptr}
 use Rattle.blk.specs.Disk.{DiskState}
 use Rattle.guestmem.specs.Memory.{Memory}
@@ -8,7 +8,7 @@ use Rattle.machine.specs.Shapes.{disk_sizes}
 use Rattle.receiver.specs.Disks.{AreKept, AreRefused, sizes_in}
 use Rattle.receiver.specs.Faults.{Fault, WaitsHead}
 use Rattle.receiver.specs.Fed.{IsUpTo, Tells}
-use Rattle.receiver.specs.Receiving.{HasDevice, IsPastHead, IsTaken, Knows, ReaderSeen, has_failed, length_aside, place_in}
+use Rattle.receiver.specs.Receiving.{HasDevice, IsPastHead, IsTaken, Knows, MayTouch, ReaderSeen, has_failed, length_aside, place_in}
 use Rattle.receiver.specs.Standing.{IsSized}
 use Rattle.receiver.specs.declared.ram_terms.RamTerms.{RamTerms}
 use Rattle.receiver.specs.declared.recv_error.RecvError.{RecvError}
@@ -27,6 +27,15 @@ IsReader ram disks aside room stages.Failed = Unit {0}
 abbrev pub place_of : ReaderSeen → Option Ptr
 place_of r = place_in r.aside r.stage
 
+-- The disks hold what they held, and so does the RAM that stands aside.
+pub record HasSameStore (old new : ReaderSeen) : Type 0 where
+  pub disks : new.disks ≡ old.disks
+  pub aside : new.aside ≡ old.aside
+
+-- The header was awaited, and still is: nothing was touched.
+abbrev pub WaitsOn : ReaderSeen → ReaderSeen → Type 0
+WaitsOn old new = new.stage ≡ stages.Head → (old.stage ≡ stages.Head) × HasSameStore old new
+
 -- Nothing was fed.
 pub record IsFirst (terms : RamTerms) (ds : List DiskState) (ram_aside : Option Memory) (new : ReaderSeen) : Type 0 where
   pub ram : new.ram ≡ terms
@@ -41,6 +50,7 @@ pub record StandsAside (old new : ReaderSeen) : Type 0 where
   pub disks : new.disks ≡ old.disks
   pub stage : new.stage ≡ stages.Failed
   pub place : place_of new ≡ place_of old
+  pub aside : ¬ (IsPastHead old.stage) → new.aside ≡ old.aside
 
 -- After a look for the header of the bytes: it was read, and has `at` bytes; or it was read before, or is not whole; or it is refused.
 abbrev pub HeaderAt : ReaderSeen → List ℕ → Result ℕ RecvError → ReaderSeen → Stage → Type 0
@@ -57,6 +67,8 @@ pub record ReadsHeader (old : ReaderSeen) (bytes : List ℕ) (result : Result �
   pub place : place_of new ≡ place_of old
   pub later : IsPastHead old.stage → (result ≡ Ok 0) × (new ≡ old)
   pub failed : has_failed old.stage ≡ true → (result ≡ Ok 0) × (new ≡ old)
+  pub stays : OnErr result (new ≡ old)
+  pub waits : OnOk result (new.stage ≡ stages.Head → new ≡ old)
   pub opened : (held : List ℕ) → old.stage ≡ stages.Head → Knows old [] held → HeaderAt old bytes result new new.stage
 
 -- After a look at bytes that follow those that were worked off: some of them are worked off, or they are refused.
@@ -72,6 +84,8 @@ pub record Looks (old : ReaderSeen) (bytes : List ℕ) (result : Result ℕ Recv
   pub past : IsPastHead old.stage → OnOk result (IsPastHead new.stage)
   pub place : place_of new ≡ place_of old
   pub memory : (front held : List ℕ) → Knows old front held → IsPastHead old.stage → result ≡ Err NoMemory → HasDevice old.ram (sizes_in old.disks) (front ++ bytes) (length front)
+  pub waits : OnOk result (WaitsOn old new)
+  pub untouched : IfErr result (λ e. (front held : List ℕ) → Knows old front held → ¬ (MayTouch old.ram (sizes_in old.disks) (front ++ bytes) e) → HasSameStore old new)
   pub looked : (front held : List ℕ) → Knows old front held → LookedAt old front bytes result new
 
 -- After more bytes, which make these bytes in all.
@@ -89,6 +103,9 @@ pub record TakesBytes (old : ReaderSeen) (before bytes : List ℕ) (result : Res
   pub place : place_of new ≡ place_of old
   pub memory : (front : List ℕ) → Knows old front before → IsPastHead old.stage → result ≡ Err NoMemory
       → HasDevice old.ram (sizes_in old.disks) (front ++ (before ++ bytes)) (length front)
+  pub waits : OnOk result (WaitsOn old new)
+  pub untouched : IfErr result (λ e. (front : List ℕ) → Knows old front before → ¬ (MayTouch old.ram (sizes_in old.disks) (front ++ (before ++ bytes)) e)
+      → HasSameStore old new)
   pub took : (front : List ℕ) → Knows old front before → TookBytes old (front ++ (before ++ bytes)) result new held
 
 -- A whole piece was. `had` and `has` are the room of the buffer, before and after.
@@ -101,4 +118,7 @@ pub record TakesPiece (old : ReaderSeen) (before : List ℕ) (had : ℕ) (piece 
   pub already : has_failed old.stage ≡ true → (result ≡ Err AlreadyFailed) × (new ≡ old)
   pub memory : (IsPastHead old.stage → 131078 ≤ had) → (front : List ℕ) → Knows old front before → IsPastHead old.stage → result ≡ Err NoMemory
       → HasDevice old.ram (sizes_in old.disks) (front ++ (before ++ piece)) (length front)
+  pub waits : OnOk result (new.stage ≡ stages.Head → HasSameStore old new)
+  pub untouched : IfErr result (λ e. (IsPastHead old.stage → 131078 ≤ had) → (front : List ℕ) → Knows old front before
+      → ¬ (MayTouch old.ram (sizes_in old.disks) (front ++ (before ++ piece)) e) → HasSameStore old new)
   pub took : (front : List ℕ) → Knows old front before → TookBytes old (front ++ (before ++ piece)) result new held

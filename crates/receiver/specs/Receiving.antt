@@ -120,8 +120,8 @@ length_aside (Some ram) = Some (length ram.bytes)
 -- What contracts see of a receiver: the address at which the RAM of the machine begins and the length of the RAM that was handed in,
 -- which no call changes; the sizes of its disks and what else is known of them, the number of rounds that ended, and whether there
 -- was a refusal; its disks, how far it has come, the digest of the bytes that were worked off, and the bytes that it
--- holds: those that were fed since the end of the last whole header or record; and where its RAM lies, if that is memory of the
--- caller.
+-- holds: those that were fed since the end of the last whole header or record; the RAM that stands aside, which until the header is
+-- read is the one that was handed in; and where its RAM lies, if that is memory of the caller.
 pub record Received : Type 0 where
   pub ram : RamTerms
   pub sizes : List ℕ
@@ -132,6 +132,7 @@ pub record Received : Type 0 where
   pub stage : Stage
   pub digest : Sha256
   pub held : List ℕ
+  pub aside : Option Memory
   pub place : Option Ptr
 
 -- A receiver with this reader, which holds these bytes.
@@ -146,6 +147,7 @@ received_with r held = record {
   stage = r.stage;
   digest = r.digest;
   held = held;
+  aside = r.aside;
   place = place_in r.aside r.stage;
 }
 
@@ -155,11 +157,12 @@ pub record HasBeenFed (r : Received) (b : List ℕ) : Type 0 where
   pub bytes : IsBytes b
   pub taken : IsTaken r.ram r.disks r.digest b r.held r.stage
 
--- It takes no more, and has the same disks and the same RAM.
+-- It takes no more, and has the same disks and the same RAM, which holds what it held where the header was not read.
 pub record IsGivenUp (old new : Received) : Type 0 where
   pub failed : new.failed ≡ true
   pub ram : new.ram ≡ old.ram
   pub disks : new.disks ≡ old.disks
+  pub aside : ¬ (IsPastHead old.stage) → new.aside ≡ old.aside
   pub sizes : new.sizes ≡ old.sizes
   pub marks : new.marks ≡ old.marks
   pub place : new.place ≡ old.place
@@ -192,6 +195,19 @@ pub record HasDevice (ram : RamTerms) (sizes bytes : List ℕ) (from : ℕ) : Ty
   pub more : List ℕ
   pub front : IsFront ram sizes bytes opening before (spelled_record (device number body) ++ more)
   pub behind : from ≤ length (opened_header opening ++ texts before)
+
+-- The bytes begin with a header for these disks and this RAM.
+pub record HasHeaderFor (ram : RamTerms) (sizes bytes : List ℕ) : Type 0 where
+  pub opening : Opened
+  pub before : List Record
+  pub tail : List ℕ
+  pub front : IsFront ram sizes bytes opening before tail
+
+-- Only after such a header may bytes that are refused have touched a disk or RAM. Where memory is refused, only after a record of a device
+-- is whole: the memory that a header wants is taken before anything is touched.
+abbrev pub MayTouch : RamTerms → List ℕ → List ℕ → RecvError → Type 0
+MayTouch ram sizes bytes NoMemory = HasDevice ram sizes bytes 0
+MayTouch ram sizes bytes e = HasHeaderFor ram sizes bytes
 
 -- What a refusal of a whole slice means: a fault of the bytes; or (`Truncated`) that they have no fault but are not a stream of
 -- any machine; or that a disk failed, where some disk is not steady; or that memory was refused.

@@ -47,11 +47,11 @@ impl<D: Disk> Model for Receiver<D> {
 }
 
 impl<D: Disk + Drop> Receiver<D> {
-    ghost use Rattle.std.specs.Prelude.{◌≡◌, ℕ, List, ◌≤◌, IfSome, None, length, map, true, false};
+    ghost use Rattle.std.specs.Prelude.{◌≡◌, ℕ, List, ◌≤◌, IfSome, None, Some, length, map, true, false};
     ghost use Rattle.receiver.specs.Calls.{Feeds, Finishes, FinishesOrBack, IsNew};
     ghost use Rattle.receiver.specs.Disks.{sizes_of};
     ghost use Rattle.receiver.specs.Opened.{given_at, ram_at, told_by};
-    ghost use Rattle.receiver.specs.Receiving.{HasBeenFed, HasRounds, IsWholeFor, length_aside, place_aside, ram_len_in};
+    ghost use Rattle.receiver.specs.Receiving.{HasBeenFed, HasRounds, IsPastHead, IsWholeFor, length_aside, ram_len_in};
 
     /// A receiver that was fed nothing, with these disks, of a machine whose RAM begins at the address 0, within the usual limits. It
     /// takes no memory.
@@ -72,14 +72,14 @@ impl<D: Disk + Drop> Receiver<D> {
     /// As `new`, with the RAM that the machine is to have: its pages are written straight into it. Its bytes may be anything. The
     /// stream of a machine of another number of pages is refused with `ShapeMismatch`, before a page is written.
     pub fn new_in(alloc: Global, disks: Vec<D>, ram: Ram) -> Receiver<D>
-        ensures { IsNew D.state disks.items (given_at 0 ram.bytes) ram.place result }
+        ensures { IsNew D.state disks.items (given_at 0 ram.bytes) (Some ram) result }
     {
         Receiver::new_in_at(alloc, disks, ram, 0)
     }
 
     /// As `new_in`, of a machine whose RAM begins at the guest-physical address `base` (see `new_at`).
     pub fn new_in_at(alloc: Global, disks: Vec<D>, ram: Ram, base: u64) -> Receiver<D>
-        ensures { IsNew D.state disks.items (given_at base ram.bytes) ram.place result }
+        ensures { IsNew D.state disks.items (given_at base ram.bytes) (Some ram) result }
     {
         Receiver::with_terms(alloc, disks, Some(ram), Terms::usual_at(base))
     }
@@ -87,7 +87,7 @@ impl<D: Disk + Drop> Receiver<D> {
     /// A receiver that was fed nothing, with these disks, and the RAM that the machine is to have, if the host has one (see `new_in`), of a
     /// machine as these terms say. It takes no memory.
     pub fn with_terms(alloc: Global, disks: Vec<D>, ram: Option<Ram>, terms: Terms) -> Receiver<D>
-        ensures { IsNew D.state disks.items (told_by terms ram) (place_aside ram) result }
+        ensures { IsNew D.state disks.items (told_by terms ram) ram result }
     {
         let Terms { base, limits } = terms;
         match ram {
@@ -121,7 +121,7 @@ impl<D: Disk + Drop> Receiver<D> {
         aside: Option<ArrivingRam>,
     ) -> Receiver<D>
         requires { ram.len ≡ length_aside aside }
-        ensures { IsNew D.state disks.items ram (place_aside aside) result }
+        ensures { IsNew D.state disks.items ram aside result }
     {
         Receiver {
             reader: Reader::new(alloc, disks, ram, aside),
@@ -138,7 +138,8 @@ impl<D: Disk + Drop> Receiver<D> {
     }
 
     /// Takes the next piece. The good sectors in it are written to the disks. `DiskFailed` is returned exactly if a
-    /// disk failed. After the header `NoMemory` is returned only with the last byte of a device's record.
+    /// disk failed. After the header `NoMemory` is returned only with the last byte of a device's record. Before a header for these
+    /// disks and this RAM is whole, and where memory for what it says is refused, no disk is written, and no page of the RAM.
     pub fn feed(&mut self, piece: &[u8]) -> Result<(), RecvError>
         ensures { Feeds self.old piece.now result self.new }
     {
@@ -287,12 +288,13 @@ impl<D: Disk + Drop> Receiver<D> {
     }
 
     /// The disks, and the RAM that it was given or has taken for itself. What it holds of a stream that is not whole is some of its
-    /// pages.
+    /// pages; until the header is whole, what it held.
     pub fn into_parts(self) -> (Vec<D>, Option<Ram>)
         ensures disks { map D.state result.0.items ≡ self.disks }
         ensures sizes { sizes_of D.state result.0.items ≡ self.sizes }
         ensures ram { IfSome result.1 (λ ram. ram.place ≡ self.place) }
         ensures none { result.1 ≡ None → self.place ≡ None }
+        ensures aside { ¬ (IsPastHead self.stage) → result.1 ≡ self.aside }
     {
         let Receiver {
             mut reader,
@@ -331,6 +333,7 @@ fn given_up<D: Disk>(
     ensures disks { result.disks ≡ map D.state disks.items }
     ensures sizes { result.sizes ≡ sizes_of D.state disks.items }
     ensures marks { result.marks ≡ disk_marks_of D.state disks.items }
+    ensures aside { result.aside ≡ aside }
     ensures place { result.place ≡ place_aside aside }
 {
     let reader = Reader {

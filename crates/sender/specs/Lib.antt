@@ -7,6 +7,7 @@ pub mod Turns
 pub mod Calls
 pub mod Logged
 pub mod Reads
+pub mod StopBytes
 pub mod Stopping
 pub mod History
 pub mod HistoryLaws

@@ -9,7 +9,7 @@ ghost use Rattle.wire.specs.Sinks.{Takes, over_writer};
 ghost use Rattle.region.specs.Address.{address};
 ghost use Rattle.guestmem.specs.Lent.{AreBelow, given_back};
 ghost use Rattle.guestmem.specs.declared.limits.TheConstants.{PAGE_SIZE};
-ghost use Rattle.sender.specs.Calls.{StopsWithin};
+ghost use Rattle.sender.specs.StopBytes.{IsStopBytesLent};
 ghost use Rattle.sender.specs.Parked.{IsLiveParked, live_back};
 
 use crate::dirty::Dirty;
@@ -91,7 +91,7 @@ impl<D: Disk, W: Digesting> LiveParked<D, W> {
 
     /// The most bytes that a stop would write, if no further page were dirty (`LiveOver::most_by_stop`).
     pub fn most_by_stop(&self) -> u64
-        ensures { WhateverRam self.now.parked (λ m. StopsWithin (live_back self.now m []) result) }
+        ensures { IsStopBytesLent self.now result }
     {
         self.parked.recall();
         let items = self.left();

@@ -15,10 +15,11 @@ ghost use Rattle.machine.specs.Stepped.{reply_in};
 ghost use Rattle.machine.specs.Layout.{item_at, layout_of, pages_of, size_of};
 ghost use Rattle.wire.specs.Sinks.{Covers, Takes, over_writer};
 ghost use Rattle.sender.specs.LiveState.{HasPlaces, now, refusal_for};
-ghost use Rattle.sender.specs.Calls.{Serves, StopsWithin, begun_reply, copied_reply, ended_reply, guest_reply, stepped_result, stopped_reply};
+ghost use Rattle.sender.specs.Calls.{Serves, begun_reply, copied_reply, ended_reply, guest_reply, stepped_result, stopped_reply};
 ghost use Rattle.sender.specs.Marks.{live_marked};
 ghost use Rattle.sender.specs.Parked.{IsLiveParked};
 ghost use Rattle.sender.specs.Reads.{CallsNone, HasLiveCalled, ReadsItem, SendCalls};
+ghost use Rattle.sender.specs.StopBytes.{IsStopBytes};
 ghost use Rattle.sender.specs.Unsynced.{FlushesLiveDisk, TriesFlush};
 ghost use Rattle.sender.specs.Stopping.{ClosesStream, HasNoneUpTo, IsLive, SendsAll, SendsItem, lesser, one_more, phase_after};
 
@@ -222,7 +223,7 @@ impl<D: Disk, W: Digesting> LiveOver<D, W> {
     /// The most bytes that a stop would write: as if no page were of zeros, no sector bad, and no item both due and dirty. It looks at the
     /// place of each page in both sets.
     pub fn most_by_stop(&self) -> u64
-        ensures { StopsWithin self.now result }
+        ensures { IsStopBytes self.now result }
     {
         self.recall();
         let items = self.left();

@@ -1,8 +1,10 @@
 use Rattle.std.proofs.Common.{arith, refl, sym, ap, subst, ◌∙◌, ◌++◌, take, map, length}
+use Rattle.std.specs.Prelude.{Err}
 use Rattle.receiver.specs.Receiving.{IsPastHead, ReaderSeen, place_in}
 use Rattle.receiver.specs.declared.stage.Stage.TheVariants as stages
 use Rattle.receiver.proofs.Feeding.{lent_back}
 use Rattle.receiver.proofs.Looking.{head_refused_as, head_waits, head_was, never_failed, ready_for, refused_on, work_wants, worked_on}
+use Rattle.receiver.proofs.Untouched.{work_touches}
 use Rattle.receiver.proofs.Wanting.{err_again, ok_not_err}
 use Rattle.receiver.proofs.reader.Reader.look.Goals as goal
 
@@ -19,6 +21,10 @@ returns-in-Err g c =
       past = λ past. tt;
       place = f.place ∙ o.place;
       memory = λ front held k past e. absurd (ok_not_err (sym (o.later past).0));
+      waits = tt;
+      untouched = λ front held k never.
+          let here : IsPastHead c.open.new.self.stage → ⊥ = λ past. ok_not_err (sym (o.later (subst (λ (v : ReaderSeen). IsPastHead v.stage) o.stays past)).0) in
+          record { disks = f.disks ∙ o.disks; aside = f.aside here ∙ ap (λ (v : ReaderSeen). v.aside) o.stays };
       looked = λ front held k. head_refused_as c.args.self.now c.open.new.self c.fail.new.self front held c.args.bytes.now c.in-Err.error k o f;
     }
 
@@ -33,6 +39,8 @@ returns-in-Head g c =
       past = λ past. absurd (subst IsPastHead (sym (ap (λ (v : ReaderSeen). v.stage) (o.later past).1) ∙ c.in-Head.is) past);
       place = o.place;
       memory = λ front held k past e. absurd (ok_not_err e);
+      waits = λ head. let same = o.waits head in (ap (λ (v : ReaderSeen). v.stage) (sym same) ∙ head, record { disks = ap (λ (v : ReaderSeen). v.disks) same; aside = ap (λ (v : ReaderSeen). v.aside) same });
+      untouched = tt;
       looked = λ front held k. head_waits c.args.self.now _ front held c.args.bytes.now c.in-Ok.start k o (head_was c.args.self.now _ c.args.bytes.now c.in-Ok.start o c.in-Head.is) c.in-Head.is;
     }
 
@@ -47,6 +55,8 @@ returns-in-Failed g c =
       past = λ past. tt;
       place = o.place;
       memory = λ front held k past e. absurd cc;
+      waits = tt;
+      untouched = λ front held k never. absurd (never_failed c.args.self.now _ front held c.args.bytes.now c.in-Ok.start k o c.in-Failed.is);
       looked = λ front held k. absurd (never_failed c.args.self.now _ front held c.args.bytes.now c.in-Ok.start k o c.in-Failed.is);
     }
 
@@ -71,6 +81,8 @@ returns-in-Ok-work_off g c =
       past = λ past. tt;
       place = w.place ∙ ap (place_in i.aside) (sym c.in-Records.is) ∙ o.place;
       memory = λ front held k past e. absurd (ok_not_err e);
+      waits = λ head. absurd cc;
+      untouched = tt;
       looked = λ front held k.
           let up = ready_for c.args.self.now _ front held c.args.bytes.now c.in-Ok.start c.in-Records.intake k o c.in-Records.is in
           let worked = rw (c.deref_mut.ensures.value, c.split_at.ensures.back) at (w.worked i.ram (front ++ take c.in-Ok.start c.args.bytes.now) (rw c.deref_mut.ensures.value up)) in
@@ -96,6 +108,11 @@ returns-in-Err-work_off g c =
           let up = ready_for c.args.self.now _ front held c.args.bytes.now c.in-Ok.start c.in-Records.intake k o c.in-Records.is in
           work_wants c.args.self.now _ front c.args.bytes.now c.in-Ok.start o past
           (rw (c.deref_mut.ensures.value, c.split_at.ensures.back) at (w.memory i.ram (front ++ take c.in-Ok.start c.args.bytes.now) (rw c.deref_mut.ensures.value up) (err_again e)));
+      waits = tt;
+      untouched = λ front held k never.
+          let up = ready_for c.args.self.now _ front held c.args.bytes.now c.in-Ok.start c.in-Records.intake k o c.in-Records.is in
+          absurd (never (work_touches c.args.self.now i.ram (map state i.disks.items) i.digest front c.args.bytes.now c.in-Ok.start c.in-Records.intake c.in-Err-work_off.error o.disks o.ram up
+          (λ is. rw (c.deref_mut.ensures.value, c.split_at.ensures.back) at (w.memory i.ram (front ++ take c.in-Ok.start c.args.bytes.now) (rw c.deref_mut.ensures.value up) (ap Err is)))));
       looked = λ front held k.
           let up = ready_for c.args.self.now _ front held c.args.bytes.now c.in-Ok.start c.in-Records.intake k o c.in-Records.is in
           let worked = rw (c.deref_mut.ensures.value, c.split_at.ensures.back) at (w.worked i.ram (front ++ take c.in-Ok.start c.args.bytes.now) (rw c.deref_mut.ensures.value up)) in

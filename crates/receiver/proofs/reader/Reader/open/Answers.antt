@@ -23,7 +23,7 @@ returns-in_err-heading g c =
     let told = err_from_is_err_and c.from_residual.result c.from_residual.ensures.1 in
     let i = c.self.inside in
     let head = head_is i.stage (sym c.is_head.ensures ∙ c.if-not-is_head.false) in
-    rw (told.1, told.2, ← c.self.view_is) (open_refused _ _ c.args.bytes.now c.in_err-heading.field-0.0 head refl refl refl refl (header_refused i.ram (map g.D.Disk.state i.disks.items) c.args.bytes.now c.in_err-heading.field-0.0 c.in_err-heading.ensures.refused))
+    rw (told.1, told.2, ← c.self.view_is) (open_refused _ _ c.args.bytes.now c.in_err-heading.field-0.0 head refl refl refl refl refl (header_refused i.ram (map g.D.Disk.state i.disks.items) c.args.bytes.now c.in_err-heading.field-0.0 c.in_err-heading.ensures.refused))
 
 pub returns-in_default : goal.returns-in_default
 returns-in_default g c =
@@ -40,19 +40,19 @@ returns-in-Err g c =
     let within = rw c.in-Some.is at c.in_ok-heading.ensures.within in
     let never = rw c.deref.ensures.value at c.in-Err.ensures.refused in
     rw (← c.self.view_is, c.in-Err.ensures.mismatch)
-    (open_refused _ _ c.args.bytes.now errors.ShapeMismatch head refl refl refl refl (refused_kept ds errors.ShapeMismatch (λ e. cc), mismatch i.ram (sizes_of g.D.Disk.state i.disks.items) c.args.bytes.now _ (opened i.ram (said c.in-Some.heading)) b.1 within never))
+    (open_refused _ _ c.args.bytes.now errors.ShapeMismatch head refl refl refl refl refl (refused_kept ds errors.ShapeMismatch (λ e. cc), mismatch i.ram (sizes_of g.D.Disk.state i.disks.items) c.args.bytes.now _ (opened i.ram (said c.in-Some.heading)) b.1 within never))
 
 pub returns-in_default-new : goal.returns-in_default-new
 returns-in_default-new g c =
     let i = c.self.inside in
     let head = head_is i.stage (sym c.is_head.ensures ∙ c.if-not-is_head.false) in
-    rw (← c.self.view_is) (open_refused _ _ c.args.bytes.now errors.NoMemory head refl refl refl refl (refused_kept (map g.D.Disk.state i.disks.items) errors.NoMemory (λ e. cc), tt))
+    rw (← c.self.view_is) (open_refused _ _ c.args.bytes.now errors.NoMemory head refl refl refl refl refl (refused_kept (map g.D.Disk.state i.disks.items) errors.NoMemory (λ e. cc), tt))
 
 pub returns-in_default-new_intake : goal.returns-in_default-new_intake
 returns-in_default-new_intake g c =
     let i = c.self.inside in
     let head = head_is i.stage (sym c.is_head.ensures ∙ c.if-not-is_head.false) in
-    rw (← c.self.view_is) (open_refused _ _ c.args.bytes.now errors.NoMemory head refl refl refl c.in_default-new_intake.ensures.kept (refused_kept (map g.D.Disk.state i.disks.items) errors.NoMemory (λ e. cc), tt))
+    rw (← c.self.view_is) (open_refused _ _ c.args.bytes.now errors.NoMemory head refl refl refl c.in_default-new_intake.ensures.kept (rw c.in_default-new_intake.ensures.kept refl) (refused_kept (map g.D.Disk.state i.disks.items) errors.NoMemory (λ e. cc), tt))
 
 pub invariant_of-self : goal.invariant_of-self
 invariant_of-self g c =
@@ -85,6 +85,8 @@ returns g c =
       place = c.in-Ok-new_intake.ensures.place ∙ sym (ap (place_in i.aside) head);
       later = λ past. absurd (head_not_past i.stage head past);
       failed = λ f. absurd (true_false _ f (head_not_failed i.stage head));
+      stays = tt;
+      waits = λ waits. absurd cc;
       opened = λ held h k.
           let known = rw head at k in
           let digested : Holds256 c.update.new.self (take len c.args.bytes.now) = rw c.split_at.ensures.front at (c.update.ensures [] known.1) in

@@ -1,10 +1,12 @@
 use Rattle.std.proofs.Common.{arith, rules, refl, sym, ◌≡◌, ◌≤◌, ◌∙◌, ◌++◌, length, ap, false}
+use Rattle.std.specs.Prelude.{Err}
 use Rattle.std.specs.Vec.{vec_capacity}
 use Rattle.std.proofs.lemmas.List.{length-append}
 use Rattle.receiver.specs.Receiving.{has_failed}
 use Rattle.receiver.proofs.Feeding.{true_false}
 use Rattle.receiver.proofs.Looking.{no_memory_kept, piece_of_nothing, piece_refused_again}
 use Rattle.receiver.proofs.Pieces.{all_parts, at_first, cut_at, next_part, part_refused}
+use Rattle.receiver.proofs.Untouched.{part_untouched, same_again, stands_same, waits_on}
 use Rattle.receiver.proofs.Wanting.{err_again, not_before, ok_not_err, on_err, part_wants}
 use Rattle.receiver.proofs.reader.Reader.take_piece.Goals as goal
 
@@ -30,6 +32,10 @@ returns-then-is_err-clause-pieces g c =
       memory = λ roomy front k past e.
           let full = on_err c.reserve_exact.result _ c.reserve_exact.ensures.full c.if-is_err.ensures.value in
           absurd (omega (arith, roomy past, full, c.requires.few, c.len-room.ensures));
+      waits = tt;
+      untouched = λ roomy front k never.
+          let full = on_err c.reserve_exact.result _ c.reserve_exact.ensures.full c.if-is_err.ensures.value in
+          stands_same f (λ past. omega (arith, roomy past, full, c.requires.few, c.len-room.ensures));
       took = λ front k. (no_memory_kept c.args.self.now.disks c.fail.new.self.disks f.disks, tt);
     }
 
@@ -43,6 +49,7 @@ loop-rest-init g c =
       ram = refl;
       past = λ past. past;
       place = refl;
+      waits = λ head. same_again c.args.self.now;
       partly = λ front known. rw c.reserve_exact.ensures.items (at_first c.args.self.now.ram c.args.self.now.disks c.args.self.now.digest front c.args.held.now.items c.args.piece.now c.args.self.now.stage known);
     }
 
@@ -57,6 +64,7 @@ loop-rest-preserved g c =
       ram = t.ram ∙ c.loop-rest.invariant.ram;
       past = λ past. t.past (c.loop-rest.invariant.past past);
       place = t.place ∙ c.loop-rest.invariant.place;
+      waits = λ head. waits_on t.waits c.loop-rest.invariant.waits head;
       partly = λ front known.
           let p = c.loop-rest.invariant.partly front known in
           rw t.ram (next_part c.loop-rest.self.ram _ _ _ _ c.take_next.new.self.digest _ _ c.loop-rest.rest.now _ _ _ c.loop-rest.self.stage c.take_next.new.self.stage p parts (rw t.ram at (t.took p.front p.known)));
@@ -79,6 +87,11 @@ returns-in-Err-clause-pieces g c =
           let p = i.partly front known in
           let low = not_before c.loop-rest.self.ram _ _ c.loop-rest.self.digest front c.args.held.now.items c.args.piece.now c.loop-rest.held.items c.loop-rest.rest.now c.loop-rest.self.stage p i.shorter in
           rw (← i.ram) (part_wants c.loop-rest.self.ram _ _ c.loop-rest.self.digest _ c.loop-rest.held.items c.loop-rest.rest.now c.split_at.result.0.now c.split_at.result.1.now c.loop-rest.self.stage (length front) p parts low (t.memory p.front p.known (i.past past) (err_again e)));
+      waits = tt;
+      untouched = λ roomy front known never.
+          let p = i.partly front known in
+          part_untouched c.args.self.now c.loop-rest.self c.take_next.new.self _ c.loop-rest.held.items c.loop-rest.rest.now c.split_at.result.0.now c.split_at.result.1.now c.in-Err.error p i.ram parts i.waits (t.untouched p.front p.known)
+          (λ past is. t.memory p.front p.known past (ap Err is)) never;
       took = λ front known.
           let p = i.partly front known in
           rw (← i.ram) (part_refused c.loop-rest.self.ram _ _ _ c.loop-rest.self.digest _ c.loop-rest.held.items c.loop-rest.rest.now c.split_at.result.0.now c.split_at.result.1.now c.loop-rest.self.stage c.in-Err.error p parts (t.took p.front p.known));
@@ -97,5 +110,7 @@ returns-clause-pieces g c =
       place = i.place;
       already = λ failed. absurd (true_false _ failed on);
       memory = λ roomy front k past e. absurd (ok_not_err e);
+      waits = i.waits;
+      untouched = tt;
       took = λ front known. all_parts c.loop-rest.self.ram _ _ c.loop-rest.self.digest _ c.loop-rest.held.items c.loop-rest.rest.now c.loop-rest.self.stage (i.partly front known) none;
     }

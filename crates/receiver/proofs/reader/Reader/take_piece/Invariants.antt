@@ -1,7 +1,8 @@
 use Rattle.std.proofs.Common.{ℕ, List, ◌≡◌, ◌+◌, ◌≤◌, ◌++◌, length}
 use Rattle.std.specs.Vec.{vec_capacity}
-use Rattle.receiver.specs.Reading.{place_of}
+use Rattle.receiver.specs.Reading.{HasSameStore, place_of}
 use Rattle.receiver.specs.Receiving.{IsPastHead, Knows}
+use Rattle.receiver.specs.declared.stage.Stage.TheVariants as stages
 use Rattle.receiver.proofs.Pieces.{IsPartly}
 use Rattle.receiver.proofs.reader.Reader.take_piece.Given as goal
 
@@ -13,6 +14,7 @@ invariant-loop-rest g l = record {
   ram : l.self.ram ≡ l.fn.self.ram;
   past : IsPastHead l.fn.self.stage → IsPastHead l.self.stage;
   place : place_of l.self ≡ place_of l.fn.self;
+  waits : l.self.stage ≡ stages.Head → HasSameStore l.fn.self l.self;
   partly : (front : List ℕ) → Knows l.fn.self front l.fn.held.items
       → IsPartly l.self.ram l.fn.self.disks l.self.disks l.self.digest (front ++ (l.fn.held.items ++ l.piece)) l.held.items l.rest l.self.stage;
 }

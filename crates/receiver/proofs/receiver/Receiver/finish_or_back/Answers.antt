@@ -12,7 +12,7 @@ use Rattle.wire.specs.Stream.{shapes_in}
 use Rattle.receiver.specs.Disks.{disk_marks_of}
 use Rattle.receiver.specs.Fed.{IsKnownIn}
 use Rattle.receiver.specs.Reading.{IsReader}
-use Rattle.receiver.specs.Receiving.{IsTaken, has_ended, has_failed, place_in, ram_len_in}
+use Rattle.receiver.specs.Receiving.{IsPastHead, IsTaken, has_ended, has_failed, place_in, ram_len_in}
 use Rattle.receiver.specs.declared.ram_terms.RamTerms.{RamTerms}
 use Rattle.receiver.specs.declared.stage.Stage.{Stage}
 use Rattle.receiver.specs.declared.stage.Stage.TheVariants as stages
@@ -90,7 +90,7 @@ returns-then-not-intake g c =
     let t : IsTaken s.ram s.disks s.digest b held (stages.Records c.in-Records.intake) = subst (λ (stage : Stage). IsTaken s.ram s.disks s.digest b held stage) c.in-Records.is f.taken in
     let known : IsKnownIn false s.ram s.disks s.digest t.front held c.in-Records.intake = subst (λ (ended : Bool). IsKnownIn ended s.ram s.disks s.digest t.front held c.in-Records.intake) (not-true _ c.if-not-intake.true) t.known in
     no_stream_reading s.ram _ t.front held b c.in-Records.intake m f.bytes t.whole known.1 stream)
-    (given_back_as s held c.given_up.result new.failed new.ram new.disks new.sizes new.marks (new.place ∙ sym (ap (place_in s.aside) c.in-Records.is))))
+    (given_back_as s held c.given_up.result new.failed new.ram new.disks new.sizes new.marks (λ never. absurd (never (subst IsPastHead (sym c.in-Records.is) tt))) (new.place ∙ sym (ap (place_in s.aside) c.in-Records.is))))
 
 pub returns-in-Failed : goal.returns-in-Failed
 returns-in-Failed g c =
@@ -99,7 +99,7 @@ returns-in-Failed g c =
     let held = c.self.inside.held.items in
     let new = c.given_up-in-Failed.ensures in
     rw (← c.self.view_is, ← c.reader.view_is)
-    (ends_again s held c.given_up-in-Failed.result (ap has_failed c.in-Failed.is) (given_back_as s held c.given_up-in-Failed.result new.failed new.ram new.disks new.sizes new.marks (new.place ∙ sym (ap (place_in s.aside) c.in-Failed.is))))
+    (ends_again s held c.given_up-in-Failed.result (ap has_failed c.in-Failed.is) (given_back_as s held c.given_up-in-Failed.result new.failed new.ram new.disks new.sizes new.marks (λ never. new.aside) (new.place ∙ sym (ap (place_in s.aside) c.in-Failed.is))))
 
 pub returns-in-Head : goal.returns-in-Head
 returns-in-Head g c =
@@ -113,4 +113,4 @@ returns-in-Head g c =
     let t : IsTaken s.ram s.disks s.digest b held stages.Head = subst (λ (stage : Stage). IsTaken s.ram s.disks s.digest b held stage) c.in-Head.is f.taken in
     let same : b ≡ held = t.whole ∙ ap (λ x. x ++ held) t.known.0 in
     no_stream_head held m t.known.2 (rw same at stream))
-    (given_back_as s held c.given_up-in-Head.result new.failed new.ram new.disks new.sizes new.marks (new.place ∙ sym (ap (place_in s.aside) c.in-Head.is))))
+    (given_back_as s held c.given_up-in-Head.result new.failed new.ram new.disks new.sizes new.marks (λ never. new.aside) (new.place ∙ sym (ap (place_in s.aside) c.in-Head.is))))

@@ -1,5 +1,7 @@
-use Rattle.std.proofs.Common.{rules, sym, ap, length, ◌≡◌, Some}
+use Rattle.std.proofs.Common.{rules, sym, ap, length, subst, ◌≡◌, Some}
 use Rattle.guestmem.specs.Memory.{Memory}
+use Rattle.receiver.specs.Calls.{IsNew}
+use Rattle.receiver.specs.Opened.{told_by}
 use Rattle.receiver.proofs.receiver.Receiver.with_terms.Goals as goal
 
 pub returns-in-None : goal.returns-in-None
@@ -11,4 +13,5 @@ reading-requires-in-Some g c = ap Some (let same : c.len.result ≡ length c.ove
 pub returns-in-Some : goal.returns-in-Some
 returns-in-Some g c =
     let same : c.len.result ≡ length c.in-Some.ram.bytes = search rules in
-    rw (c.in-Some.is, sym same, sym (ap (λ (m : Memory). m.place) c.over.ensures)) c.reading-in-Some.ensures
+    let over : (λ (m : Memory). IsNew g.D.Disk.state c.args.disks.items (told_by c.args.terms (Some c.in-Some.ram)) (Some m) c.reading-in-Some.result) c.over.result = rw (sym same) c.reading-in-Some.ensures in
+    rw c.in-Some.is (subst (λ (m : Memory). IsNew g.D.Disk.state c.args.disks.items (told_by c.args.terms (Some c.in-Some.ram)) (Some m) c.reading-in-Some.result) c.over.ensures over)

@@ -16,16 +16,18 @@ devices_len-requires-clause-sound g c =
     rw c.devices.ensures (sound_devices c.self.inside.machine places.sound)
 
 pub returns : goal.returns
-returns g c = λ pages sectors b next honest covers stops.
+returns g c =
     let items = c.left-items.ensures in
     let devices = rw c.devices.ensures at c.devices_len.ensures.len in
-    let states : c.devices_len.result ≡ length (device_texts 0 (now c.args.self.now).devices) = rw (← c.self.view_is) devices in
-    omega (
-      arith,
-      c.most_bytes.ensures,
-      stop_short c.args.self.now next pages sectors b c.devices_len.result c.recall.ensures states honest covers stops,
-      items.due_pages,
-      items.dirty_pages,
-      items.due_sectors,
-      items.dirty_sectors,
+    let states : c.devices_len.result ≡ length (device_texts 0 (now c.args.self.now).devices) = rw (← c.self.view_is) devices in (
+      λ pages sectors b next honest covers stops. omega (
+        arith,
+        c.most_bytes.ensures,
+        stop_short c.args.self.now next pages sectors b c.devices_len.result c.recall.ensures states honest covers stops,
+        items.due_pages,
+        items.dirty_pages,
+        items.due_sectors,
+        items.dirty_sectors,
+      ),
+      omega (arith, c.most_bytes.ensures, states, items.due_pages, items.dirty_pages, items.due_sectors, items.dirty_sectors),
     )
