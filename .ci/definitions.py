@@ -60,31 +60,47 @@ def check_named(differences):
     return f"{len(files())} files of definitions are named"
 
 
+def closure(begin, cut=None):
+    """The files that these import, directly or not, and these. `cut` is a pair of files whose import is left out."""
+    found, wanted = set(), set(begin)
+    while wanted:
+        name = wanted.pop()
+        found.add(name)
+        wanted |= {it for it in imported().get(name, set()) if (name, it) != cut} - found
+    return found
+
+
+def lines_of(names):
+    return sum(len(read(files()[name]).splitlines()) for name in names if name in files())
+
+
 def order_rows():
-    """The rows of the table 'in which order to read', as they are in the page and as they have to be. `lines` are all lines of the
-    files that the named ones import, directly or not, and of these, to the nearest ten."""
+    """The rows of the table 'in which order to read', as they are in the page and as they have to be, and with which files they begin. `lines` are
+    all lines of the files that these import, directly or not, and of these, to the nearest ten."""
     for row in re.findall(r"^\| [^|]+ \| [^|]*`\w+/specs/\w+`[^|]*\| [\d,]+ \| \d+ \|$", read(TOP / PAGE), flags=re.M):
         what, begin, _, _ = (cell.strip() for cell in row.strip("| ").split("|"))
-        crate, wanted = None, set()
+        crate, named = None, set()
         for place, name in re.findall(r"`(?:(\w+)/specs/)?(\w+)`", begin):
             crate = place or crate
-            wanted.add(f"{crate}.specs.{name}")
-        found = set()
-        while wanted:
-            name = wanted.pop()
-            found.add(name)
-            wanted |= imported().get(name, set()) - found
-        unknown = sorted(found - files().keys())
-        lines = sum(len(read(files()[name]).splitlines()) for name in found - set(unknown))
-        yield row, f"| {what} | {begin} | {round(lines, -1):,} | {len(found)} |", unknown
+            named.add(f"{crate}.specs.{name}")
+        found = closure(named)
+        yield row, f"| {what} | {begin} | {round(lines_of(found), -1):,} | {len(found)} |", named
+
+
+def dearest(named):
+    """The import, of all below these files, without which there would be the fewest lines to read, and how many fewer."""
+    whole = closure(named)
+    cuts = [(name, it) for name in sorted(whole) for it in sorted(imported().get(name, set()))]
+    lines, cut = min((lines_of(closure(named, cut)), cut) for cut in cuts)
+    return f"{cut[0]} imports {cut[1]}: {lines_of(whole) - lines:,} lines"
 
 
 def check_order(differences):
     """The table says how much there is to read."""
     count = 0
-    for row, right, unknown in order_rows():
+    for row, right, named in order_rows():
         count += 1
-        for name in unknown:
+        for name in sorted(named - files().keys()):
             differences.append(f"{PAGE}: there is no {name}, with which a row begins")
         if row != right:
             differences.append(f"{PAGE}: a row has to be: {right}")
