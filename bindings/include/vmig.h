@@ -899,7 +899,9 @@ vmig_status vmig_send_take(vmig_machine *m, uint8_t *buf, size_t size, size_t *g
 typedef struct vmig_left {
     uint64_t due_pages, due_sectors;    /* in this round */
     uint64_t dirty_pages, dirty_sectors; /* written since they were sent, or since vmig_send_begin; of lent RAM, as far as named */
-    uint64_t stop_bytes;                /* the most bytes that a stop would still write; 0 of a stopped machine */
+    uint64_t stop_bytes;                /* the most bytes that a stop would still write: 4,101 for each page and 519 for each sector
+                                         * of these, the devices, and 33. A stop writes less where a page is of zeros (5 bytes), a
+                                         * sector is bad (7), or an item is both due and dirty (once). 0 of a stopped machine */
     uint64_t reserved[3];               /* 0 */
 } vmig_left;
 
