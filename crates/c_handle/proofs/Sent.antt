@@ -19,7 +19,7 @@ use Rattle.wire.specs.Sinks.{Covers, Digested, SinkState, Takes, over_writer}
 use Rattle.wire.specs.Stream.{IsStream}
 use Rattle.wire.proofs.Unique.{one_machine}
 use Rattle.c_handle.specs.Migrated.{HasTaken}
-use Rattle.c_handle.specs.Sent.{ArrivedIsSent, CallsStaySent, FirstIsSent, MarksStaySent, StoppedIsWhole, TakingsStaySent}
+use Rattle.c_handle.specs.Sent.{AbortsAfterTakings, ArrivedIsSent, CallsStaySent, FirstIsSent, MarksStaySent, StoppedIsWhole, TakingsChangeNothingElse, TakingsStaySent}
 
 pub first_is_sent : FirstIsSent
 first_is_sent m l honest fresh = record { late = []; among = λ n is. is; relates = fresh.relates honest }
@@ -103,3 +103,14 @@ stopped_is_whole m h taken l is sound stopped =
 pub arrived_is_sent : ArrivedIsSent
 arrived_is_sent m h taken l r arrived is sound stopped come based there =
     one_machine (taken ++ l.out.held) (state_of arrived) (now l) (there.stream (taken ++ l.out.held) come) (stopped_is_whole m h taken l is sound stopped) (there.base ∙ based)
+
+-- A taking, by itself.
+pub takings_change_nothing_else : TakingsChangeNothingElse
+takings_change_nothing_else l next status got buf new_buf h = record {
+  rest = h.rest ∙ ap (λ (o : SinkState). record l { out = o; digest = next.digest }) (sym (ap (λ (v : LiveSeen). v.out) h.rest));
+  waits = sym (take-append-drop got l.out.held) ∙ ap (λ (x : List ℕ). take got l.out.held ++ x) (sym (ap (λ (v : LiveSeen). v.out.held) h.rest));
+  digest = h.digest;
+}
+
+pub aborts_after_takings : AbortsAfterTakings
+aborts_after_takings l next status got aborted buf new_buf m h a = a.1 ∙ ap (λ (v : LiveSeen). v.machine) h.rest

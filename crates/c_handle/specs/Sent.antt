@@ -26,12 +26,13 @@ use Rattle.sender.specs.declared.event.LiveEvent.TheVariants.{Guest}
 use Rattle.sender.specs.declared.event.LiveReply.{LiveReply}
 use Rattle.sender.specs.declared.event.LiveReply.TheVariants as r
 use Rattle.sender.specs.declared.phase.Phase.TheVariants as phases
-use Rattle.wire.specs.Sinks.{over_writer}
+use Rattle.wire.specs.Sinks.{Takes, over_writer}
 use Rattle.wire.specs.Stream.{IsStream}
 use Rattle.c_handle.specs.ArrivalSeen.{ArrivalSeen}
 use Rattle.c_handle.specs.Awaited.{HasArrived, HasCome, awaited_base}
 use Rattle.c_handle.specs.Lent.{IsLiveLoan}
-use Rattle.c_handle.specs.Migrated.{HasTaken, HasTakenLent, IsFresh}
+use Rattle.c_handle.specs.Kept.{Moving, Still}
+use Rattle.c_handle.specs.Migrated.{AbortsKept, HasTaken, HasTakenLent, IsFresh}
 use Rattle.c_handle.specs.Mirror.{is_closed}
 
 -- This happened to the machine since its migration began, these bytes were taken, and no pages but these were written and are still to be
@@ -61,6 +62,19 @@ FailuresStaySent = (m : MachineState) (h : History) (taken pages : List ℕ) (de
 abbrev pub TakingsStaySent : Type 0
 TakingsStaySent = (m : MachineState) (h : History) (taken pages buf new_buf : List ℕ) (status got : ℕ) (l next : LiveSeen) → IsSent m h taken pages l → has_fault h ≡ false → HasTaken l status got buf new_buf next
     → IsSent m h (taken ++ take got new_buf) pages next
+
+-- A taking changes what waits and what is digested, and nothing else, whether or not the stream has failed.
+pub record IsOnlyTaken (l next : LiveSeen) (got : ℕ) : Type 0 where
+  pub rest : next ≡ record l { out = next.out; digest = next.digest }
+  pub waits : l.out.held ≡ take got l.out.held ++ next.out.held
+  pub digest : Takes l.digest [] next.digest
+
+abbrev pub TakingsChangeNothingElse : Type 0
+TakingsChangeNothingElse = (l next : LiveSeen) (status got : ℕ) (buf new_buf : List ℕ) → HasTaken l status got buf new_buf next → IsOnlyTaken l next got
+
+-- So who takes what waits after a send that failed, and aborts, has the machine as it was when the send failed.
+abbrev pub AbortsAfterTakings : Type 0
+AbortsAfterTakings = (l next : LiveSeen) (status got aborted : ℕ) (buf new_buf : List ℕ) (m : Seen) → HasTaken l status got buf new_buf next → AbortsKept (Moving next) aborted (Still m) → m ≡ l.machine
 
 -- While RAM is lent: all this happened before or meanwhile, and so these bytes were taken, before the caller wrote anything.
 pub record IsSentLent (m : MachineState) (h : History) (taken pages : List ℕ) (before : Region) (p : LiveParkedSeen) : Type 0 where

@@ -9,7 +9,7 @@ ghost use Rattle.c_handle.specs.Outside.{RefusedAnswersNothing, RefusedHandsNoth
 ghost use Rattle.c_handle.specs.Refused.{RefusedTellsNothing, RefusedWritesNothing};
 ghost use Rattle.c_handle.specs.Stepped.{RefusedStepsNothing};
 ghost use Rattle.c_handle.specs.Turns.{RefusedTurnsNothing, TurnsStaySent};
-ghost use Rattle.c_handle.specs.Sent.{ArrivedIsSent, CallsStaySent, FailuresStaySent, FirstIsSent, LentCallsStaySent, LentComesBackSent, LentTakingsStaySent, MarksStaySent, StoppedIsWhole, TakingsStaySent};
+ghost use Rattle.c_handle.specs.Sent.{AbortsAfterTakings, ArrivedIsSent, CallsStaySent, FailuresStaySent, FirstIsSent, LentCallsStaySent, LentComesBackSent, LentTakingsStaySent, MarksStaySent, StoppedIsWhole, TakingsChangeNothingElse, TakingsStaySent};
 
 /// A machine over disks in memory stays one.
 pub fn plain_stays()
@@ -125,6 +125,12 @@ pub fn failures_stay_sent()
 /// What is taken follows what was taken before, and the history stays.
 pub fn takings_stay_sent()
     ensures { TakingsStaySent }
+{}
+
+/// A taking changes what waits and what is digested, and nothing else, also once a send has failed; and then an abort gives the machine back as it was.
+pub fn takings_change_nothing_else()
+    ensures takes { TakingsChangeNothingElse }
+    ensures aborts { AbortsAfterTakings }
 {}
 
 /// So it is of a call that is made while RAM is lent.
