@@ -39,8 +39,9 @@ static void access_register(struct host *h)
     h->statistics.accesses++;
 }
 
-/* Before a reboot, with RAM lent: what the guest boots from is loaded anew. False where it cannot be, and the guest ends: a guest that
- * was moved here has no image here, and a disk that is lost would be used by one that does not know. */
+/* Before a reboot, with RAM lent: what the guest boots from is loaded anew. False where it cannot be, and the guest ends:
+ * one that was moved here without --kernel has no image here, and a disk that is lost would be used by one that does
+ * not know. */
 static int load_again(struct host *h)
 {
     vmig_description found;

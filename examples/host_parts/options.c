@@ -73,8 +73,8 @@ static void take_word(struct options *o, const char *option, const char *word)
 static void compare(const struct options *o)
 {
     if (o->kernel == NULL && o->listen == NULL) misused("either --kernel or --listen is needed", "");
-    if (o->kernel != NULL && o->listen != NULL) misused("a guest that is moved here has its kernel already", "--kernel");
-    if (o->listen != NULL && (o->initrd != NULL || o->append != NULL)) misused("--initrd and --append belong to --kernel", "--listen");
+    if (o->kernel == NULL && (o->initrd != NULL || o->append != NULL))
+        misused("--initrd and --append belong to --kernel", "--listen");
     if (o->net != NULL && strchr(o->net, ',') == NULL) misused("it is OWN,PEER: two sockets", "--net");
     if (o->net == NULL && o->mtu != 0) misused("it belongs to --net", "--mtu");
     for (unsigned i = 0; i < o->count_disks; i++)
