@@ -1,6 +1,6 @@
 /* Linked into a program, or loaded before one, it fails calls of the system. SYNC_FAILS=n: the n-th that brings a
  * file to the storage, by fdatasync or msync; all others succeed, as they do on Linux after one that failed.
- * SYNC_FAILS_ONCE=FILE: the first one once this file says that all is here. WRITE_FAILS=n: the n-th pwrite, since
+ * FSYNC_FAILS=n: the n-th fsync. SYNC_FAILS_ONCE=FILE: the first one once this file says that all is here. WRITE_FAILS=n: the n-th pwrite, since
  * nothing is left. HANGS=FILE: as long as this file is there each pwrite waits, and says so; with HANGS_AT=OTHER each
  * one to the file OTHER alone. THREAD_FAILS=n: the n-th thread and each later one does not begin. NAME_HANGS=FILE: as long as this file is there no server of names
  * answers. At the end it writes how many syncs there were to descriptor 9, where that is open and there were any. */
@@ -18,7 +18,7 @@
 #include <sys/syscall.h>
 #include <unistd.h>
 
-static atomic_ulong syncs, writes, failures, threads;
+static atomic_ulong syncs, fsyncs, writes, failures, threads;
 
 static int is_number(const char *name, unsigned long number)
 {
@@ -51,6 +51,13 @@ static int sync_fails(void)
 int fdatasync(int file)
 {
     return sync_fails() ? -1 : (int)syscall(SYS_fdatasync, file);
+}
+
+int fsync(int file)
+{
+    if (!is_number("FSYNC_FAILS", ++fsyncs)) return (int)syscall(SYS_fsync, file);
+    errno = EIO;
+    return -1;
 }
 
 int msync(void *at, size_t length, int flags)
