@@ -1,4 +1,5 @@
-/* The carrier of a move, a thread: it connects the line, or makes the file of a guest that is saved, and while the guest runs it alone sends and hears there.
+/* The carrier of a move, a thread: it connects the line, or makes the file of a guest that is saved, and while the
+ * guest runs it alone sends and hears there.
  * What waits in the machine is digested as it is taken. */
 #define _DEFAULT_SOURCE
 #include <poll.h>

@@ -79,8 +79,10 @@ static void compare(const struct options *o)
     if (o->listen != NULL && o->restore != NULL) misused("a guest that was saved is not moved here", "--restore");
     if (o->connect != NULL && o->save != NULL) misused("a guest is either moved or saved", "--save");
     if (o->kernel == NULL && !arrives) misused("either --kernel or --listen or --restore is needed", "");
-    if (o->kernel != NULL && arrives) misused("a guest that is moved here, or was saved, has its kernel already", "--kernel");
-    if (arrives && (o->initrd != NULL || o->append != NULL)) misused("they belong to --kernel", "--initrd and --append");
+    if (o->kernel != NULL && arrives)
+        misused("a guest that is moved here, or was saved, has its kernel already", "--kernel");
+    if (arrives && (o->initrd != NULL || o->append != NULL))
+        misused("they belong to --kernel", "--initrd and --append");
     if (o->net != NULL && strchr(o->net, ',') == NULL) misused("it is OWN,PEER: two sockets", "--net");
     if (o->net == NULL && o->mtu != 0) misused("it belongs to --net", "--mtu");
     for (unsigned i = 0; i < o->count_disks; i++)

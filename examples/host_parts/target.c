@@ -1,6 +1,6 @@
-/* A guest that is moved here, or was saved in a file. What comes is not trusted: each frame has its place, the machine is compared with the
- * options before memory is taken, and the registers are looked at. Until the source has let go, the guest does not
- * run here. */
+/* A guest that is moved here, or was saved in a file. What comes is not trusted: each frame has its place, the machine
+ * is compared with the options before memory is taken, and the registers are looked at. Until the source has let go,
+ * the guest does not run here. */
 #include <string.h>
 #include <unistd.h>
 #include "clock.h"
@@ -74,7 +74,8 @@ static const char *open_saved(struct host *h, struct hello *hello)
     line_prepare(l, operator_bell, HEARS_END);
     why = saved_open(l, h->options.restore);
     if (why != NULL) return why;
-    if (!line_receive(l) || l->type != HELLO || !hello_read(l->body, l->length, hello)) return "it is of no hypervisor of this kind";
+    if (!line_receive(l) || l->type != HELLO || !hello_read(l->body, l->length, hello))
+        return "it is of no hypervisor of this kind";
     return hello->version == LINE_VERSION ? NULL : "it is of another version";
 }
 

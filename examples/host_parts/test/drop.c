@@ -1,6 +1,7 @@
-/* A driver that resets its disk while what it asked for is out, and a sync that fails: `drop FILE OTHER`, over files of 1 MiB, where the first sync fails
- * (failing.c). The reset is made once all is answered, and RAM stays lent until then. Where OTHER hangs meanwhile, a reset of FILE does not wait for it. Of the sync the library is told before the write is answered that waits for it, so
- * its driver reads an error, and the disk is lost. */
+/* A driver that resets its disk while what it asked for is out, and a sync that fails: `drop FILE OTHER`, over files of
+ * 1 MiB, where the first sync fails (failing.c). The reset is made once all is answered, and RAM stays lent until then.
+ * Of the sync the library is told before the write is answered that waits for it, so its driver reads an error, and the
+ * disk is lost. Then OTHER hangs: a reset of FILE does not wait for it. */
 #define _DEFAULT_SOURCE
 #include <fcntl.h>
 #include <stdio.h>
@@ -10,8 +11,9 @@
 #include "host.h"
 #include "say.h"
 
-enum { DEV = FIRST_DISK, OTHER, DRIVERS, QUEUE = 32, DESC = 0x1000, AVAIL = 0x2000, USED = 0x3000, HEADERS = 0x4000, VERDICTS = 0x5000, BUFFERS = 0x6000 };
-enum { IN = 0, OUT = 1, NEXT = 1, WRITABLE = 2, STATUS = 0x070, TOLD_LATER = 0xff, IOERR = 1, RAM_LENGTH = 1 << 20, COUNT = 4, AREA = 0x20000 };
+enum { DEV = FIRST_DISK, OTHER, DRIVERS, QUEUE = 32, COUNT = 4, RAM_LENGTH = 1 << 20, AREA = 0x20000 };
+enum { DESC = 0x1000, AVAIL = 0x2000, USED = 0x3000, HEADERS = 0x4000, VERDICTS = 0x5000, BUFFERS = 0x6000 };
+enum { IN = 0, OUT = 1, NEXT = 1, WRITABLE = 2, STATUS = 0x070, TOLD_LATER = 0xff, IOERR = 1 };
 
 static struct host host;
 static unsigned taken;                  /* how often RAM was taken back */
@@ -61,12 +63,15 @@ static vmig_status write_reg(uint8_t dev, uint32_t off, uint32_t value)
 static void set_up(uint8_t dev)
 {
     const uint32_t at = area_of(dev);
-    const uint32_t registers[][2] = {{STATUS, 0}, {STATUS, 3}, {0x024, 1}, {0x020, 1}, {STATUS, 11}, {0x030, 0}, {0x038, QUEUE}, {0x080, RAM_BASE + at + DESC},
-                                     {0x090, RAM_BASE + at + AVAIL}, {0x0a0, RAM_BASE + at + USED}, {0x044, 1}, {STATUS, 15}};
+    const uint32_t registers[][2] = {
+        {STATUS, 0}, {STATUS, 3}, {0x024, 1}, {0x020, 1}, {STATUS, 11}, {0x030, 0}, {0x038, QUEUE},
+        {0x080, RAM_BASE + at + DESC}, {0x090, RAM_BASE + at + AVAIL}, {0x0a0, RAM_BASE + at + USED},
+        {0x044, 1}, {STATUS, 15}};
 
     memset(host.memory + at, 0, HEADERS);
     offered[dev] = 0;
-    for (size_t i = 0; i < sizeof registers / sizeof *registers; i++) check(write_reg(dev, registers[i][0], registers[i][1]) == VMIG_OK, "a register is refused");
+    for (size_t i = 0; i < sizeof registers / sizeof *registers; i++)
+        check(write_reg(dev, registers[i][0], registers[i][1]) == VMIG_OK, "a register is refused");
 }
 
 /* Descriptor `number` of a table, which names its bytes by their place in RAM. */
@@ -185,7 +190,8 @@ static void reset_beside_a_disk_that_hangs(void)
     while (storage_waits(&host)) continue;
     turn();
     check(described().lost == 1 << DEV, "another disk is lost than the one whose sync failed");
-    for (uint32_t i = 0; i < SLOTS_A_DISK; i++) check(host.memory[area_of(OTHER) + VERDICTS + i] == 0, "a write that hung did not end well");
+    for (uint32_t i = 0; i < SLOTS_A_DISK; i++)
+        check(host.memory[area_of(OTHER) + VERDICTS + i] == 0, "a write that hung did not end well");
 }
 
 int main(int count, char **words)

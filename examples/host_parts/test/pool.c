@@ -1,6 +1,7 @@
-/* The pool of threads by itself: `pool FILE OTHER`, over files of 1 MiB, where the sixth sync fails (failing.c). What is written is read back, cleared sectors
- * are zeros, a read past the end fails, and after the sync that failed no flush and no durable write ends well. Before that OTHER hangs, with as many
- * writes under way as it may have, and FILE is served as ever. */
+/* The pool of threads by itself: `pool FILE OTHER`, over files of 1 MiB, where the sixth sync fails (failing.c). OTHER
+ * hangs at first, with as many writes under way as it may have, and FILE is served as ever. What is written is read
+ * back, cleared sectors are zeros, a read past the end fails, and after the sync that failed no flush and no durable
+ * write ends well. */
 #define _DEFAULT_SOURCE
 #include <errno.h>
 #include <stdio.h>
@@ -20,7 +21,8 @@ static void check(int is_right, const char *what)
     if (!is_right) fail("pool: %s", what);
 }
 
-static struct slot *submit_to(struct disk *d, uint8_t what, uint64_t first, uint32_t count, int is_durable, uint8_t filling)
+static struct slot *submit_to(struct disk *d, uint8_t what, uint64_t first, uint32_t count, int is_durable,
+                              uint8_t filling)
 {
     struct slot *s = pool_free(&pool);
 

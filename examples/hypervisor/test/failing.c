@@ -1,9 +1,10 @@
 /* Linked into a program, or loaded before one, it fails calls of the system. SYNC_FAILS=n: the n-th that brings a
  * file to the storage, by fdatasync or msync; all others succeed, as they do on Linux after one that failed.
- * FSYNC_FAILS=n: the n-th fsync. SYNC_FAILS_ONCE=FILE: the first one once this file says that all is here. WRITE_FAILS=n: the n-th pwrite, since
- * nothing is left. HANGS=FILE: as long as this file is there each pwrite waits, and says so; with HANGS_AT=OTHER each
- * one to the file OTHER alone. THREAD_FAILS=n: the n-th thread and each later one does not begin. NAME_HANGS=FILE: as long as this file is there no server of names
- * answers. At the end it writes how many syncs there were to descriptor 9, where that is open and there were any. */
+ * FSYNC_FAILS=n: the n-th fsync. SYNC_FAILS_ONCE=FILE: the first one once this file says that all is here.
+ * WRITE_FAILS=n: the n-th pwrite, since nothing is left. HANGS=FILE: as long as this file is there each pwrite waits,
+ * and says so; with HANGS_AT=OTHER each one to the file OTHER alone. THREAD_FAILS=n: the n-th thread and each later
+ * one does not begin. NAME_HANGS=FILE: as long as this file is there no server of names answers. At the end it writes
+ * how many syncs there were to descriptor 9, where that is open and there were any. */
 #define _GNU_SOURCE
 #include <dlfcn.h>
 #include <errno.h>
@@ -81,7 +82,8 @@ static int may_hang(int file)
     struct stat one, other;
 
     if (name == NULL) return 1;
-    return stat(name, &one) == 0 && fstat(file, &other) == 0 && one.st_dev == other.st_dev && one.st_ino == other.st_ino;
+    if (stat(name, &one) != 0 || fstat(file, &other) != 0) return 0;
+    return one.st_dev == other.st_dev && one.st_ino == other.st_ino;
 }
 
 ssize_t pwrite(int file, const void *bytes, size_t length, off_t at)
