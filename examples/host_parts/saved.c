@@ -10,6 +10,7 @@
 #include "disk.h"
 #include "saved.h"
 #include "say.h"
+#include "terminal.h"
 
 /* The other name: the file's own, a point and the number of the process. */
 static char other[PATH_MAX];
@@ -84,31 +85,33 @@ const char *saved_remove(const char *name)
     return NULL;
 }
 
-/* Whether all frames are there, the last one is their sum, and nothing is behind it. */
-static int is_whole(struct line *l)
+/* All frames have to be there, the last one is their sum, and nothing is behind it. Returns what is wrong, or NULL. */
+static const char *look_at_all(struct line *l)
 {
+    static const char SPOILED[] = "it is cut or changed, or has no guest";
     uint32_t sum, found = 0;
     uint8_t more;
 
     do {
         sum = l->sum;
-        if (line_collect(l) <= 0) return 0;
+        if (operator_words.ends) return "its operator ends the program";
+        if (line_collect(l) <= 0) return SPOILED;
     } while (l->type != CHECK);
     for (int i = 0; i < CHECK_LENGTH; i++) found |= (uint32_t)l->body[i] << (8 * i);
-    return found == sum && read(l->socket, &more, 1) == 0;
+    return found == sum && read(l->socket, &more, 1) == 0 ? NULL : SPOILED;
 }
 
 const char *saved_open(struct line *l, const char *name)
 {
     struct stat facts;
-    int whole;
+    const char *why;
 
     l->is_file = 1;
-    l->socket = open(name, O_RDONLY | O_CLOEXEC);
+    l->socket = open(name, O_RDONLY | O_CLOEXEC | O_NONBLOCK);
     if (l->socket < 0 || fstat(l->socket, &facts) != 0) return strerror(errno);
     if (!S_ISREG(facts.st_mode)) return "it is no file";
-    whole = is_whole(l);
+    why = look_at_all(l);
     l->in_at = 0;
-    if (lseek(l->socket, 0, SEEK_SET) != 0) return strerror(errno);
-    return whole ? NULL : "it is cut or changed, or has no guest";
+    if (why == NULL && lseek(l->socket, 0, SEEK_SET) != 0) why = strerror(errno);
+    return why;
 }

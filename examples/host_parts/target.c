@@ -171,6 +171,7 @@ static const char *take_all(struct host *h, struct arrival *a)
     if (!l->is_file && !line_send(l, WELCOME, h->word, WORD_LENGTH)) return "the line is broken";
     do {
         why = line_receive(l) ? take_frame(h, a) : "the line is broken";
+        if (l->is_file && operator_words.ends) why = "its operator ends the program";
         if (why != NULL) return why;
     } while (l->type != END);
     status = vmig_finish(&h->machine);
