@@ -193,7 +193,7 @@ void host_run(struct host *h)
     read_lines(h);
     lend_ram(h);
     leave_library(h);
-    if (h->options.listen != NULL) announce(h);
+    if (guest_arrives(&h->options)) announce(h);
     while (!h->has_ended && !h->is_gone && !operator_words.ends) turn(h);
     enter_library(h);
     leave_line(h, h->has_ended ? "the guest ended" : "its operator ended the guest");

@@ -87,7 +87,7 @@ int main(int count, char **words)
     terminal_begin();
     output_begin();
     prepare(&h);
-    if (h.options.listen != NULL) host_receive(&h);
+    if (guest_arrives(&h.options)) host_receive(&h);
     else begin_guest(&h);
     begin_statistics(&h);
     host_run(&h);
