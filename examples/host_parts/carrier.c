@@ -1,10 +1,13 @@
-/* The carrier of a move, a thread: it connects the line, and while the guest runs it alone sends and hears there.
+/* The carrier of a move, a thread: it connects the line, or makes the file of a guest that is saved, and while the
+ * guest runs it alone sends and hears there.
  * What waits in the machine is digested as it is taken. */
 #define _DEFAULT_SOURCE
 #include <poll.h>
+#include <string.h>
 #include <sys/eventfd.h>
 #include <unistd.h>
 #include "host.h"
+#include "saved.h"
 #include "terminal.h"
 
 /* What the carrier takes at once, for whose digest the library is its own, 0.1 ms. */
@@ -14,10 +17,20 @@ static const char BROKEN[] = "the line is broken";
 
 const char *line_says(struct line *l)
 {
-    int collected = line_collect(l);
+    int collected = l->is_file ? 0 : line_collect(l);
 
+    if (l->error != 0) return strerror(l->error);
     if (collected == 0) return NULL;
     return collected > 0 && l->type == REFUSED ? line_reason(l, "the target refuses: ") : BROKEN;
+}
+
+/* The file is there, with the first frame. Nobody answers. Returns why not, or NULL. */
+static const char *make_file(struct host *h)
+{
+    struct line *l = &h->move.line;
+    const char *why = saved_create(l, h->options.save);
+
+    return why != NULL || line_finish(l) ? why : line_says(l);
 }
 
 /* The line is connected, and each end knows the other by its word before a byte of the guest is sent. Returns why
@@ -52,7 +65,7 @@ static const char *send_frame(struct line *l)
 /* Waits for the bell, and hears what the target says meanwhile. */
 static const char *await_more(struct line *l)
 {
-    return line_wait(l, l->socket, POLLIN, -1) > 0 ? line_says(l) : NULL;
+    return line_wait(l, l->is_file ? -1 : l->socket, POLLIN, -1) > 0 ? line_says(l) : NULL;
 }
 
 /* With the lock, which is free while it sends or waits. Returns why the move is over, or NULL. */
@@ -79,7 +92,7 @@ static void *carry(void *of)
 {
     struct host *h = of;
     struct move *m = &h->move;
-    const char *why = m->has_met ? NULL : meet(h);
+    const char *why = m->has_met ? NULL : m->line.is_file ? make_file(h) : meet(h);
 
     lock_library(h);
     m->has_met = why == NULL;

@@ -186,7 +186,7 @@ void end_carrier(struct host *h);
 /* What came on the line while nothing is awaited, without waiting: why the move is over, or NULL. */
 const char *line_says(struct line *l);
 
-/* target.c: waits for a guest that is moved here, and returns when it is to run. */
+/* target.c: waits for a guest that is moved here, or takes one that was saved, and returns when it is to run. */
 void host_receive(struct host *h);
 
 /* The machine takes one call at a time: a thread that calls has the lock. One that waits for it comes next, so none

@@ -39,8 +39,9 @@ static void access_register(struct host *h)
     h->statistics.accesses++;
 }
 
-/* Before a reboot, with RAM lent: what the guest boots from is loaded anew. False where it cannot be, and the guest ends: a guest that
- * was moved here has no image here, and a disk that is lost would be used by one that does not know. */
+/* Before a reboot, with RAM lent: what the guest boots from is loaded anew. False where it cannot be, and the guest ends:
+ * one that was moved here without --kernel has no image here, and a disk that is lost would be used by one that does
+ * not know. */
 static int load_again(struct host *h)
 {
     vmig_description found;
@@ -192,7 +193,7 @@ void host_run(struct host *h)
     read_lines(h);
     lend_ram(h);
     leave_library(h);
-    if (h->options.listen != NULL) announce(h);
+    if (guest_arrives(&h->options)) announce(h);
     while (!h->has_ended && !h->is_gone && !operator_words.ends) turn(h);
     enter_library(h);
     leave_line(h, h->has_ended ? "the guest ended" : "its operator ended the guest");

@@ -41,6 +41,15 @@ static void read_word(struct host *h)
     memcpy(h->word, line, length);
 }
 
+/* A guest that is moved here reboots with this file, if it is named: so it is looked for at once. */
+static void look_for(const char *name)
+{
+    FILE *file = name == NULL ? NULL : fopen(name, "rb");
+
+    if (name != NULL && file == NULL) fail("%s: %s", name, strerror(errno));
+    if (file != NULL) fclose(file);
+}
+
 /* What a guest needs of this host is taken before it begins, or arrives: from then on nothing that may fail is taken
  * for it. */
 static void prepare(struct host *h)
@@ -48,6 +57,8 @@ static void prepare(struct host *h)
     const char *why;
 
     read_word(h);
+    look_for(h->options.kernel);
+    look_for(h->options.initrd);
     prepare_guests(h);
     devices_plan(&h->devices, &h->options);
     why = open_wire(h);
@@ -76,7 +87,7 @@ int main(int count, char **words)
     terminal_begin();
     output_begin();
     prepare(&h);
-    if (h.options.listen != NULL) host_receive(&h);
+    if (guest_arrives(&h.options)) host_receive(&h);
     else begin_guest(&h);
     begin_statistics(&h);
     host_run(&h);

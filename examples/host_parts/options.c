@@ -49,6 +49,8 @@ static const char **text_of(struct options *o, const char *option)
     if (strcmp(option, "--append") == 0) return &o->append;
     if (strcmp(option, "--listen") == 0) return &o->listen;
     if (strcmp(option, "--connect") == 0) return &o->connect;
+    if (strcmp(option, "--save") == 0) return &o->save;
+    if (strcmp(option, "--restore") == 0) return &o->restore;
     if (strcmp(option, "--word") == 0) return &o->word;
     return strcmp(option, "--net") == 0 ? &o->net : NULL;
 }
@@ -72,9 +74,13 @@ static void take_word(struct options *o, const char *option, const char *word)
 
 static void compare(const struct options *o)
 {
-    if (o->kernel == NULL && o->listen == NULL) misused("either --kernel or --listen is needed", "");
-    if (o->kernel != NULL && o->listen != NULL) misused("a guest that is moved here has its kernel already", "--kernel");
-    if (o->listen != NULL && (o->initrd != NULL || o->append != NULL)) misused("--initrd and --append belong to --kernel", "--listen");
+    int arrives = guest_arrives(o);
+
+    if (o->listen != NULL && o->restore != NULL) misused("a guest that was saved is not moved here", "--restore");
+    if (o->connect != NULL && o->save != NULL) misused("a guest is either moved or saved", "--save");
+    if (o->kernel == NULL && !arrives) misused("either --kernel or --listen or --restore is needed", "");
+    if (o->kernel == NULL && (o->initrd != NULL || o->append != NULL))
+        misused("--initrd and --append belong to --kernel", o->listen != NULL ? "--listen" : "--restore");
     if (o->net != NULL && strchr(o->net, ',') == NULL) misused("it is OWN,PEER: two sockets", "--net");
     if (o->net == NULL && o->mtu != 0) misused("it belongs to --net", "--mtu");
     for (unsigned i = 0; i < o->count_disks; i++)

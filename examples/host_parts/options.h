@@ -2,6 +2,7 @@
 #ifndef OPTIONS_H
 #define OPTIONS_H
 
+#include <stddef.h>
 #include "board.h"
 
 /* A board has a console, an entropy device, and as many disks as windows are left beside them and a network device. */
@@ -14,13 +15,19 @@ struct disk_option {
 };
 
 struct options {
-    const char *kernel, *initrd, *append, *listen, *connect, *net, *word;
+    const char *kernel, *initrd, *append, *listen, *connect, *save, *restore, *net, *word;
     struct disk_option disks[DISKS_MAX];
     unsigned count_disks, mib, mtu, rounds, few, pause_ms, max_tries;  /* mtu: 0 where none is offered */
     int stats, no_reboot;
     int is_shared;      /* both hosts of a move have the files of the disks that are not mapped */
     int stops_on_error; /* a read or write that fails stops the guest */
 };
+
+/* Whether the guest does not begin here: it is moved here, or was saved. */
+static inline int guest_arrives(const struct options *o)
+{
+    return o->listen != NULL || o->restore != NULL;
+}
 
 /* What --help prints, which each hypervisor has of its own. */
 extern const char HELP[];

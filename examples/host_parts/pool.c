@@ -34,7 +34,7 @@ static struct slot *find(struct pool *p, enum slot_state state, const struct dis
 {
     struct slot *found = NULL;
 
-    for (unsigned i = 0; i < SLOTS; i++) {
+    for (unsigned i = 0; i < p->count_slots; i++) {
         struct slot *s = &p->slots[i];
 
         if (s->state == state && (disk == NULL || s->disk == disk) && (found == NULL || s->turn < found->turn)) found = s;
@@ -57,16 +57,18 @@ static void tell_done(struct pool *p, struct slot *s)
     if (write(p->bell, &one, sizeof one) != sizeof one) fail("the pool has no bell");
 }
 
+/* The calls of its disk. */
 static void *work(void *of)
 {
-    struct pool *p = of;
+    struct worker *w = of;
+    struct pool *p = w->pool;
     struct slot *s;
 
     pthread_mutex_lock(&p->lock);
     for (;;) {
         uint64_t began;
 
-        while ((s = find(p, SLOT_WAITS, NULL)) == NULL && !p->stops) pthread_cond_wait(&p->has_work, &p->lock);
+        while ((s = find(p, SLOT_WAITS, w->disk)) == NULL && !p->stops) pthread_cond_wait(&p->has_work, &p->lock);
         if (s == NULL) break;
         move_to(p, s, SLOT_WORKS);
         pthread_mutex_unlock(&p->lock);
@@ -87,13 +89,37 @@ const char *pool_begin(struct pool *p)
 {
     *p = (struct pool){.lock = PTHREAD_MUTEX_INITIALIZER, .has_work = PTHREAD_COND_INITIALIZER, .has_done = PTHREAD_COND_INITIALIZER};
     p->bell = eventfd(0, EFD_CLOEXEC | EFD_NONBLOCK);
-    if (p->bell < 0) return "there is no bell for the requests of disks";
-    for (unsigned i = 0; i < SLOTS; i++) {
-        p->slots[i].bytes = malloc(SLOT_BYTES);
-        if (p->slots[i].bytes == NULL) return "there is no memory for the requests of disks";
+    return p->bell < 0 ? "there is no bell for the requests of disks" : NULL;
+}
+
+/* With the lock. */
+static int add_slots(struct pool *p)
+{
+    for (unsigned i = 0; i < SLOTS_A_DISK; i++) {
+        uint8_t *bytes = malloc(SLOT_BYTES);
+
+        if (bytes == NULL) return 0;
+        p->slots[p->count_slots++].bytes = bytes;
     }
-    while (p->count < WORKERS && begin_thread(&p->threads[p->count], work, p)) p->count++;
-    return p->count == 0 ? "there is no thread for the requests of disks" : NULL;
+    return 1;
+}
+
+const char *pool_add(struct pool *p, const struct disk *disk)
+{
+    unsigned begun = 0;
+    int has_slots;
+
+    pthread_mutex_lock(&p->lock);
+    has_slots = add_slots(p);
+    pthread_mutex_unlock(&p->lock);
+    if (!has_slots) return "there is no memory for the requests of a disk";
+    for (; begun < WORKERS_A_DISK; begun++, p->count++) {
+        struct worker *w = &p->workers[p->count];
+
+        *w = (struct worker){.pool = p, .disk = disk};
+        if (!begin_thread(&w->thread, work, w)) break;
+    }
+    return begun == 0 ? "there is no thread for the requests of a disk" : NULL;
 }
 
 /* Waits for a moment, with the lock. */
@@ -131,8 +157,8 @@ static int await_threads(struct pool *p)
 int pool_end(struct pool *p)
 {
     if (!await_threads(p)) return 0;
-    for (unsigned i = 0; i < p->count; i++) pthread_join(p->threads[i], NULL);
-    for (unsigned i = 0; i < SLOTS; i++) free(p->slots[i].bytes);
+    for (unsigned i = 0; i < p->count; i++) pthread_join(p->workers[i].thread, NULL);
+    for (unsigned i = 0; i < p->count_slots; i++) free(p->slots[i].bytes);
     close(p->bell);
     return 1;
 }
@@ -161,7 +187,8 @@ static void set_state(struct pool *p, struct slot *s, enum slot_state state)
 {
     pthread_mutex_lock(&p->lock);
     move_to(p, s, state);
-    pthread_cond_signal(&p->has_work);
+    /* All: the one that is woken has to be of this disk. */
+    if (state == SLOT_WAITS) pthread_cond_broadcast(&p->has_work);
     pthread_mutex_unlock(&p->lock);
 }
 

@@ -1,10 +1,12 @@
 /* A guest is moved away while it runs: rounds between its turns, a pause at the end, and the words by which one of
  * the two runs it. Until GO is sent the guest is kept here, and continues here if the line breaks. From then on it
- * does not run here, unless the operator says so. */
+ * does not run here, unless the operator says so. Or it is saved in a file, likewise: once the file has its name the
+ * guest does not run here, since its disks go on with who continues from the file. */
 #include <stdio.h>
 #include <string.h>
 #include "clock.h"
 #include "host.h"
+#include "saved.h"
 #include "say.h"
 #include "terminal.h"
 
@@ -36,10 +38,17 @@ static int tell_end(struct host *h, const char *why, unsigned milliseconds)
     struct line *l = &h->move.line;
     size_t length = strlen(why);
 
-    if (h->move.is_broken || l->socket < 0) return 0;
+    if (h->move.is_broken || l->is_file || l->socket < 0) return 0;
     l->hears = HEARS_NOTHING;
     l->until = clock_nanoseconds() + milliseconds * UINT64_C(1000000);
     return line_finish(l) && line_send(l, ENDED, why, length < REASON_MAX ? length : REASON_MAX);
+}
+
+/* What was not saved as a whole goes. */
+static void close_line(struct host *h)
+{
+    line_close(&h->move.line);
+    if (h->move.line.is_file) saved_drop();
 }
 
 void leave_line(struct host *h, const char *why)
@@ -49,8 +58,8 @@ void leave_line(struct host *h, const char *why)
     if (!m->is_on) return;
     end_carrier(h);
     if (tell_end(h, why, TELL_MS)) say("move: %s: %s was told so", why, h->options.connect);
-    else say("move: %s, and the line is broken", why);
-    line_close(&m->line);
+    else say("move: %s, and %s", why, m->line.is_file ? "is not saved" : "the line is broken");
+    close_line(h);
     m->is_on = 0;
 }
 
@@ -62,12 +71,13 @@ static int give_up(struct host *h, const char *why)
     if (m->is_on) {
         end_carrier(h);
         tell_end(h, why, 0);
-        line_close(&m->line);
+        close_line(h);
     }
     if (m->is_on && m->is_sending) {
         log_ends(h);
         take_ram(h);
         must(vmig_send_abort(&h->machine), "vmig_send_abort");
+        fill_pool(h);
     }
     m->is_on = m->is_sending = 0;
     say("move: %s: the guest continues here", why);
@@ -82,6 +92,7 @@ static const char *why_not(struct host *h)
 
     if (operator_words.ends) return "its operator ends the program";
     if (l->hears == HEARS_CANCEL && operator_words.continues) return CANCELLED;
+    if (l->error != 0) return line_says(l);
     if (clock_nanoseconds() >= l->until) return TOO_LONG;
     why = line_says(l);
     return why == NULL ? BROKEN : why;
@@ -93,7 +104,7 @@ static void begin_hello(struct host *h)
     struct hello hello = {.version = LINE_VERSION, .kind = GUEST_KIND, .mib = h->options.mib, .base = RAM_BASE};
 
     hello.is_shared = (uint32_t)h->options.is_shared;
-    memcpy(hello.word, h->word, WORD_LENGTH);
+    if (!h->move.line.is_file) memcpy(hello.word, h->word, WORD_LENGTH);
     hello_write(bytes, &hello);
     line_begin(&h->move.line, HELLO, bytes, HELLO_LENGTH + facts_write(h, bytes + HELLO_LENGTH));
 }
@@ -116,7 +127,7 @@ static const char *begin_move(struct host *h)
     struct move *m = &h->move;
 
     operator_words.moves = operator_words.continues = 0;
-    if (h->options.connect == NULL) return "there is no --connect to move to";
+    if (h->options.connect == NULL && h->options.save == NULL) return "there is no --connect to move to, and no --save";
     if (devices_ask(&h->devices) && !h->options.is_shared) return "a disk of --disk is in no stream: it moves with --shared alone";
     m->is_on = 1;
     m->has_met = m->is_sending = m->is_stopped = 0;
@@ -124,8 +135,9 @@ static const char *begin_move(struct host *h)
     m->least = UINT64_MAX;
     m->stalls = 0;
     m->pauses = 0;
-    say("move: to %s begins", h->options.connect);
+    say("move: to %s begins", h->options.save != NULL ? h->options.save : h->options.connect);
     line_prepare(&m->line, operator_bell, HEARS_CANCEL);
+    m->line.is_file = h->options.save != NULL;
     begin_hello(h);
     return begin_carrier(h);
 }
@@ -227,6 +239,22 @@ static const char *read_state(struct host *h, uint8_t state[BODY_MAX], size_t *l
     return why == NULL ? name_pages(h) : why;
 }
 
+/* All was sent. Returns why the target has not got it, or NULL. */
+static const char *await_ready(struct host *h)
+{
+    struct line *l = &h->move.line;
+
+    if (!line_receive(l)) return why_not(h);
+    if (l->type == REFUSED) return line_reason(l, "the target refuses: ");
+    return l->type == READY ? NULL : BROKEN;
+}
+
+/* Two guests that continue from one file take no byte of one pool. */
+static void drop_pool(struct host *h)
+{
+    if (h->move.line.is_file) must(vmig_drop(&h->machine, ENTROPY), "vmig_drop");
+}
+
 /* The machine's stream ends, and its rest goes over the line, with all that is not in it. */
 static const char *send_rest(struct host *h)
 {
@@ -238,6 +266,7 @@ static const char *send_rest(struct host *h)
     const char *why = read_state(h, state, &length);
 
     if (why != NULL) return why;
+    drop_pool(h);
     why = send_last_round(h);
     if (why != NULL) return why;
     h->move.is_stopped = 1;
@@ -246,9 +275,7 @@ static const char *send_rest(struct host *h)
     if (why != NULL) return why;
     end_write(end, devices_lost(&h->devices));
     if (!line_send(l, STATE, state, length) || !line_send(l, END, end, sizeof end)) return why_not(h);
-    if (!line_receive(l)) return why_not(h);
-    if (l->type == REFUSED) return line_reason(l, "the target refuses: ");
-    return l->type == READY ? NULL : BROKEN;
+    return l->is_file ? saved_close(l) : await_ready(h);
 }
 
 /* The files that both hosts have are closed, so that the target may open them, and it may take the name of the wire.
@@ -258,7 +285,7 @@ static const char *let_go(struct host *h)
     const char *why = lend_wire_name(h);
 
     if (why == NULL) why = devices_let_go(&h->devices);
-    if (why != NULL) line_send(&h->move.line, ENDED, why, strlen(why));
+    if (why != NULL && !h->move.line.is_file) line_send(&h->move.line, ENDED, why, strlen(why));
     return why;
 }
 
@@ -296,26 +323,40 @@ static int keep(struct host *h)
     return continue_here(h, "by the word of the operator");
 }
 
-/* The target could not open the disks, and dropped the guest: that word allows it to run here. */
-static int come_back(struct host *h)
+/* The guest had been let go, and is nowhere else. */
+static int come_back(struct host *h, const char *why)
 {
-    static char why[REASON_MAX + 40];
-
-    snprintf(why, sizeof why, "%s", line_reason(&h->move.line, "the target refuses: "));
     h->move.is_on = take_back(h);
     return h->move.is_on && continue_here(h, why);
 }
 
+/* The target could not open the disks, and dropped the guest: that word allows it to run here. */
+static int come_back_refused(struct host *h)
+{
+    static char why[REASON_MAX + 40];
+
+    snprintf(why, sizeof why, "%s", line_reason(&h->move.line, "the target refuses: "));
+    return come_back(h, why);
+}
+
+static double milliseconds_since(uint64_t then)
+{
+    return (double)(clock_nanoseconds() - then) / 1e6;
+}
+
 /* The pause is over, and nothing was stopped in the machine: what is left goes with one round more while the guest
  * runs on. */
-static int go_on(struct host *h)
+static int go_on(struct host *h, uint64_t paused)
 {
     struct move *m = &h->move;
     vmig_status status = vmig_send_round(&h->machine);
     const char *why = vmig_refused(status) ? OUT_OF_MEMORY : NULL;
 
-    say("move: the guest was paused for %u ms, and runs on here while it is moved", h->options.pause_ms);
+    say("move: the guest was paused for %.1f ms, and runs on here while it is moved", milliseconds_since(paused));
+    fill_pool(h);
     begin_round(h, m->round + 1);
+    start_clock(h);
+    h->steps_wait = 1;
     if (why == NULL && !m->has_carrier) why = begin_carrier(h);
     return why == NULL ? 1 : give_up(h, why);
 }
@@ -350,6 +391,24 @@ static const char *hand_over(struct host *h)
     return why == NULL ? let_go(h) : why;
 }
 
+/* It runs here no more. */
+static int is_away(struct host *h, const char *what, const char *where, uint64_t paused)
+{
+    line_close(&h->move.line);
+    h->move.is_on = 0;
+    h->is_gone = 1;
+    say("move: the guest %s %s; it was paused for %.1f ms", what, where, milliseconds_since(paused));
+    return 0;
+}
+
+/* That the file has its name is the last word. */
+static int finish_save(struct host *h, uint64_t paused)
+{
+    const char *why = saved_keep(h->options.save);
+
+    return why == NULL ? is_away(h, "is saved in", h->options.save, paused) : come_back(h, why);
+}
+
 /* GO was the last word. */
 static int await_runs(struct host *h, uint64_t paused)
 {
@@ -359,13 +418,8 @@ static int await_runs(struct host *h, uint64_t paused)
     l->until = LINE_EVER;
     line_hurry(l);
     if (!line_send(l, GO, NULL, 0) || !line_receive(l)) return keep(h);
-    if (l->type == REFUSED) return come_back(h);
-    if (l->type != RUNS) return keep(h);
-    line_close(l);
-    h->move.is_on = 0;
-    h->is_gone = 1;
-    say("move: the guest runs at %s; it was paused for %.1f ms", h->options.connect, (double)(clock_nanoseconds() - paused) / 1e6);
-    return 0;
+    if (l->type == REFUSED) return come_back_refused(h);
+    return l->type == RUNS ? is_away(h, "runs at", h->options.connect, paused) : keep(h);
 }
 
 /* The guest is paused, and the rest of it is sent. Once all is there it is let go. It runs on here where that takes
@@ -381,11 +435,10 @@ static int finish_move(struct host *h)
     stop_clock(h);
     why = await_storage(h);
     if (why == NULL) why = hand_over(h);
-    if (why == NULL) return await_runs(h, paused);
-    if (why != TOO_LONG || m->is_stopped || m->pauses == h->options.max_tries) return continue_here(h, why);
-    start_clock(h);
-    h->steps_wait = 1;
-    return go_on(h);
+    if (why == NULL) return m->line.is_file ? finish_save(h, paused) : await_runs(h, paused);
+    if (why == TOO_LONG && !m->is_stopped && m->pauses < h->options.max_tries) return go_on(h, paused);
+    say("move: the guest was paused for %.1f ms", milliseconds_since(paused));
+    return continue_here(h, why);
 }
 
 /* A round was sent. What is left counts pages that were named, so these are named before it is asked; then the next

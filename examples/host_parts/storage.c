@@ -8,8 +8,13 @@
 
 const char *storage_begin(struct host *h)
 {
+    const char *why;
+
     h->has_pool = devices_ask(&h->devices);
-    return h->has_pool ? pool_begin(&h->pool) : NULL;
+    why = h->has_pool ? pool_begin(&h->pool) : NULL;
+    for (unsigned i = 0; i < h->devices.count_disks && why == NULL; i++)
+        if (h->devices.disks[i].at == NULL) why = pool_add(&h->pool, &h->devices.disks[i]);
+    return why;
 }
 
 void storage_end(struct host *h)

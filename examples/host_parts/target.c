@@ -1,10 +1,11 @@
-/* A guest that is moved here. What comes is not trusted: each frame has its place, the machine is compared with the
- * options before memory is taken, and the registers are looked at. Until the source has let go, the guest does not
- * run here. */
+/* A guest that is moved here, or was saved in a file. What comes is not trusted: each frame has its place, the machine
+ * is compared with the options before memory is taken, and the registers are looked at. Until the source has let go,
+ * the guest does not run here. */
 #include <string.h>
 #include <unistd.h>
 #include "clock.h"
 #include "host.h"
+#include "saved.h"
 #include "say.h"
 #include "terminal.h"
 
@@ -61,6 +62,21 @@ static void await_source(struct host *h, struct hello *hello)
         line_prepare(l, operator_bell, HEARS_END);
     }
     close(listener);
+}
+
+/* The file is whole, and begins with the first frame of a move. Returns what is wrong, or NULL. A file has no word: who
+ * reads it has all of the guest. */
+static const char *open_saved(struct host *h, struct hello *hello)
+{
+    struct line *l = &h->move.line;
+    const char *why;
+
+    line_prepare(l, operator_bell, HEARS_END);
+    why = saved_open(l, h->options.restore);
+    if (why != NULL) return why;
+    if (!line_receive(l) || l->type != HELLO || !hello_read(l->body, l->length, hello))
+        return "it is of no hypervisor of this kind";
+    return hello->version == LINE_VERSION ? NULL : "it is of another version";
 }
 
 static const char *check_hello(struct host *h, const struct hello *hello)
@@ -152,9 +168,10 @@ static const char *take_all(struct host *h, struct arrival *a)
     vmig_status status;
 
     line_be_patient(l);
-    if (!line_send(l, WELCOME, h->word, WORD_LENGTH)) return "the line is broken";
+    if (!l->is_file && !line_send(l, WELCOME, h->word, WORD_LENGTH)) return "the line is broken";
     do {
         why = line_receive(l) ? take_frame(h, a) : "the line is broken";
+        if (l->is_file && operator_words.ends) why = "its operator ends the program";
         if (why != NULL) return why;
     } while (l->type != END);
     status = vmig_finish(&h->machine);
@@ -166,6 +183,7 @@ static const char *take_all(struct host *h, struct arrival *a)
 
 __attribute__((noreturn)) static void refuse(struct host *h, const char *why)
 {
+    if (h->options.restore != NULL) fail("%s: %s: no guest is here", h->options.restore, why);
     if (h->move.line.type == ENDED) fail("move: %s: no guest is here", why);
     line_refuse(&h->move.line, why);
     fail("move: %s: no guest is here, and the source has it", why);
@@ -228,23 +246,37 @@ static void await_last_word(struct host *h)
     else say("move: the guest runs here; the source did not hear so");
 }
 
+/* All of the file is here. What both hosts of a move have is taken. Where that is a disk the file goes: a guest that
+ * continued from it once more would find a disk that went on. */
+static void take_over_saved(struct host *h)
+{
+    const char *name = h->options.restore, *why = take_over(h);
+
+    if (why != NULL) refuse(h, why);
+    if (devices_ask(&h->devices)) why = saved_remove(name);
+    if (why != NULL) refuse(h, why);
+    say("move: the guest of %s runs here", name);
+}
+
 void host_receive(struct host *h)
 {
     struct line *l = &h->move.line;
     static struct arrival a;
     struct hello hello;
-    const char *why;
+    const char *why = NULL;
 
     a.length = (uint64_t)h->options.mib * MIB;
     for (unsigned i = 0; i < h->devices.count_disks; i++)
         if (h->devices.disks[i].at != NULL) say("%s will be overwritten", h->devices.disks[i].name);
-    await_source(h, &hello);
-    why = check_hello(h, &hello);
+    if (h->options.restore != NULL) why = open_saved(h, &hello);
+    else await_source(h, &hello);
+    if (why == NULL) why = check_hello(h, &hello);
     if (why == NULL) why = take_all(h, &a);
     if (why != NULL) refuse(h, why);
     say("move: all is here");
     line_hurry(l);
-    await_last_word(h);
+    if (h->options.restore != NULL) take_over_saved(h);
+    else await_last_word(h);
     line_close(l);
     start_clock(h);
 }

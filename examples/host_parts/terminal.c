@@ -67,6 +67,8 @@ void terminal_begin(void)
     for (size_t i = 0; i < sizeof WORDS / sizeof *WORDS; i++) handle(WORDS[i], take_word, 0);
     for (size_t i = 0; i < sizeof DEATHS / sizeof *DEATHS; i++) handle(DEATHS[i], die, (int)SA_RESETHAND);
     handle(SIGPIPE, SIG_IGN, 0);
+    /* A file that would be longer than a limit allows is an error of its write. */
+    handle(SIGXFSZ, SIG_IGN, 0);
 }
 
 int begin_thread(pthread_t *thread, void *(*does)(void *), void *of)

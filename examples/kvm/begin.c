@@ -20,3 +20,10 @@ void begin_anew(struct host *h)
     if (why != NULL) fail("%s", why);
     watch_guest(k->run);
 }
+
+void memory_map(const struct kvm *k, struct piece map[PIECES])
+{
+    map[0] = (struct piece){0, TABLE_AT, USABLE};
+    map[1] = (struct piece){TABLE_AT, HIGH - TABLE_AT, RESERVED};
+    map[2] = (struct piece){HIGH, k->length - HIGH, USABLE};
+}

@@ -15,6 +15,9 @@ enum { PAGE = 4096, MIB = 1 << 20, RAM_MIB = 64, RAM_MIB_MAX = 3072 };
 enum { UART_AT = 0x3f8, UART_SIZE = 8, UART_INTERRUPT = 4, RESET_AT = 0x64, RESET_WORD = 0xfe };
 enum { POWER_AT = 0x604, POWER_OFF = 0x2000, FAILED_AT = 0xf4 };
 
+/* The sleep control register of ACPI, and behind it that of the status: a sleep of this type, begun by bit 5, powers the board off. */
+enum { SLEEP_AT = 0x600, SLEEP_TYPE = 5, SLEEP_OFF = SLEEP_TYPE << 2 | 1 << 5 };
+
 /* The windows of the virtio devices, one after another. */
 #define WINDOWS_AT UINT64_C(0xd0000000)
 #define WINDOW_SIZE UINT64_C(0x1000)

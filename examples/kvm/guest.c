@@ -4,6 +4,7 @@
 #include "cpuid.h"
 #include "host.h"
 #include "output.h"
+#include "report.h"
 #include "say.h"
 
 /* A guest whose devices have more to do than one turn does is called out after this time. */
@@ -42,7 +43,7 @@ static void end(struct host *h, uint64_t outcome)
 static uint32_t read_port(struct host *h, uint64_t port)
 {
     if (lies_in(port, UART_AT, UART_SIZE)) return uart_read(&h->uart, &h->typed, port - UART_AT);
-    return port == RESET_AT ? 0 : UINT32_MAX;
+    return port == RESET_AT || port == SLEEP_AT || port == SLEEP_AT + 1 ? 0 : UINT32_MAX;
 }
 
 static void write_port(struct host *h, uint64_t port, uint32_t value)
@@ -56,6 +57,7 @@ static void write_port(struct host *h, uint64_t port, uint32_t value)
         if (sent >= 0) output_write(&byte, 1);
     } else if (port == RESET_AT && byte == RESET_WORD) h->reboots = 1;
     else if (port == POWER_AT && value == POWER_OFF) end(h, 0);
+    else if (port == SLEEP_AT && byte == SLEEP_OFF) end(h, 0);
     else if (port == FAILED_AT) end(h, byte);
 }
 
@@ -110,12 +112,8 @@ static int board_answers(struct host *h)
     switch (run->exit_reason) {
     case KVM_EXIT_IO: access_ports(h); return 1;
     case KVM_EXIT_MMIO: return !is_window(h);
-    case KVM_EXIT_SHUTDOWN:
-        say("the guest met a fault within a fault within a fault, and ends");
-        end(h, 1);
-        return 1;
     default:
-        say("KVM ends the guest: reason %u, %u", run->exit_reason, run->exit_reason == KVM_EXIT_INTERNAL_ERROR ? run->internal.suberror : 0);
+        report(&h->guest.kvm);
         end(h, 1);
         return 1;
     }

@@ -1,9 +1,10 @@
 /* Linked into a program, or loaded before one, it fails calls of the system. SYNC_FAILS=n: the n-th that brings a
  * file to the storage, by fdatasync or msync; all others succeed, as they do on Linux after one that failed.
- * SYNC_FAILS_ONCE=FILE: the first one once this file says that all is here. WRITE_FAILS=n: the n-th pwrite, since
- * nothing is left. HANGS=FILE: as long as this file is there each pwrite waits, and says so. THREAD_FAILS=n: the
- * n-th thread and each later one does not begin. NAME_HANGS=FILE: as long as this file is there no server of names
- * answers. At the end it writes how many syncs there were to descriptor 9, where that is open and there were any. */
+ * FSYNC_FAILS=n: the n-th fsync. SYNC_FAILS_ONCE=FILE: the first one once this file says that all is here.
+ * WRITE_FAILS=n: the n-th pwrite, since nothing is left. HANGS=FILE: as long as this file is there each pwrite waits,
+ * and says so; with HANGS_AT=OTHER each one to the file OTHER alone. THREAD_FAILS=n: the n-th thread and each later
+ * one does not begin. NAME_HANGS=FILE: as long as this file is there no server of names answers. At the end it writes
+ * how many syncs there were to descriptor 9, where that is open and there were any. */
 #define _GNU_SOURCE
 #include <dlfcn.h>
 #include <errno.h>
@@ -14,10 +15,11 @@
 #include <stdlib.h>
 #include <string.h>
 #include <sys/mman.h>
+#include <sys/stat.h>
 #include <sys/syscall.h>
 #include <unistd.h>
 
-static atomic_ulong syncs, writes, failures, threads;
+static atomic_ulong syncs, fsyncs, writes, failures, threads;
 
 static int is_number(const char *name, unsigned long number)
 {
@@ -52,6 +54,13 @@ int fdatasync(int file)
     return sync_fails() ? -1 : (int)syscall(SYS_fdatasync, file);
 }
 
+int fsync(int file)
+{
+    if (!is_number("FSYNC_FAILS", ++fsyncs)) return (int)syscall(SYS_fsync, file);
+    errno = EIO;
+    return -1;
+}
+
 int msync(void *at, size_t length, int flags)
 {
     return sync_fails() ? -1 : (int)syscall(SYS_msync, at, length, flags);
@@ -66,9 +75,20 @@ static void hang(const char *option, const char *what)
     while (access(name, F_OK) == 0) usleep(10000);
 }
 
+/* Whether this is the file that hangs. */
+static int may_hang(int file)
+{
+    const char *name = getenv("HANGS_AT");
+    struct stat one, other;
+
+    if (name == NULL) return 1;
+    if (stat(name, &one) != 0 || fstat(file, &other) != 0) return 0;
+    return one.st_dev == other.st_dev && one.st_ino == other.st_ino;
+}
+
 ssize_t pwrite(int file, const void *bytes, size_t length, off_t at)
 {
-    hang("HANGS", "a write");
+    if (may_hang(file)) hang("HANGS", "a write");
     if (!is_number("WRITE_FAILS", ++writes)) return syscall(SYS_pwrite64, file, bytes, length, at);
     errno = ENOSPC;
     return -1;
