@@ -19,7 +19,7 @@ use Rattle.c_handle.specs.Durable.{FailedIsLost, FailsSync, FailsUnless, FailedM
 use Rattle.c_handle.specs.Kept.{KeptSeen, is_lost}
 use Rattle.c_handle.specs.Mirror.{Mirrors, is_closed}
 use Rattle.c_handle.specs.OnHandle.{Refuses, Unless}
-use Rattle.c_handle.specs.Sent.{FailuresStaySent}
+use Rattle.c_handle.specs.Sent.{FailedFlushesStaySent}
 use Rattle.c_handle.specs.SendStatus.{mig_status}
 use Rattle.c_machine.proofs.Plain.{as_many}
 
@@ -93,8 +93,8 @@ pub failed_mirrors : FailedMirrors
 failed_mirrors m next dev pick ram seen f mirrors = subst (λ (x : Memory). Mirrors x ram seen) (sym f.memory) mirrors
 
 -- The history of a machine that is being migrated.
-pub failures_stay_sent : FailuresStaySent
-failures_stay_sent m h taken pages dev pick l next is places goes f =
+pub failed_flushes_stay_sent : FailedFlushesStaySent
+failed_flushes_stay_sent m h taken pages dev pick l next is places goes f =
     let there : HasPlaces (untaken taken l) = record { sound = places.sound; few = places.few; due_size = places.due_size; dirty_size = places.dirty_size } in
     let more = failure_stays_behind m h (over_writer (Some []) 0 false) pages dev pick (untaken taken l) (untaken taken next) is there goes (record { failed = f.failed; rest = ap (untaken taken) f.rest }) in
     record { effect = more.effect; is_sent = more.behind }

@@ -6,7 +6,7 @@ use Rattle.std.specs.Prelude.{MatchOption, Option, Some, None, Result, Ok, Err}
 use Rattle.machine.specs.Seen.{Seen}
 use Rattle.sender.specs.Calls.{Does, Serves, copied_reply}
 use Rattle.sender.specs.LiveState.{HasPlaces, LiveSeen, refusal_for}
-use Rattle.sender.specs.Reads.{CallsNone}
+use Rattle.sender.specs.Uncalled.{CallsNone}
 use Rattle.sender.proofs.Uncalled.{uncalled_is_same}
 use Rattle.sender.specs.declared.event.CopyAnswer.{CopyAnswer}
 use Rattle.sender.specs.declared.event.CopyAnswer.TheVariants as answers

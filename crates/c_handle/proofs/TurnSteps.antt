@@ -43,7 +43,7 @@ use Rattle.c_handle.specs.declared.turning.Outcome.TheVariants as outcomes
 use Rattle.c_handle.proofs.Owing.{itself, refused_steps_nothing}
 use Rattle.c_handle.proofs.PageLogs.{logged_is_served}
 use Rattle.c_handle.proofs.Sent.{calls_stay_sent}
-use Rattle.c_handle.proofs.Failing.{failures_stay_sent}
+use Rattle.c_handle.proofs.Failing.{failed_flushes_stay_sent}
 
 -- A step of a machine that is being migrated changed nothing, was served, or its flush failed.
 abbrev DidLive : LiveSeen → ℕ → ℕ → LiveSeen → Type 0
@@ -279,7 +279,7 @@ one_sent m taken pages h l next w is (inr (inl served)) =
     let more = calls_stay_sent m h taken pages (Guest (step_of w)) (r.Guest served.0) l next is served.1 (may_guest pages (step_of w)) served.2 in
     (w ∷ [], record { history = then_came h (Guest (step_of w)) (r.Guest served.0) more.effect; is_sent = more.is_sent; came = refl; text_is = no_text m h (step_of w) served.0 more.effect })
 one_sent m taken pages h l next w is (inr (inr failed)) =
-    let more = failures_stay_sent m h taken pages w.dev w.pick l next is failed.0 (λ stopped. true≢false (sym (ap is_closed stopped) ∙ failed.1)) failed.2 in
+    let more = failed_flushes_stay_sent m h taken pages w.dev w.pick l next is failed.0 (λ stopped. true≢false (sym (ap is_closed stopped) ∙ failed.1)) failed.2 in
     (w ∷ [], record { history = then_came h (Guest (step_of w)) (r.Guest DiskFailed) more.effect; is_sent = more.is_sent; came = refl; text_is = no_text m h (step_of w) DiskFailed more.effect })
 
 then_sent : (m : MachineState) (taken pages : List ℕ) (h : History) (next last : LiveSeen) (first : GoOn m taken pages h next) → GoOn m taken pages first.1.history last → GoOn m taken pages h last

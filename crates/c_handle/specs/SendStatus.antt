@@ -1,6 +1,6 @@
 -- The statuses of the calls of a migration.
 use Rattle.std.specs.Prelude.{ℕ, ◌+◌}
-use Rattle.sender.specs.Saving.{mig_code_of}
+use Rattle.sender.specs.MigCode.{mig_code_of}
 use Rattle.sender.specs.declared.event.LiveReply.{LiveReply}
 use Rattle.sender.specs.declared.event.LiveReply.TheVariants as live
 use Rattle.sender.specs.declared.mig_error.MigError.{MigError}

@@ -54,8 +54,8 @@ CallsStaySent = (m : MachineState) (h : History) (taken pages : List ℕ) (e : L
     → StaysSent m h taken (still_behind reply pages) e reply next
 
 -- and so does a flush that fails in place of its step, with the reply that the disk failed,
-abbrev pub FailuresStaySent : Type 0
-FailuresStaySent = (m : MachineState) (h : History) (taken pages : List ℕ) (dev pick : ℕ) (l next : LiveSeen) → IsSent m h taken pages l → HasPlaces l → l.phase ≢ phases.Stopped → FailsLiveFlush l dev pick next
+abbrev pub FailedFlushesStaySent : Type 0
+FailedFlushesStaySent = (m : MachineState) (h : History) (taken pages : List ℕ) (dev pick : ℕ) (l next : LiveSeen) → IsSent m h taken pages l → HasPlaces l → l.phase ≢ phases.Stopped → FailsLiveFlush l dev pick next
     → StaysSent m h taken pages (Guest (Step dev pick)) (r.Guest DiskFailed) next
 
 -- and each taking, while there was memory for what waits, adds to what was taken.

@@ -9,7 +9,7 @@ ghost use Rattle.c_handle.specs.Outside.{RefusedAnswersNothing, RefusedHandsNoth
 ghost use Rattle.c_handle.specs.Refused.{RefusedTellsNothing, RefusedWritesNothing};
 ghost use Rattle.c_handle.specs.Stepped.{RefusedStepsNothing};
 ghost use Rattle.c_handle.specs.Turns.{RefusedTurnsNothing, TurnsStaySent};
-ghost use Rattle.c_handle.specs.Sent.{AbortsAfterTakings, ArrivedIsSent, CallsStaySent, FailuresStaySent, FirstIsSent, LentCallsStaySent, LentComesBackSent, LentTakingsStaySent, MarksStaySent, StoppedIsWhole, TakingsChangeNothingElse, TakingsStaySent};
+ghost use Rattle.c_handle.specs.Sent.{AbortsAfterTakings, ArrivedIsSent, CallsStaySent, FailedFlushesStaySent, FirstIsSent, LentCallsStaySent, LentComesBackSent, LentTakingsStaySent, MarksStaySent, StoppedIsWhole, TakingsChangeNothingElse, TakingsStaySent};
 
 /// A machine over disks in memory stays one.
 pub fn plain_stays()
@@ -118,8 +118,8 @@ pub fn turns_stay_sent()
 {}
 
 /// A flush that fails in place of its step adds that step to the history, as one whose disk failed.
-pub fn failures_stay_sent()
-    ensures { FailuresStaySent }
+pub fn failed_flushes_stay_sent()
+    ensures { FailedFlushesStaySent }
 {}
 
 /// What is taken follows what was taken before, and the history stays.

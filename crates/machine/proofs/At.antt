@@ -5,7 +5,8 @@ use Rattle.std.proofs.lemmas.List.{length-set}
 use Rattle.std.proofs.lemmas.List.Elements.{All-set}
 use Rattle.console.specs.Size.{resized}
 use Rattle.console.specs.declared.size.ConsoleSize.{ConsoleSize}
-use Rattle.net.specs.Inbox.{Inbox, frames_with, is_frame_len, kept_of}
+use Rattle.net.specs.Frame.{may_take}
+use Rattle.net.specs.Inbox.{Inbox, frames_with, kept_of}
 use Rattle.blk.specs.Move as blk
 use Rattle.blk.specs.Sectors.{AreWhole, IsGiven, Sector, is_bad}
 use Rattle.blk.proofs.Given.{given_itself}
@@ -22,7 +23,8 @@ use Rattle.guestmem.specs.Address.{access_refusal, index_of}
 use Rattle.guestmem.specs.Writes.{Write, byte_writes, set_all, touched}
 use Rattle.guestmem.specs.declared.error.RamError.{RamError}
 use Rattle.chains.specs.declared.next.Next.TheVariants.{Empty}
-use Rattle.machine.specs.Applied.{AreMadeBad, DisksAfter, FailsOnlyUnsteady, IsApplied, IsAppliedLogged, IsGivenFor, as_given, bad_on, marks_after}
+use Rattle.machine.specs.Applied.{AreMadeBad, DisksAfter, FailsOnlyUnsteady, IsApplied, IsAppliedLogged, IsGivenFor, as_given, marks_after}
+use Rattle.machine.specs.BadSectors.{bad_on}
 use Rattle.machine.specs.DeviceStep.{device_step, looked_at}
 use Rattle.machine.specs.DeviceWork.{IsDeviceStep}
 use Rattle.machine.specs.Direct.{accepted_reply, done_reply}
@@ -134,7 +136,7 @@ same_frames mac inbox bytes true refusal h = cc
 same_frames mac inbox bytes false refusal h = refl
 
 same_kind : (kind : Kind) (bytes : List ℕ) (refusal : Refusal) → input_of kind bytes ≡ Err refusal → kind_with_input kind bytes ≡ kind
-same_kind (Network mac inbox) bytes refusal h = same_frames mac inbox bytes (is_frame_len inbox.longest (length bytes)) refusal h
+same_kind (Network mac inbox) bytes refusal h = same_frames mac inbox bytes (may_take inbox.longest bytes) refusal h
 same_kind (Block block) bytes refusal h = refl
 same_kind (Outside block) bytes refusal h = refl
 same_kind (Console size held) bytes refusal h = cc

@@ -8,7 +8,7 @@ use Rattle.machine.specs.Applied.{IsApplied}
 use Rattle.machine.specs.DeviceStep.{DeviceAnswer}
 use Rattle.machine.specs.Effect.{no_effect}
 use Rattle.machine.specs.Held.{IsHeld}
-use Rattle.machine.specs.Outside.{IsHandedBy, MayAsk, TakesAnswer, answer_of, disk_answered, disk_reply}
+use Rattle.machine.specs.Outside.{GotAnswerOrRefused, MayAsk, TakesAnswer, answer_of, disk_answered, disk_reply}
 use Rattle.machine.specs.Seen.{DeviceSeen, state_of}
 use Rattle.machine.specs.Shapes.{made_as}
 use Rattle.machine.specs.State.{DeviceState}
@@ -26,7 +26,7 @@ use Rattle.machine.proofs.Quiet.{IsQuiet}
 
 -- What a device was handed, of a machine with these devices.
 module _ (touches : List Item → Type 0) (m new_m : Memory) (ds : List DeviceSeen) (dev pick : ℕ) (d new : DeviceSeen) (given : DiskAnswer) (result : Result Bool Refusal) (at : IsAt ds dev d) (same : new ≡ record d { state = new.state }) where
-  step_by : (told : Result DeviceAnswer Refusal) → disk_answered d.state d.state.kind pick (answer_of given) ≡ told → IsHandedBy touches m.bytes (answer_of given) d.state told result new_m.bytes new.state
+  step_by : (told : Result DeviceAnswer Refusal) → disk_answered d.state d.state.kind pick (answer_of given) ≡ told → GotAnswerOrRefused touches m.bytes (answer_of given) d.state told result new_m.bytes new.state
       → IsTouchingStep touches (state_of (record { memory = m; devices = ds })) (Disk dev pick given) (disk_reply (answer_of given) result) (state_of (record { memory = new_m; devices = set ds dev new }))
   step_by (Ok s) of h = record {
     effect = changing dev s.writes new.state;

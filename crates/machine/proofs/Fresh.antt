@@ -111,13 +111,13 @@ outside_by most sectors false false false p q r is = (omega (arith, eqb-false se
 outside_within : (l : Limits) (sectors : ℕ) (read_only : Bool) (id : List ℕ) → is_beyond l (Outside sectors read_only id) ≡ false → (1 ≤ sectors) × (sectors ≤ 2 ^ 54) × (sectors ≤ l.outside)
 outside_within l sectors read_only id is = outside_by l.outside sectors (eqb sectors 0) (ltb (2 ^ 54) sectors) (ltb l.outside sectors) refl refl refl is
 
-long_by : (most longest : ℕ) (a b : Bool) → ltb 1514 longest ≡ a → ltb most longest ≡ b → (not a || b) ≡ false → (1514 < longest) × (longest ≤ most)
-long_by most longest false b p q is = cc
-long_by most longest true true p q is = cc
-long_by most longest true false p q is = (ltb-true 1514 longest p, ltb-false most longest q)
+long_by : (most longest : ℕ) (a b : Bool) → ltb longest 1518 ≡ a → ltb most longest ≡ b → (a || b) ≡ false → (1518 ≤ longest) × (longest ≤ most)
+long_by most longest true b p q is = cc
+long_by most longest false true p q is = cc
+long_by most longest false false p q is = (ltb-false longest 1518 p, ltb-false most longest q)
 
-long_within : (l : Limits) (mac : List ℕ) (longest : ℕ) → is_beyond l (LongNet mac longest) ≡ false → (1514 < longest) × (longest ≤ l.frame)
-long_within l mac longest is = long_by l.frame longest (ltb 1514 longest) (ltb l.frame longest) refl refl is
+long_within : (l : Limits) (mac : List ℕ) (longest : ℕ) → is_beyond l (LongNet mac longest) ≡ false → (1518 ≤ longest) × (longest ≤ l.frame)
+long_within l mac longest is = long_by l.frame longest (ltb longest 1518) (ltb l.frame longest) refl refl is
 
 both_false : (a b : Bool) → (a || b) ≡ false → (a ≡ false) × (b ≡ false)
 both_false true b is = cc
@@ -143,7 +143,7 @@ all_within l shapes is k d below = shape_within l (get_or shapes k d) (each_with
 -- It is one that its kind is made as.
 shape_long : (l : Limits) (shape : Shape) → is_beyond l shape ≡ false → IsLong shape
 shape_long l (Net mac) within = tt
-shape_long l (LongNet mac longest) within = (long_within l mac longest within).0
+shape_long l (LongNet mac longest) within = let long = (long_within l mac longest within).0 in omega (arith, long)
 shape_long l (Block sectors read_only id) within = tt
 shape_long l (Outside sectors read_only id) within = tt
 shape_long l Console within = tt

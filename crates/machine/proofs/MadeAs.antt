@@ -2,7 +2,8 @@
 use Rattle.std.proofs.Common.{◌≡◌, ℕ, zero, suc, ◌-◌, ◌<◌, arith, Bool, true, false, cond, List, [], length, Option, Some, None, refl, ap, sym, ◌∙◌}
 use Rattle.std.specs.Prelude.{slice_get}
 use Rattle.std.proofs.lemmas.Bool.{ne_eqb}
-use Rattle.net.specs.Inbox.{Inbox, frames_with, is_frame_len}
+use Rattle.net.specs.Frame.{may_take}
+use Rattle.net.specs.Inbox.{Inbox, frames_with}
 use Rattle.net.specs.Transmit.{frame_form}
 use Rattle.console.specs.Transmit.{text_form}
 use Rattle.blk.specs.Advance.{advance_one, after_move, completed}
@@ -41,7 +42,7 @@ frames_as mac inbox more true = refl
 frames_as mac inbox more false = refl
 
 pub input_as : (kind : Kind) (bytes : List ℕ) → made_as (kind_with_input kind bytes) ≡ made_as kind
-input_as (Network mac inbox) bytes = frames_as mac inbox (frames_with inbox bytes) (is_frame_len inbox.longest (length bytes))
+input_as (Network mac inbox) bytes = frames_as mac inbox (frames_with inbox bytes) (may_take inbox.longest bytes)
 input_as (Block block) bytes = refl
 input_as (Outside block) bytes = refl
 input_as (Console size held) bytes = refl

@@ -2,6 +2,7 @@
 use Rattle.std.proofs.Common.{◌≡◌, ℕ, zero, suc, ◌+◌, ◌%◌, ◌^◌, ◌<◌, ◌≤◌, ◌⊎◌, inl, inr, Bool, true, false, cond, eqb, ltb, List, [], ◌∷◌, ◌++◌, length, replicate, take, set, get_or, Option, Some, None, refl, sym, ap, ◌∙◌, subst, arith, length-append}
 use Rattle.std.proofs.lemmas.List.Elements.{All-append}
 use borrow.Author.Tests.{ltb-true, ltb-false}
+use Rattle.net.specs.Frame.{fits_mtu, may_take}
 use Rattle.net.specs.Inbox.{AreFrames, Inbox, IsFrame, is_frame_len, most_waiting}
 use Rattle.std.specs.Prelude.{◌-◌, ◌&&◌, not, bit_and, bit_or, slice_get, IsSomeAnd}
 use Rattle.std.proofs.lemmas.Option.{slice_get_within}
@@ -190,16 +191,23 @@ both_sides longest len false false p q h = (ltb-false len 14 p, ltb-false longes
 frame_is : (longest len : ℕ) → is_frame_len longest len ≡ true → (14 ≤ len) × (len ≤ longest)
 frame_is longest len h = both_sides longest len (ltb len 14) (ltb longest len) refl refl h
 
+first_of : (a b : Bool) → (a && b) ≡ true → a ≡ true
+first_of true b h = refl
+first_of false b h = h
+
+frame_taken : (longest : ℕ) (frame : List ℕ) → may_take longest frame ≡ true → (14 ≤ length frame) × (length frame ≤ longest)
+frame_taken longest frame h = frame_is longest (length frame) (first_of (is_frame_len longest (length frame)) (fits_mtu longest frame) h)
+
 one_frame : (longest : ℕ) (frame : List ℕ) (d : List ℕ) (k : ℕ) → k < 1 → IsFrame longest frame → IsFrame longest (get_or (frame ∷ []) k d)
 one_frame longest frame d zero below h = h
 one_frame longest frame d (suc k) below h = absurd (omega (arith, below))
 
-frames_put : (len : ℕ) (r : Registers) (mac : List ℕ) (inbox : Inbox) (bytes : List ℕ) (good room : Bool) → is_frame_len inbox.longest (length bytes) ≡ good → ltb (length inbox.frames) (most_waiting inbox.longest) ≡ room → AreFrames inbox → IsBytes bytes
+frames_put : (len : ℕ) (r : Registers) (mac : List ℕ) (inbox : Inbox) (bytes : List ℕ) (good room : Bool) → may_take inbox.longest bytes ≡ good → ltb (length inbox.frames) (most_waiting inbox.longest) ≡ room → AreFrames inbox → IsBytes bytes
     → IsSoundKind len r (cond good (network_with mac inbox (cond room (inbox.frames ++ bytes ∷ []) inbox.frames)) (Network mac inbox))
 frames_put len r mac inbox bytes false room is less sound are = sound
 frames_put len r mac inbox bytes true false is less sound are = record { few = sound.few; are = sound.are }
 frames_put len r mac inbox bytes true true is less sound are =
-    let long = frame_is inbox.longest (length bytes) is in
+    let long = frame_taken inbox.longest bytes is in
     let frame : IsFrame inbox.longest bytes = record { long = long.0; short = long.1; are = are } in
     record {
       few = omega (arith, ltb-true (length inbox.frames) (most_waiting inbox.longest) less, length-append inbox.frames (bytes ∷ []));
@@ -207,7 +215,7 @@ frames_put len r mac inbox bytes true true is less sound are =
     }
 
 sound_put : (len : ℕ) (r : Registers) (kind : Kind) (bytes : List ℕ) → IsSoundKind len r kind → IsBytes bytes → IsSoundKind len r (kind_with_input kind bytes)
-sound_put len r (Network mac inbox) bytes sound are = frames_put len r mac inbox bytes (is_frame_len inbox.longest (length bytes)) (ltb (length inbox.frames) (most_waiting inbox.longest)) refl refl sound are
+sound_put len r (Network mac inbox) bytes sound are = frames_put len r mac inbox bytes (may_take inbox.longest bytes) (ltb (length inbox.frames) (most_waiting inbox.longest)) refl refl sound are
 sound_put len r (Block block) bytes sound are = sound
 sound_put len r (Outside block) bytes sound are = sound
 sound_put len r (Console size held) bytes sound are = record { columns = sound.columns; rows = sound.rows; text = bytes_put held bytes sound.text are }

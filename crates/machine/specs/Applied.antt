@@ -4,6 +4,7 @@ use Rattle.guestmem.specs.Item.{Item, after_all}
 use Rattle.guestmem.specs.Later.{IsLater}
 use Rattle.guestmem.specs.Rises.{Rises}
 use Rattle.blk.specs.Sectors.{IsGiven, Sector, is_bad}
+use Rattle.machine.specs.BadSectors.{bad_on}
 use Rattle.machine.specs.Effect.{Effect, SectorSet, applied, items_of}
 use Rattle.machine.specs.EffectLaws.{HasItem, IsSameShape, sector_on, sectors_on}
 use Rattle.machine.specs.Outcome.{is_failure, outcome_of}
@@ -47,10 +48,6 @@ IsGivenFor marks m e given = given ≡ []
 abbrev pub as_given : MachineState → Event → List Sector → MachineState
 as_given m (Step dev pick) given = record m { disks = slice_set m.disks dev given }
 as_given m e given = m
-
--- Which sectors of the disks are bad.
-abbrev pub bad_on : List (List Sector) → List (List Bool)
-bad_on disks = map (map is_bad) disks
 
 -- Every sector that is set becomes a bad one.
 abbrev pub AreMadeBad : List SectorSet → Type 0

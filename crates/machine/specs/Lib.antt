@@ -2,6 +2,7 @@ pub mod AnyRing
 pub mod Rings
 pub mod Applied
 pub mod AppliedLaws
+pub mod BadSectors
 pub mod Board
 pub mod Calls
 pub mod DeviceStep
@@ -35,4 +36,5 @@ pub mod Step
 pub mod StepLaws
 pub mod Stepped
 pub mod Turn
+pub mod MachineTurn
 pub mod Unsynced

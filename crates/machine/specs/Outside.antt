@@ -131,21 +131,21 @@ disk_reply answer (Err refusal) = Refused refusal
 
 -- An answer was handed to a device: the result, and RAM and the device after it, and which items were touched. What touching is, as that a log has taken
 -- the items in, `touches` says.
-pub record IsHanded (touches : List Item → Type 0) (ram : List ℕ) (answer : Answer) (s : DeviceAnswer) (result : Result Bool Refusal) (new_ram : List ℕ) (new : DeviceState) : Type 0 where
+pub record GotAnswer (touches : List Item → Type 0) (ram : List ℕ) (answer : Answer) (s : DeviceAnswer) (result : Result Bool Refusal) (new_ram : List ℕ) (new : DeviceState) : Type 0 where
   pub reply_is : disk_reply answer result ≡ s.reply
   pub ram_is : new_ram ≡ set_all ram s.writes
   pub device_is : new ≡ s.device
   pub items_are : touches (touched s.writes)
 
-pub record IsNotHanded (touches : List Item → Type 0) (ram : List ℕ) (refusal : Refusal) (d : DeviceState) (result : Result Bool Refusal) (new_ram : List ℕ) (new : DeviceState) : Type 0 where
+pub record RefusedAnswer (touches : List Item → Type 0) (ram : List ℕ) (refusal : Refusal) (d : DeviceState) (result : Result Bool Refusal) (new_ram : List ℕ) (new : DeviceState) : Type 0 where
   pub refused : result ≡ Err refusal
   pub ram_is : new_ram ≡ ram
   pub device_is : new ≡ d
   pub items_are : touches []
 
-abbrev pub IsHandedBy : (List Item → Type 0) → List ℕ → Answer → DeviceState → Result DeviceAnswer Refusal → Result Bool Refusal → List ℕ → DeviceState → Type 0
-IsHandedBy touches ram answer d (Ok s) result new_ram new = IsHanded touches ram answer s result new_ram new
-IsHandedBy touches ram answer d (Err refusal) result new_ram new = IsNotHanded touches ram refusal d result new_ram new
+abbrev pub GotAnswerOrRefused : (List Item → Type 0) → List ℕ → Answer → DeviceState → Result DeviceAnswer Refusal → Result Bool Refusal → List ℕ → DeviceState → Type 0
+GotAnswerOrRefused touches ram answer d (Ok s) result new_ram new = GotAnswer touches ram answer s result new_ram new
+GotAnswerOrRefused touches ram answer d (Err refusal) result new_ram new = RefusedAnswer touches ram refusal d result new_ram new
 
 abbrev pub TakesAnswer : (List Item → Type 0) → List ℕ → DeviceState → ℕ → Answer → Result Bool Refusal → List ℕ → DeviceState → Type 0
-TakesAnswer touches ram d pick answer result new_ram new = IsHandedBy touches ram answer d (disk_answered d d.kind pick answer) result new_ram new
+TakesAnswer touches ram d pick answer result new_ram new = GotAnswerOrRefused touches ram answer d (disk_answered d d.kind pick answer) result new_ram new

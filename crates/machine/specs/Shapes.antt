@@ -5,7 +5,7 @@ use Rattle.blk.specs.declared.shape.TheConstants.{OUTSIDE_GREATEST}
 use Rattle.blk.specs.Block.{first_block}
 use Rattle.net.specs.Inbox.{no_frames}
 use Rattle.net.specs.Shape as nets
-use Rattle.net.specs.declared.limits.TheConstants.{FRAME_MAX}
+use Rattle.net.specs.declared.limits.TheConstants.{FRAME_MAX, LONG_FRAME_MIN}
 use Rattle.console.specs.Size as sizes
 use Rattle.console.specs.declared.size.ConsoleSize.{ConsoleSize}
 use Rattle.mmio.specs.State.{first_registers}
@@ -100,12 +100,12 @@ disk_sizes [] = []
 disk_sizes (shape ∷ shapes) = with_size (disk_size_of shape) (disk_sizes shapes)
 
 -- Whether a shape is beyond its limits: a block device has one to as many sectors as they allow, for which a disk outside has a limit of its
--- own, 2^54 at most, and the longest frame of a network device for long ones has more than 1,514 bytes, and no more than they allow; other devices have no
--- such limit.
+-- own, 2^54 at most, and the longest frame of a network device for long ones has 1,518 bytes at least, and no more than they allow; other
+-- devices have no such limit.
 abbrev pub is_beyond : Limits → Shape → Bool
 is_beyond limits (Block sectors read_only id) = sectors == 0 || nat_lt limits.sectors sectors
 is_beyond limits (Outside sectors read_only id) = sectors == 0 || nat_lt OUTSIDE_GREATEST sectors || nat_lt limits.outside sectors
-is_beyond limits (LongNet mac longest) = not (nat_lt FRAME_MAX longest) || nat_lt limits.frame longest
+is_beyond limits (LongNet mac longest) = nat_lt longest LONG_FRAME_MIN || nat_lt limits.frame longest
 is_beyond limits _ = false
 
 -- A new console has 80 columns and 25 rows.

@@ -18,7 +18,8 @@ use Rattle.console.specs.Emergency.{emergency_byte}
 use Rattle.console.specs.Size.{resized}
 use Rattle.console.specs.declared.host_bytes.TheConstants.{HOST_BYTES_MAX}
 use Rattle.console.specs.declared.size.ConsoleSize.{ConsoleSize}
-use Rattle.net.specs.Inbox.{frames_with, is_frame_len, kept_of, no_frames}
+use Rattle.net.specs.Frame.{may_take}
+use Rattle.net.specs.Inbox.{frames_with, kept_of, no_frames}
 use Rattle.blk.specs.Sectors.{Sector}
 use Rattle.blk.specs.Block.{dropped_unless}
 use Rattle.machine.specs.DeviceStep.{DeviceAnswer, device_step, looked_at, network_with, wanted_of, MayLook}
@@ -126,14 +127,14 @@ accepted_in pool bytes = min (length bytes) (HOST_BYTES_MAX - length pool)
 
 -- The count of bytes that are kept, or why the input is refused.
 abbrev pub input_of : Kind → List ℕ → Result ℕ Refusal
-input_of (Network mac inbox) bytes = if is_frame_len inbox.longest (length bytes) then Ok (kept_of inbox bytes) else Err BadFrame
+input_of (Network mac inbox) bytes = if may_take inbox.longest bytes then Ok (kept_of inbox bytes) else Err BadFrame
 input_of (Block block) bytes = Err WrongKind
 input_of (Outside block) bytes = Err WrongKind
 input_of (Console size held) bytes = Ok (accepted_in held bytes)
 input_of (Entropy pool) bytes = Ok (accepted_in pool bytes)
 
 abbrev pub kind_with_input : Kind → List ℕ → Kind
-kind_with_input (Network mac inbox) bytes = if is_frame_len inbox.longest (length bytes) then network_with mac inbox (frames_with inbox bytes) else Network mac inbox
+kind_with_input (Network mac inbox) bytes = if may_take inbox.longest bytes then network_with mac inbox (frames_with inbox bytes) else Network mac inbox
 kind_with_input (Block block) bytes = Block block
 kind_with_input (Outside block) bytes = Outside block
 kind_with_input (Console size held) bytes = Console size (held ++ take (accepted_in held bytes) bytes)

@@ -1,11 +1,8 @@
 -- A turn of the devices: steps that the next work names, one after another, and why it ends.
 --
 -- What is a step, and which is next, is given: of a machine, of one that is being migrated, or of a handle of the library for C.
-use Rattle.std.specs.Prelude.{◌≡◌, ◌≢◌, ℕ, ◌-◌, ◌≤◌, ◌⊎◌, Bool, true, false, not, List, [], ◌∷◌, map, Option, Some, None, length, slice_get}
-use Rattle.machine.specs.Applied.{IsApplied}
-use Rattle.machine.specs.Calls.{HasCalled, HaveCalled}
+use Rattle.std.specs.Prelude.{◌≡◌, ◌≢◌, ℕ, ◌-◌, ◌≤◌, ◌⊎◌, Bool, true, false, not, List, [], ◌∷◌, Option, Some, None, length, slice_get}
 use Rattle.machine.specs.NextWork.{is_end_owed, next_work}
-use Rattle.machine.specs.Seen.{Seen, state_of}
 use Rattle.machine.specs.State.{DeviceState}
 use Rattle.machine.specs.Stepped.{reply_in}
 use Rattle.machine.specs.Unsynced.{owed}
@@ -50,8 +47,9 @@ abbrev pub owes_end : Option DeviceState → ℕ → Bool
 owes_end None pick = false
 owes_end (Some d) pick = is_end_owed (owed d pick)
 
--- What a turn is over: the devices of a state, and what a step with this reply makes of it.
-pub record IsMade {S : Type 0} (devices : S → List DeviceState) (makes : S → Event → Reply → S → Type 0) (old : S) (last w : Work) (reply : Reply) (new : S) : Type 0 where
+-- The next step of a turn over the devices of a state: it is the one that the next work names, it owes no end of a write, and with this reply it
+-- makes this of the state.
+pub record MakesNext {S : Type 0} (devices : S → List DeviceState) (makes : S → Event → Reply → S → Type 0) (old : S) (last w : Work) (reply : Reply) (new : S) : Type 0 where
   pub next : next_work (devices old) last ≡ Some w
   pub due : owes_end (slice_get (devices old) w.dev) w.pick ≡ false
   pub made : makes old (step_of w) reply new
@@ -59,18 +57,18 @@ pub record IsMade {S : Type 0} (devices : S → List DeviceState) (makes : S →
 -- Steps were made one after another, each the next work after the one before it, with answers that no host has to know.
 abbrev pub AreMade : {S : Type 0} → (S → List DeviceState) → (S → Event → Reply → S → Type 0) → S → Turn → List Work → List Reply → S → Turn → Type 0
 AreMade devices makes old turn [] [] new at = (new ≡ old) × (at ≡ turn)
-AreMade {S} devices makes old turn (w ∷ ws) (r ∷ rs) new at = (mid : S) × IsMade devices makes old turn.last w r mid × (1 ≤ turn.left) × (goes_on (is_entropy (slice_get (devices old) w.dev)) r ≡ true)
+AreMade {S} devices makes old turn (w ∷ ws) (r ∷ rs) new at = (mid : S) × MakesNext devices makes old turn.last w r mid × (1 ≤ turn.left) × (goes_on (is_entropy (slice_get (devices old) w.dev)) r ≡ true)
     × AreMade devices makes mid (counted turn w) ws rs new at
 AreMade devices makes old turn ws rs new at = ⊥
 
 -- One step of a turn that has some left: it was made and the turn goes on, or the turn ends so.
 abbrev pub Once : {S : Type 0} → (S → List DeviceState) → (S → Event → Reply → S → Type 0) → S → Turn → Option TurnEnd → List ℕ → S → Turn → Type 0
-Once devices makes old turn None sent new after = (w : Work) × (r : Reply) × IsMade devices makes old turn.last w r new × (goes_on (is_entropy (slice_get (devices old) w.dev)) r ≡ true) × (after ≡ counted turn w)
+Once devices makes old turn None sent new after = (w : Work) × (r : Reply) × MakesNext devices makes old turn.last w r new × (goes_on (is_entropy (slice_get (devices old) w.dev)) r ≡ true) × (after ≡ counted turn w)
 Once devices makes old turn (Some ends.Idle) sent new after = (next_work (devices old) turn.last ≡ None) × (new ≡ old) × (after ≡ turn)
 Once devices makes old turn (Some ends.Unfinished) sent new after = ⊥
 Once devices makes old turn (Some ends.SyncOwed) sent new after = (w : Work) × (next_work (devices old) turn.last ≡ Some w) × (owes_end (slice_get (devices old) w.dev) w.pick ≡ true) × (new ≡ old) × (after ≡ counted turn w)
-Once devices makes old turn (Some ends.NoMemory) sent new after = (w : Work) × IsMade devices makes old turn.last w replies.NoMemory new × (after ≡ turn)
-Once devices makes old turn (Some (ends.Answer s)) sent new after = (w : Work) × IsMade devices makes old turn.last w (reply_in s sent) new × (goes_on (is_entropy (slice_get (devices old) w.dev)) (reply_in s sent) ≡ false)
+Once devices makes old turn (Some ends.NoMemory) sent new after = (w : Work) × MakesNext devices makes old turn.last w replies.NoMemory new × (after ≡ turn)
+Once devices makes old turn (Some (ends.Answer s)) sent new after = (w : Work) × MakesNext devices makes old turn.last w (reply_in s sent) new × (goes_on (is_entropy (slice_get (devices old) w.dev)) (reply_in s sent) ≡ false)
     × (reply_in s sent ≢ replies.NoMemory) × (after ≡ counted turn w)
 
 -- Why a turn ends that has made this many steps: it has none left, and whether there is more to do is told; or its next step says so. Where
@@ -91,18 +89,12 @@ pub record Turns {S : Type 0} (devices : S → List DeviceState) (makes : S → 
   pub made : AreMade devices makes old turn works replies between at
   pub ended : Ends devices makes (length works) between at end sent new after
 
--- A step of a machine, and the calls that it made of its disk.
-abbrev pub MakesStep : (ℕ → ℕ) → Seen → Event → Reply → Seen → Type 0
-MakesStep called old e reply new = IsApplied old e reply new × HasCalled called old e reply new
-
-abbrev pub devices_in : Seen → List DeviceState
-devices_in m = (state_of m).devices
-
--- A turn of a machine.
-abbrev pub TakesTurn : (ℕ → ℕ) → Seen → Turn → TurnEnd → List ℕ → Seen → Turn → Type 0
-TakesTurn called old turn end sent new after = Turns devices_in (MakesStep called) old turn end sent new after
-
--- A turn is its steps: events one after another, with their replies.
-abbrev pub TurnIsSteps : Type 0
-TurnIsSteps = (called : ℕ → ℕ) (old : Seen) (turn : Turn) (end : TurnEnd) (sent : List ℕ) (new : Seen) (after : Turn) → TakesTurn called old turn end sent new after
-    → (works : List Work) × (rs : List Reply) × HaveCalled called old (map step_of works) rs new
+-- The step that ended a turn, if one did, with its reply: it is the next work then. What is replied is why the turn ended; a message has the bytes
+-- that were sent. A step that owes an end of a write was passed over, and one to which memory was refused is still to be made.
+abbrev pub EndsBy : List DeviceState → Turn → TurnEnd → List ℕ → List Work → List Reply → Turn → Type 0
+EndsBy devices at ends.Idle sent ws rs after = (ws ≡ []) × (rs ≡ []) × (after ≡ at)
+EndsBy devices at ends.Unfinished sent ws rs after = ((ws ≡ []) × (rs ≡ []) × (after ≡ at))
+    ⊎ ((w : Work) × (next_work devices at.last ≡ Some w) × (ws ≡ w ∷ []) × (rs ≡ replies.NoMemory ∷ []) × (after ≡ at))
+EndsBy devices at ends.SyncOwed sent ws rs after = (w : Work) × (next_work devices at.last ≡ Some w) × (ws ≡ []) × (rs ≡ []) × (after ≡ counted at w)
+EndsBy devices at ends.NoMemory sent ws rs after = (w : Work) × (next_work devices at.last ≡ Some w) × (ws ≡ w ∷ []) × (rs ≡ replies.NoMemory ∷ []) × (after ≡ at)
+EndsBy devices at (ends.Answer s) sent ws rs after = (w : Work) × (next_work devices at.last ≡ Some w) × (ws ≡ w ∷ []) × (rs ≡ reply_in s sent ∷ []) × (after ≡ counted at w)

@@ -24,7 +24,7 @@ use chains::{Ring, Served, Site, Unserved};
 use console::{ConsoleSize, HostBytes, emergency_byte, receive};
 use guestmem::{NoMemory, Ram, TouchLog};
 use mmio::{Queue, Regs};
-use net::{FRAME_MAX, Inbox, is_frame_len};
+use net::{FRAME_MAX, Inbox, may_take};
 use std::alloc::Global;
 
 /// What a device is: what it was made as, and the state that only its kind has.
@@ -197,7 +197,7 @@ impl Kind {
     {
         match self {
             Kind::Network { inbox, .. } => {
-                if !is_frame_len(inbox.longest(), bytes.len()) {
+                if !may_take(inbox.longest(), bytes) {
                     return Err(Refusal::BadFrame);
                 }
                 Ok(inbox.push(bytes) as u32)

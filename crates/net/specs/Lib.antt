@@ -4,3 +4,4 @@ pub mod Header
 pub mod Receive
 pub mod Transmit
 pub mod Shape
+pub mod Frame

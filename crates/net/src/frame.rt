@@ -1,10 +1,12 @@
 //! Frames.
 
-ghost use Rattle.std.specs.Prelude.{◌≡◌};
+ghost use Rattle.std.specs.Prelude.{◌≡◌, ◌≤◌, length};
+ghost use Rattle.net.specs.Frame.{fits_mtu, is_tagged, may_take};
 ghost use Rattle.net.specs.Inbox.{is_frame_len};
 
 use crate::header::{HEADER, HEADER_SIZE};
-use crate::limits::FRAME_MIN;
+use crate::limits::{FRAME_MAX, FRAME_MIN};
+use crate::shape::mtu_of;
 use guestmem::NoMemory;
 use std::alloc::Global;
 use std::marker::Model;
@@ -75,4 +77,30 @@ pub fn is_frame_len(longest: u16, len: usize) -> bool
     ensures { result ≡ is_frame_len longest len }
 {
     len >= FRAME_MIN && len <= longest as usize
+}
+
+/// Whether a device takes a frame, where its longest has `longest` bytes: it has a length that a frame of the device can have, and its payload
+/// is no longer than the MTU that the device offers, if it offers one (VIRTIO 1.2, 5.1.4.1).
+pub fn may_take(longest: u16, frame: &[u8]) -> bool
+    ensures { result ≡ may_take longest frame.now }
+{
+    is_frame_len(longest, frame.len()) && fits_mtu(longest, frame)
+}
+
+fn fits_mtu(longest: u16, frame: &[u8]) -> bool
+    requires { FRAME_MIN ≤ length frame.now }
+    ensures { result ≡ fits_mtu longest frame.now }
+{
+    longest <= FRAME_MAX
+        || frame.len() <= mtu_of(longest) as usize + FRAME_MIN
+        || is_tagged(frame)
+}
+
+/// Whether a VLAN tag follows the two addresses: 0x8100, or 0x88a8 of a service's VLAN (IEEE 802.1Q, 9.5).
+fn is_tagged(frame: &[u8]) -> bool
+    requires { FRAME_MIN ≤ length frame.now }
+    ensures { result ≡ is_tagged frame.now }
+{
+    let tag = (frame[12], frame[13]);
+    tag == (0x81, 0) || tag == (0x88, 0xa8)
 }

@@ -26,9 +26,9 @@ mod receiving;
 mod shape;
 mod transmitting;
 
-pub use frame::is_frame_len;
+pub use frame::{is_frame_len, may_take};
 pub use inbox::Inbox;
-pub use limits::{FRAME_GREATEST, FRAME_MAX, INBOX_MAX, most_waiting};
+pub use limits::{FRAME_GREATEST, FRAME_MAX, INBOX_MAX, LONG_FRAME_MIN, most_waiting};
 pub use receiving::receive;
 pub use shape::{DEVICE_ID, FEATURES, LONG_FEATURES, QUEUE_COUNT, long_configuration};
 pub use transmitting::transmit;

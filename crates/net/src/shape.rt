@@ -31,11 +31,18 @@ const TAGGED_HEADER: u16 = 18;
 /// How many bytes the configuration of a network device for long frames has.
 const LONG_CONFIGURATION_SIZE: usize = 12;
 
+/// The most bytes of a payload, where the longest frame has `longest`.
+pub(crate) fn mtu_of(longest: u16) -> u16
+    ensures { result ≡ mtu_of longest }
+{
+    longest.saturating_sub(TAGGED_HEADER)
+}
+
 /// The configuration of a network device for long frames: its MAC, 0 for what it does not offer, and the MTU.
 pub fn long_configuration(mac: [u8; 6], longest: u16) -> [u8; LONG_CONFIGURATION_SIZE]
     ensures { result ≡ mac ++ replicate 4 0 ++ little_bytes 2 (mtu_of longest) }
 {
     let [a, b, c, d, e, f] = mac;
-    let [low, high] = longest.saturating_sub(TAGGED_HEADER).to_le_bytes();
+    let [low, high] = mtu_of(longest).to_le_bytes();
     [a, b, c, d, e, f, 0, 0, 0, 0, low, high]
 }

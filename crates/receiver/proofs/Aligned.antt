@@ -12,7 +12,7 @@ use Rattle.wire.proofs.HeaderParts.{begins_once}
 use Rattle.wire.proofs.Spelling.{head_same, tail_same, split_same, one_record, number_same}
 use Rattle.wire.proofs.Unique.{cons_same}
 use Rattle.receiver.specs.Good.{AreGood, IsNextDevice, IsNextRecord, devices_in}
-use Rattle.receiver.specs.Faults.{IsEarly, Opens, IsBadPage, IsLongZeros, IsBadSector, IsBadRound, IsBadHead, IsBadBody, IsFault, IsFront, IsRecordFault}
+use Rattle.receiver.specs.Faults.{IsEarly, Opens, IsBadPage, IsLongZeros, IsBadSector, IsBadRound, IsBadDeviceHead, IsBadDeviceBody, IsFault, IsFront, IsRecordFault}
 use Rattle.receiver.specs.declared.ram_terms.RamTerms.{RamTerms}
 use Rattle.receiver.specs.declared.recv_error.RecvError.{RecvError}
 use Rattle.receiver.proofs.Lists.{not_both_ways}
@@ -132,7 +132,7 @@ no_bad_sector opening before tail more d n mark e fits below few place h =
     h.never (rw (sym (head_same t), sym s.0, sym (head_same s.1)) (below, few))
 
 no_bad_device : (opening : Opened) (before : List Record) (tail more raw : List ℕ) (d : ℕ) → tail ≡ 4 ∷ (d ∷ (digits 4 (length raw) ++ (raw ++ more))) → IsNextDevice opening before d raw
-    → (place : ℕ) → ¬ (IsBadHead opening before tail place ⊎ IsBadBody opening before tail place)
+    → (place : ℕ) → ¬ (IsBadDeviceHead opening before tail place ⊎ IsBadDeviceBody opening before tail place)
 no_bad_device opening before tail more raw d e next place (inl h) =
     let few : length raw ≤ 131072 = omega (arith, ap length next.is.is, body_is_short (4096 * opening.pages) next.state next.is.sound) in
     let t = tail_same (sym e ∙ h.opens.whole) in

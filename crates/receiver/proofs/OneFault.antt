@@ -17,7 +17,7 @@ use Rattle.wire.proofs.PartLengths.{length_header}
 use Rattle.wire.proofs.Spelling.{head_same, tail_same, split_same, number_same}
 use Rattle.receiver.specs.Good.{AreGood, devices_in}
 use Rattle.machine.specs.Shapes.{disk_sizes}
-use Rattle.receiver.specs.Faults.{MayTag, IsComplete, IsLate, IsPageTag, Opens, IsBadTag, IsMissing, IsBadPage, IsLongZeros, IsBadSector, IsBadRound, IsBadHead, IsBadBody, IsBadDigest, IsTrailing, IsFault, IsRecordFault, IsMismatch, IsHeaderFault, Fault}
+use Rattle.receiver.specs.Faults.{MayTag, IsComplete, IsLate, IsPageTag, Opens, IsBadTag, IsMissing, IsBadPage, IsLongZeros, IsBadSector, IsBadRound, IsBadDeviceHead, IsBadDeviceBody, IsBadDigest, IsTrailing, IsFault, IsRecordFault, IsMismatch, IsHeaderFault, Fault}
 use Rattle.receiver.specs.declared.ram_terms.RamTerms.{RamTerms}
 use Rattle.receiver.specs.declared.recv_error.RecvError.{RecvError}
 use Rattle.receiver.specs.declared.recv_error.RecvError.TheVariants as errors
@@ -35,7 +35,7 @@ by_tag : (G : RecvError → ℕ → Type 0) (opening : Opened) (before : List Re
     → (IsPageTag tag → (q : ℕ) → IsBadPage opening before tail q ⊎ IsLongZeros opening before tail q → G errors.BadPage q)
     → (tag ≡ 2 → (q : ℕ) → IsBadSector opening before tail q → G errors.BadSector q)
     → (tag ≡ 3 → (q : ℕ) → IsBadRound opening before tail q → G errors.BadRound q)
-    → (tag ≡ 4 → (q : ℕ) → IsBadHead opening before tail q → G errors.BadDevice q) → (tag ≡ 4 → (q : ℕ) → IsBadBody opening before tail q → G errors.BadDevice q)
+    → (tag ≡ 4 → (q : ℕ) → IsBadDeviceHead opening before tail q → G errors.BadDevice q) → (tag ≡ 4 → (q : ℕ) → IsBadDeviceBody opening before tail q → G errors.BadDevice q)
     → (tag ≡ 5 → (q : ℕ) → IsBadDigest opening before tail q → G errors.BadDigest q) → (tag ≡ 5 → (q : ℕ) → IsTrailing opening before tail q → G errors.Trailing q)
     → (j : RecvError) (q : ℕ) → IsFault opening before tail j q → G j q
 by_tag G opening before tail tag more o p s r d b c t errors.BadTag q h = absurd (h.never (subst (MayTag opening.version (length opening.shapes) (devices_in before)) (head_same (sym o.whole ∙ h.whole)) o.may))
@@ -76,13 +76,13 @@ one_missing opening before tail p f errors.Missing q h = (refl, f.there ∙ sym 
 one_missing opening before tail p f errors.Trailing q h = let same = head_same (sym h.opens.whole ∙ f.whole) in absurd (f.never (subst (IsComplete opening before) same (h.opens.complete (subst IsLate (sym same) f.late))))
 one_missing opening before tail p f _ q h = absurd h
 
-head_body : (opening : Opened) (before : List Record) (tail : List ℕ) (p q : ℕ) → IsBadHead opening before tail p → IsBadBody opening before tail q → ⊥
+head_body : (opening : Opened) (before : List Record) (tail : List ℕ) (p q : ℕ) → IsBadDeviceHead opening before tail p → IsBadDeviceBody opening before tail q → ⊥
 head_body opening before tail p q f h =
     let t = tail_same (sym f.opens.whole ∙ h.opens.whole) in
     let s = number_same 4 f.len (length h.body) f.more (h.body ++ h.more) f.fits (omega (arith, h.few)) (tail_same t) in
     f.never (record { next = head_same t; few = omega (arith, h.few, s.0) })
 
-body_body : (opening : Opened) (before : List Record) (tail : List ℕ) (p q : ℕ) → IsBadBody opening before tail p → IsBadBody opening before tail q → p ≡ q
+body_body : (opening : Opened) (before : List Record) (tail : List ℕ) (p q : ℕ) → IsBadDeviceBody opening before tail p → IsBadDeviceBody opening before tail q → p ≡ q
 body_body opening before tail p q f h =
     let t = tail_same (sym f.opens.whole ∙ h.opens.whole) in
     let s = number_same 4 (length f.body) (length h.body) (f.body ++ f.more) (h.body ++ h.more) (omega (arith, f.few)) (omega (arith, h.few)) (tail_same t) in

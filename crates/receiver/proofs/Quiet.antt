@@ -4,7 +4,7 @@ use Rattle.wire.specs.Records.{Record}
 use Rattle.wire.proofs.Heads.{nothing_read, no_record}
 use Rattle.wire.proofs.Spelling.{head_same}
 use Rattle.receiver.specs.Good.{devices_in}
-use Rattle.receiver.specs.Faults.{MayTag, IsComplete, IsLate, IsPageTag, Opens, IsBadPage, IsLongZeros, IsBadSector, IsBadRound, IsBadHead, IsBadBody, IsBadDigest, IsTrailing, IsFault}
+use Rattle.receiver.specs.Faults.{MayTag, IsComplete, IsLate, IsPageTag, Opens, IsBadPage, IsLongZeros, IsBadSector, IsBadRound, IsBadDeviceHead, IsBadDeviceBody, IsBadDigest, IsTrailing, IsFault}
 use Rattle.receiver.specs.Fed.{Waits}
 use Rattle.receiver.specs.declared.recv_error.RecvError.{RecvError}
 use Rattle.receiver.specs.declared.recv_error.RecvError.TheVariants as errors
@@ -20,7 +20,7 @@ pub quiet : (opening : Opened) (before : List Record) (tail : List ℕ) (tag : �
     → (IsPageTag tag → (place : ℕ) → ¬ (IsBadPage opening before tail place ⊎ IsLongZeros opening before tail place))
     → (tag ≡ 2 → (place : ℕ) → ¬ (IsBadSector opening before tail place))
     → (tag ≡ 3 → (place : ℕ) → ¬ (IsBadRound opening before tail place))
-    → (tag ≡ 4 → (place : ℕ) → ¬ (IsBadHead opening before tail place ⊎ IsBadBody opening before tail place))
+    → (tag ≡ 4 → (place : ℕ) → ¬ (IsBadDeviceHead opening before tail place ⊎ IsBadDeviceBody opening before tail place))
     → (tag ≡ 5 → (place : ℕ) → ¬ (IsBadDigest opening before tail place ⊎ IsTrailing opening before tail place))
     → (k : RecvError) (place : ℕ) → ¬ (IsFault opening before tail k place)
 quiet opening before tail tag more o p s r d c errors.BadTag place h = h.never (subst (MayTag opening.version (length opening.shapes) (devices_in before)) (head_same (sym o.whole ∙ h.whole)) o.may)

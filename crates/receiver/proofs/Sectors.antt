@@ -13,7 +13,7 @@ use Rattle.guestmem.specs.Item.{Item}
 use Rattle.blk.specs.Disk.{AreSectors, DiskState}
 use Rattle.blk.specs.Sectors.{AreWhole, IsWhole, Sector, is_bad, sectors_of}
 use Rattle.blk.proofs.Marks.{are_whole, length_sectors, marks_of}
-use Rattle.machine.specs.Applied.{bad_on}
+use Rattle.machine.specs.BadSectors.{bad_on}
 use Rattle.machine.specs.EffectLaws.{sector_on}
 use Rattle.machine.specs.First.{AreMarksOf, dealt_sectors, given, left_over, marked_sectors, marks_in}
 use Rattle.machine.specs.Shapes.{disk_size_of, disk_sizes, sector_count}

@@ -20,7 +20,7 @@ use Rattle.wire.proofs.Spelling.{head_same, tail_same}
 use Rattle.blk.specs.Disk.{DiskState}
 use Rattle.receiver.specs.Disks.{AreRefused}
 use Rattle.receiver.specs.Good.{devices_in}
-use Rattle.receiver.specs.Faults.{IsBadBody, IsBadDigest, IsBadHead, IsBadPage, IsFault, IsLongZeros, IsPageTag, IsTrailing, Opens}
+use Rattle.receiver.specs.Faults.{IsBadDeviceBody, IsBadDigest, IsBadDeviceHead, IsBadPage, IsFault, IsLongZeros, IsPageTag, IsTrailing, Opens}
 use Rattle.receiver.specs.Fed.{Ends, HasRead, TookRecord, Waits}
 use Rattle.receiver.specs.Standing.{Closed, Entered, TookHead, Enters, IsDeviceHead, IsLong, IsNoBody, IsShort, IsSized, IsWholeDevice, Keeps, MayHead, OpensHead, TakesHead, record_behind, refusal_of}
 use Rattle.receiver.specs.declared.intake.Intake.{Intake}
@@ -50,7 +50,7 @@ not_that_long tail len c long =
     let same : tail ≡ spelled_head c.head ++ [] = sym (append-nil tail) ∙ ap (λ (x : List ℕ). tail ++ x) (sym (empty c.more none)) ∙ sym c.whole ∙ sym (append-nil (spelled_head c.head)) in
     c.none c.head [] c.fits same
 
-cut_device : (opening : Opened) (before : List Record) (tail : List ℕ) (len : ℕ) → IsBytes tail → IsHeadCut tail len → (place : ℕ) → ¬ (IsBadHead opening before tail place ⊎ IsBadBody opening before tail place)
+cut_device : (opening : Opened) (before : List Record) (tail : List ℕ) (len : ℕ) → IsBytes tail → IsHeadCut tail len → (place : ℕ) → ¬ (IsBadDeviceHead opening before tail place ⊎ IsBadDeviceBody opening before tail place)
 cut_device opening before tail len are c place (inl h) = c.none (heads.Device h.number h.len) h.more (second_low tail _ 4 h.number are h.opens.whole, h.fits) h.opens.whole
 cut_device opening before tail len are c place (inr h) = c.none (heads.Device (devices_in before) (length h.body)) (h.body ++ h.more) (second_low tail _ 4 (devices_in before) are h.opens.whole, omega (arith, h.few)) h.opens.whole
 
@@ -80,7 +80,7 @@ cut_waits opening before tail tag more len are o c = record {
 -- A head that may stand waits for its body.
 
 waits_device : (opening : Opened) (before : List Record) (tail rest : List ℕ) (head : RecordHead) → IsBytes tail → OpensHead opening before tail head rest → MayHead opening before head → length rest < body_len head
-    → (place : ℕ) → ¬ (IsBadHead opening before tail place ⊎ IsBadBody opening before tail place)
+    → (place : ℕ) → ¬ (IsBadDeviceHead opening before tail place ⊎ IsBadDeviceBody opening before tail place)
 waits_device opening before tail rest head are o may short place (inl h) =
     let t = one_head head (heads.Device h.number h.len) rest h.more o.fits (second_low tail _ 4 h.number are h.opens.whole, h.fits) (sym o.whole ∙ h.opens.whole) in
     h.never (subst (MayHead opening before) t.0 may)
@@ -217,7 +217,7 @@ pub entered_waits : (ds : List DiskState) (opening : Opened) (before : List Reco
 entered_waits ds opening before new front tail behind head are h o may short = (kept ds, h, body_waits opening before tail behind head are o may short)
 
 bad_body : (opening : Opened) (before : List Record) (tail body more : List ℕ) (d len : ℕ) → OpensHead opening before tail (heads.Device d len) (body ++ more) → MayHead opening before (heads.Device d len) → length body ≡ len → IsNoBody opening d body
-    → (place : ℕ) × (IsBadHead opening before tail place ⊎ IsBadBody opening before tail place)
+    → (place : ℕ) × (IsBadDeviceHead opening before tail place ⊎ IsBadDeviceBody opening before tail place)
 bad_body opening before tail body more d len o may many refused =
     let whole : tail ≡ 4 ∷ (devices_in before ∷ (digits 4 (length body) ++ (body ++ more))) = rw (sym may.next, many) o.whole in (
       6 + length body,

@@ -122,7 +122,7 @@ pub record IsNextHead (before : List Record) (number len : ℕ) : Type 0 where
   pub few : len ≤ 131072
 
 -- BadDevice (9), found at the end of the length.
-pub record IsBadHead (opening : Opened) (before : List Record) (tail : List ℕ) (place : ℕ) : Type 0 where
+pub record IsBadDeviceHead (opening : Opened) (before : List Record) (tail : List ℕ) (place : ℕ) : Type 0 where
   pub number : ℕ
   pub len : ℕ
   pub more : List ℕ
@@ -133,7 +133,7 @@ pub record IsBadHead (opening : Opened) (before : List Record) (tail : List ℕ)
 
 -- BadDevice (9), found at the end of the body: no device of the shape that is next, which is sound at the machine's base and which the version
 -- has, has this body.
-pub record IsBadBody (opening : Opened) (before : List Record) (tail : List ℕ) (place : ℕ) : Type 0 where
+pub record IsBadDeviceBody (opening : Opened) (before : List Record) (tail : List ℕ) (place : ℕ) : Type 0 where
   pub body : List ℕ
   pub more : List ℕ
   pub shape : Shape
@@ -167,7 +167,7 @@ IsFault opening before tail BadTag place = IsBadTag opening before tail place
 IsFault opening before tail BadPage place = IsBadPage opening before tail place ⊎ IsLongZeros opening before tail place
 IsFault opening before tail BadSector place = IsBadSector opening before tail place
 IsFault opening before tail BadRound place = IsBadRound opening before tail place
-IsFault opening before tail BadDevice place = IsBadHead opening before tail place ⊎ IsBadBody opening before tail place
+IsFault opening before tail BadDevice place = IsBadDeviceHead opening before tail place ⊎ IsBadDeviceBody opening before tail place
 IsFault opening before tail BadDigest place = IsBadDigest opening before tail place
 IsFault opening before tail Missing place = IsMissing opening before tail place
 IsFault opening before tail Trailing place = IsTrailing opening before tail place

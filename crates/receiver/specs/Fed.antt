@@ -15,7 +15,7 @@ use Rattle.machine.specs.Limits.{AreWithin}
 use Rattle.machine.specs.Shapes.{disk_sizes}
 use Rattle.machine.specs.Sound.{IsSoundDevice}
 use Rattle.blk.specs.Sectors.{AreWhole, Sector}
-use Rattle.machine.specs.Applied.{bad_on}
+use Rattle.machine.specs.BadSectors.{bad_on}
 use Rattle.machine.specs.State.{DeviceState}
 use Rattle.receiver.specs.Disks.{AreHonestDisks, AreKept, AreRefused, all_marks_in, sizes_in}
 use Rattle.receiver.specs.Good.{AreGood}

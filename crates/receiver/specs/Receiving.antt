@@ -10,7 +10,7 @@ use Rattle.wire.specs.Header as told
 use Rattle.wire.specs.Records.{Record, commit, device, spelled_record}
 use Rattle.wire.specs.Stream.{IsStream, rounds, texts}
 use Rattle.blk.specs.Disk.{DiskState}
-use Rattle.machine.specs.Applied.{bad_on}
+use Rattle.machine.specs.BadSectors.{bad_on}
 use Rattle.machine.specs.Room.{RoomSeen}
 use Rattle.machine.specs.Seen.{Marks}
 use Rattle.machine.specs.State.{MachineState}

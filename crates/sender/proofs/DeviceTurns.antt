@@ -1,5 +1,5 @@
 -- The history of a machine that is being migrated goes on by a turn of its devices.
-use Rattle.std.proofs.Common.{◌≡◌, ◌≢◌, ◌<◌, ◌^◌, ℕ, Bool, List, [], ◌∷◌, length, map, Some, None, inl, inr, ◌⊎◌, refl, sym, ap, subst, ◌∙◌}
+use Rattle.std.proofs.Common.{◌≡◌, ◌≢◌, ◌<◌, ◌^◌, ℕ, Bool, List, [], ◌∷◌, ◌++◌, length, map, Some, None, inl, inr, ◌⊎◌, refl, sym, ap, subst, ◌∙◌}
 use Rattle.std.specs.Prelude.{Ok}
 use Rattle.machine.specs.Effect.{items_of}
 use Rattle.machine.specs.Layout.{firsts_of, layout_of, size_of}
@@ -13,7 +13,7 @@ use Rattle.machine.specs.declared.turn.Turn.{Turn}
 use Rattle.machine.specs.declared.turn.TurnEnd.{TurnEnd}
 use Rattle.machine.specs.declared.turn.TurnEnd.TheVariants as ends
 use Rattle.machine.specs.declared.work.Work.{Work}
-use Rattle.machine.proofs.DeviceTurns.{IsOn, ended}
+use Rattle.machine.proofs.DeviceTurns.{IsOn, MakesLast, ended, ends_by}
 use Rattle.machine.proofs.Numbering.{same_layout}
 use Rattle.wire.specs.Sinks.{SinkState}
 use Rattle.sender.specs.Calls.{AfterGuest, Serves}
@@ -58,44 +58,39 @@ places_served old new e reply places served =
     by_answer old new e reply places (told (refusal_for old.phase (Guest e)) (AfterGuest old e reply new) (λ x. (r.Guest reply ≡ r.Mig x) × (new ≡ old)) served)
 
 module _ (called : ℕ → ℕ) (m : MachineState) (out : SinkState) (taken pages : List ℕ) (new : LiveSeen) where
-  -- The steps of a turn from a state on, and the history that they leave.
-  abbrev GoOn : History → LiveSeen → Type 0
-  GoOn h old = (works : List Work) × (rs : List Reply) × CallsServed old (map guest_step works) (map r.Guest rs) new × StepsStayBehind m h out works rs pages (untaken taken new)
+  -- These steps lead from a state to the last one, and the history goes on by them.
+  abbrev GoOn : History → LiveSeen → List Work → List Reply → Type 0
+  GoOn h old ws rs = CallsServed old (map guest_step ws) (map r.Guest rs) new × StepsStayBehind m h out ws rs pages (untaken taken new)
 
-  -- The last step of all, if one ended the turn.
-  abbrev MadeLast : LiveSeen → Type 0
-  MadeLast mid = (new ≡ mid) ⊎ ((w : Work) × (reply : Reply) × MakesLiveStep called mid (step_of w) reply new)
-
-  first_on : (h : History) (old next : LiveSeen) (w : Work) (reply : Reply) → IsBehind m h out pages (untaken taken old) → HasPlaces old → MakesLiveStep called old (step_of w) reply next
-      → ((h : History) → IsBehind m h out pages (untaken taken next) → HasPlaces next → GoOn h next) → GoOn h old
-  first_on h old next w reply behind places made rest =
+  first_on : (h : History) (old next : LiveSeen) (w : Work) (reply : Reply) (ws : List Work) (rs : List Reply) → IsBehind m h out pages (untaken taken old) → HasPlaces old → MakesLiveStep called old (step_of w) reply next
+      → ((h : History) → IsBehind m h out pages (untaken taken next) → HasPlaces next → GoOn h next ws rs) → GoOn h old (w ∷ ws) (reply ∷ rs)
+  first_on h old next w reply ws rs behind places made rest =
       let gone = taken_stays_behind m h out taken pages (guest_step w) (r.Guest reply) old next behind places (may_guest pages (step_of w)) made.0 in
       let on = rest (then_came h (guest_step w) (r.Guest reply) gone.effect) gone.behind (places_served old next (step_of w) reply places made.0) in
-      (w ∷ on.0, reply ∷ on.1, (next, made.0, on.2), (gone.effect, on.3))
+      ((next, made.0, on.0), (gone.effect, on.1))
 
-  none_on : (h : History) (mid : LiveSeen) → IsBehind m h out pages (untaken taken mid) → new ≡ mid → GoOn h mid
-  none_on h mid behind same = ([], [], same, subst (λ (l : LiveSeen). IsBehind m h out pages (untaken taken l)) (sym same) behind)
+  none_on : (h : History) (mid : LiveSeen) → IsBehind m h out pages (untaken taken mid) → new ≡ mid → GoOn h mid [] []
+  none_on h mid behind same = (same, subst (λ (l : LiveSeen). IsBehind m h out pages (untaken taken l)) (sym same) behind)
 
-  last_on : (h : History) (mid : LiveSeen) → IsBehind m h out pages (untaken taken mid) → HasPlaces mid → MadeLast mid → GoOn h mid
-  last_on h mid behind places (inl same) = none_on h mid behind same
-  last_on h mid behind places (inr one) = first_on h mid new one.0 one.1 behind places one.2 (λ next after there. none_on next new after refl)
+  last_on : (h : History) (mid : LiveSeen) (ws : List Work) (rs : List Reply) → IsBehind m h out pages (untaken taken mid) → HasPlaces mid → MakesLast (MakesLiveStep called) mid ws rs new → GoOn h mid ws rs
+  last_on h mid [] [] behind places last = none_on h mid behind last
+  last_on h mid (w ∷ []) (s ∷ []) behind places last = first_on h mid new w s [] [] behind places last (λ next after there. none_on next new after refl)
+  last_on h mid [] (s ∷ rs) behind places last = absurd last
+  last_on h mid (w ∷ []) [] behind places last = absurd last
+  last_on h mid (w ∷ []) (s ∷ q ∷ rs) behind places last = absurd last
+  last_on h mid (w ∷ v ∷ ws) rs behind places last = absurd last
 
-  all_on : (h : History) (old : LiveSeen) (turn : Turn) (ws : List Work) (rs : List Reply) (mid : LiveSeen) (at : Turn) → AreMade live_devices (MakesLiveStep called) old turn ws rs mid at → IsBehind m h out pages (untaken taken old) → HasPlaces old → MadeLast mid → GoOn h old
-  all_on h old turn [] [] mid at done behind places last = last_on h old behind places (subst MadeLast done.0 last)
-  all_on h old turn [] (s ∷ rs) mid at done behind places last = absurd done
-  all_on h old turn (w ∷ ws) [] mid at done behind places last = absurd done
-  all_on h old turn (w ∷ ws) (s ∷ rs) mid at done behind places last =
-      first_on h old done.0 w s behind places done.1.made (λ next after there. all_on next done.0 (counted turn w) ws rs mid at done.4 after there last)
-
-  made_last : (count : ℕ) (mid : LiveSeen) (at after : Turn) (end : TurnEnd) (sent : List ℕ) → Ends live_devices (MakesLiveStep called) count mid at end sent new after → MadeLast mid
-  made_last count mid at after ends.Idle sent e = inl e.1
-  made_last count mid at after ends.Unfinished sent (inl e) = inl e.2
-  made_last count mid at after ends.Unfinished sent (inr e) = inr (e.2.0, replies.NoMemory, e.2.1.made)
-  made_last count mid at after ends.SyncOwed sent e = inl e.1.3
-  made_last count mid at after ends.NoMemory sent e = inr (e.2.0, replies.NoMemory, e.2.1.made)
-  made_last count mid at after (ends.Answer s) sent e = inr (e.1.0, reply_in s sent, e.1.1.made)
+  all_on : (h : History) (old : LiveSeen) (turn : Turn) (ws xs : List Work) (rs ys : List Reply) (mid : LiveSeen) (at : Turn) → AreMade live_devices (MakesLiveStep called) old turn ws rs mid at → IsBehind m h out pages (untaken taken old) → HasPlaces old
+      → MakesLast (MakesLiveStep called) mid xs ys new → GoOn h old (ws ++ xs) (rs ++ ys)
+  all_on h old turn [] xs [] ys mid at done behind places last = last_on h old xs ys behind places (subst (λ (l : LiveSeen). MakesLast (MakesLiveStep called) l xs ys new) done.0 last)
+  all_on h old turn [] xs (s ∷ rs) ys mid at done behind places last = absurd done
+  all_on h old turn (w ∷ ws) xs [] ys mid at done behind places last = absurd done
+  all_on h old turn (w ∷ ws) xs (s ∷ rs) ys mid at done behind places last =
+      first_on h old done.0 w s (ws ++ xs) (rs ++ ys) behind places done.1.made (λ next after there. all_on next done.0 (counted turn w) ws xs rs ys mid at done.4 after there last)
 
 pub turn_stays_behind : TurnStaysBehind
 turn_stays_behind called m h out taken pages old turn end sent new after behind places taken_turn =
     let t = taken_turn.1 in
-    all_on called m out taken pages new h old turn t.works t.replies t.between t.at t.made behind places (made_last called m out taken pages new (length t.works) t.between t.at after end sent t.ended)
+    let last = ends_by live_devices (MakesLiveStep called) (length t.works) t.between t.at end sent new after t.ended in
+    let on = all_on called m out taken pages new h old turn t.works last.0 t.replies last.1 t.between t.at t.made behind places last.3 in
+    (last.0, last.1, last.2, on.0, on.1)

@@ -12,7 +12,8 @@ use Rattle.machine.specs.Seen.{Seen, all_calls, called_at, state_of}
 use Rattle.machine.specs.State.{MachineState}
 use Rattle.sender.specs.Calls.{AreCleared, in_either}
 use Rattle.sender.specs.LiveState.{LiveSeen, chosen, now, refusal_for}
-use Rattle.sender.specs.Reads.{CallsNone, FailedCalls, HasLiveCalled, ReadsBelow, ReadsItem, after_read, after_reads, is_good}
+use Rattle.sender.specs.Reads.{FailedCalls, HasLiveCalled, ReadsBelow, ReadsItem, after_read, after_reads, is_good}
+use Rattle.sender.specs.Uncalled.{CallsNone}
 use Rattle.sender.specs.Stopping.{ClosesStream, SendsItem}
 use Rattle.sender.specs.declared.event.Item.{Item}
 use Rattle.sender.specs.declared.mig_error.MigError.{MigError}

@@ -2,7 +2,7 @@
 use Rattle.std.specs.Prelude.{◌≡◌, ℕ, Bool, List, Result, Ok, Err}
 use Rattle.machine.specs.Applied.{IsApplied}
 use Rattle.machine.specs.Seen.{Seen, state_of}
-use Rattle.machine.specs.Turn.{TakesTurn}
+use Rattle.machine.specs.MachineTurn.{TakesTurn}
 use Rattle.machine.specs.Unsynced.{FailsFlushIf, makes_flush}
 use Rattle.machine.specs.declared.event.Event.{Event}
 use Rattle.machine.specs.declared.reply.Reply.{Reply}

@@ -6,7 +6,9 @@ pub mod Told
 pub mod Turns
 pub mod Calls
 pub mod Logged
+pub mod MigCode
 pub mod Reads
+pub mod Uncalled
 pub mod StopBytes
 pub mod Stopping
 pub mod History

@@ -12,6 +12,7 @@ use Rattle.machine.specs.declared.event.Event.{Event}
 use Rattle.sender.specs.Calls.{IsSameButCalls, in_either}
 use Rattle.sender.specs.Items.{sectors_before}
 use Rattle.sender.specs.LiveState.{LiveSeen, chosen, now, refusal_for}
+use Rattle.sender.specs.Uncalled.{CallsNone}
 use Rattle.sender.specs.declared.event.LiveEvent.{LiveEvent}
 use Rattle.sender.specs.declared.event.LiveEvent.TheVariants.{Guest, Begin, Copy, EndRound, Stop}
 use Rattle.sender.specs.declared.event.LiveReply.{LiveReply}
@@ -19,10 +20,6 @@ use Rattle.sender.specs.declared.event.LiveReply.TheVariants as r
 use Rattle.sender.specs.declared.event.Stopped.{Stopped}
 use Rattle.sender.specs.declared.mig_error.MigError.{MigError}
 use Rattle.sender.specs.declared.mig_error.MigError.TheVariants as errors
-
--- No disk was called.
-abbrev pub CallsNone : Seen → Seen → Type 0
-CallsNone old new = all_calls new ≡ all_calls old
 
 abbrev pub is_good : Option Sector → Bool
 is_good None = false

@@ -6,18 +6,9 @@ use Rattle.machine.specs.EffectLaws.{sector_on, sectors_on}
 use Rattle.machine.specs.Seen.{AreHonest, Marks, Seen, all_marks, failed_at, marks_at, state_of, all_flushed}
 use Rattle.sender.specs.Told.{IsTold}
 use Rattle.sender.specs.declared.mig_error.MigError.{MigError}
-use Rattle.sender.specs.declared.mig_error.MigError.TheVariants.{AlreadyBegun, AlreadyStopped, DiskFailed, NotBegun, RoundsEnded, StreamFailed}
+use Rattle.sender.specs.declared.mig_error.MigError.TheVariants.{DiskFailed, StreamFailed}
 use Rattle.wire.specs.Records.{Record, spelled_record}
 use Rattle.wire.specs.Sinks.{Digested, SinkState, Takes}
-
--- The number of the reason why a machine is not sent.
-abbrev pub mig_code_of : MigError → ℕ
-mig_code_of NotBegun = 1
-mig_code_of AlreadyBegun = 2
-mig_code_of (DiskFailed dev sector) = 3
-mig_code_of StreamFailed = 4
-mig_code_of AlreadyStopped = 5
-mig_code_of RoundsEnded = 6
 
 -- Whether the writer failed.
 abbrev pub has_writer_failed : {A : Type 0} → Result A MigError → Bool

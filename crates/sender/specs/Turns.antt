@@ -1,8 +1,8 @@
 -- A turn of the devices of a machine that is being migrated.
-use Rattle.std.specs.Prelude.{◌≡◌, ◌≢◌, ℕ, List, [], ◌∷◌, map, Result, Ok, Err}
+use Rattle.std.specs.Prelude.{◌≡◌, ◌≢◌, ℕ, List, [], ◌∷◌, ◌++◌, map, Result, Ok, Err}
 use Rattle.machine.specs.Effect.{Effect}
 use Rattle.machine.specs.State.{DeviceState, MachineState}
-use Rattle.machine.specs.Turn.{Turns, step_of}
+use Rattle.machine.specs.Turn.{EndsBy, Turns, step_of}
 use Rattle.machine.specs.declared.event.Event.{Event}
 use Rattle.machine.specs.declared.reply.Reply.{Reply}
 use Rattle.machine.specs.declared.turn.Turn.{Turn}
@@ -44,7 +44,9 @@ StepsStayBehind m h out [] [] pages new = IsBehind m h out pages new
 StepsStayBehind m h out (w ∷ ws) (reply ∷ rs) pages new = (effect : Effect) × StepsStayBehind m (then_came h (guest_step w) (r.Guest reply) effect) out ws rs pages new
 StepsStayBehind m h out ws rs pages new = ⊥
 
--- A turn is its steps, each served as a call of its own, and the history goes on by them.
+-- A turn is its steps, each served as a call of its own with its reply: those after which it went on, and the one that ended it, if one did.
+-- The history goes on by them.
 abbrev pub TurnStaysBehind : Type 0
 TurnStaysBehind = (called : ℕ → ℕ) (m : MachineState) (h : History) (out : SinkState) (taken pages : List ℕ) (old : LiveSeen) (turn : Turn) (end : TurnEnd) (sent : List ℕ) (new : LiveSeen) (after : Turn) → IsBehind m h out pages (untaken taken old) → HasPlaces old
-    → TakesLiveTurn called old turn (Ok end) sent new after → (works : List Work) × (rs : List Reply) × CallsServed old (map guest_step works) (map r.Guest rs) new × StepsStayBehind m h out works rs pages (untaken taken new)
+    → (t : TakesLiveTurn called old turn (Ok end) sent new after) → (ws : List Work) × (rs : List Reply) × EndsBy (live_devices t.1.between) t.1.at end sent ws rs after
+    × CallsServed old (map guest_step (t.1.works ++ ws)) (map r.Guest (t.1.replies ++ rs)) new × StepsStayBehind m h out (t.1.works ++ ws) (t.1.replies ++ rs) pages (untaken taken new)

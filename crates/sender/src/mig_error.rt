@@ -1,7 +1,7 @@
 //! Why a machine is not sent.
 
 ghost use Rattle.std.specs.Prelude.{◌≡◌};
-ghost use Rattle.sender.specs.Saving.{mig_code_of};
+ghost use Rattle.sender.specs.MigCode.{mig_code_of};
 ghost use Rattle.sender.specs.declared.mig_error.MigError.TheVariants as errors;
 
 use thiserror::Error;

@@ -6,7 +6,7 @@ use Rattle.hex.specs.Hex.{encode_lower}
 use Rattle.machine.specs.Refusal.{code_of}
 use Rattle.machine.specs.declared.reply.Reply.{Reply}
 use Rattle.machine.specs.declared.reply.Reply.TheVariants.{Value, Done, OutByte, Bytes, Idle, Taken, Moved, BadSector, DiskFailed, Completed, Sent, Dropped, Accepted, NeedsReset, NoMemory, Refused}
-use Rattle.sender.specs.Saving.{mig_code_of}
+use Rattle.sender.specs.MigCode.{mig_code_of}
 use Rattle.sender.specs.declared.event.Item.{Item}
 use Rattle.sender.specs.declared.event.Item.TheVariants.{Page, Sector}
 use Rattle.sender.specs.declared.event.LiveReply.{LiveReply}

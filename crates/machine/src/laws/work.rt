@@ -1,7 +1,7 @@
 //! Laws of the steps that have something to do.
 
+ghost use Rattle.machine.specs.MachineTurn.{TurnIsSteps};
 ghost use Rattle.machine.specs.NextWork.{IdleWithoutWork, WorkGetsOn};
-ghost use Rattle.machine.specs.Turn.{TurnIsSteps};
 
 /// A step that has nothing to do is idle, and changes nothing.
 pub fn idle_without_work()
@@ -13,7 +13,8 @@ pub fn work_gets_on()
     ensures { WorkGetsOn }
 {}
 
-/// A turn is its steps: events one after another, with their replies.
+/// A turn is its steps, events one after another: those after which it went on, each with its reply, and the one that ended it, if one did.
+/// What that one replied is why the turn ended, and a message has the bytes that were sent.
 pub fn turn_is_steps()
     ensures { TurnIsSteps }
 {}

@@ -24,7 +24,7 @@ use crate::state::DeviceState;
 use blk::{Disk, OUTSIDE_GREATEST};
 use dirtylog::BitSet;
 use guestmem::{NoMemory, PAGE_SIZE, Ram, recall_bytes};
-use net::FRAME_MAX;
+use net::LONG_FRAME_MIN;
 use std::alloc::Global;
 
 impl<D: Disk + Drop> Machine<D> {
@@ -290,7 +290,7 @@ fn is_beyond(limits: Limits, shape: Shape) -> bool
         Shape::Outside { sectors, .. } => {
             sectors == 0 || sectors > OUTSIDE_GREATEST || sectors > limits.outside
         }
-        Shape::LongNet { longest, .. } => longest <= FRAME_MAX || longest > limits.frame,
+        Shape::LongNet { longest, .. } => longest < LONG_FRAME_MIN || longest > limits.frame,
         Shape::Net { .. } | Shape::Console | Shape::Entropy => false,
     }
 }

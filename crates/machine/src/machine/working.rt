@@ -1,7 +1,8 @@
 //! A turn of the devices in one call.
 
 ghost use Rattle.std.specs.Prelude.{◌≤◌};
-ghost use Rattle.machine.specs.Turn.{MakesStep, Once, TakesTurn, devices_in};
+ghost use Rattle.machine.specs.MachineTurn.{MakesStep, TakesTurn, devices_in};
+ghost use Rattle.machine.specs.Turn.{Once};
 
 use crate::kind::Kind;
 use crate::machine::Machine;

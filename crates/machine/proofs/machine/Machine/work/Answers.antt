@@ -1,5 +1,5 @@
 use Rattle.std.proofs.Common.{◌≤◌, arith}
-use Rattle.machine.specs.Turn.{MakesStep, devices_in}
+use Rattle.machine.specs.MachineTurn.{MakesStep, devices_in}
 use Rattle.machine.proofs.DeviceTurns.{begins, goes}
 use Rattle.machine.proofs.machine.Machine.work.Goals as goal
 

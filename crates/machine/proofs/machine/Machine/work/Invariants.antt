@@ -1,4 +1,4 @@
-use Rattle.machine.specs.Turn.{MakesStep, devices_in}
+use Rattle.machine.specs.MachineTurn.{MakesStep, devices_in}
 use Rattle.machine.proofs.DeviceTurns.{IsOn}
 use Rattle.machine.proofs.machine.Machine.work.Given as goal
 
