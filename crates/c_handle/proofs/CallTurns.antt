@@ -2,16 +2,16 @@
 use Rattle.std.proofs.Common.{◌≡◌, ◌≤◌, ℕ, ◌+◌, List, [], ◌∷◌, ◌++◌, length, length-append, inl, inr, refl, sym, ap, subst, ◌∙◌, arith}
 use Rattle.machine.specs.declared.work.Work.{Work}
 use Rattle.c_handle.specs.Kept.{KeptSeen}
-use Rattle.c_handle.specs.Turns.{AreMade, EndsTurn, IsEnded, IsMade, IsUsedUp, Once, counted}
+use Rattle.c_handle.specs.Turns.{AreMade, EndsTurn, IsEnded, MakesNext, IsUsedUp, Once, counted}
 use Rattle.c_handle.specs.declared.turning.Turn.{Turn}
 use Rattle.c_handle.specs.declared.turning.Outcome.{Outcome}
 use Rattle.c_handle.specs.declared.turning.Outcome.TheVariants as outcomes
 
 -- One step more was made.
-made_more : (k : KeptSeen) (t : Turn) (ws : List Work) (buf mid_buf new_buf : List ℕ) (now : KeptSeen) (at : Turn) (w : Work) (next : KeptSeen) → AreMade k t ws buf mid_buf now at → IsMade now at w mid_buf new_buf next
+made_more : (k : KeptSeen) (t : Turn) (ws : List Work) (buf mid_buf new_buf : List ℕ) (now : KeptSeen) (at : Turn) (w : Work) (next : KeptSeen) → AreMade k t ws buf mid_buf now at → MakesNext now at w mid_buf new_buf next
     → AreMade k t (ws ++ w ∷ []) buf new_buf next (counted at w)
 made_more k t [] buf mid_buf new_buf now at w next done one =
-    let here : IsMade k t w buf new_buf next = rw (done.0, done.1, done.2) at one in
+    let here : MakesNext k t w buf new_buf next = rw (done.0, done.1, done.2) at one in
     (next, new_buf, here, (refl, ap (λ (x : Turn). counted x w) done.1, refl))
 made_more k t (v ∷ ws) buf mid_buf new_buf now at w next done one = (done.0, done.1, done.2, made_more done.0 (counted t v) ws done.1 mid_buf new_buf now at w next done.3 one)
 

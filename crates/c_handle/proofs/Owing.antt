@@ -24,13 +24,13 @@ use Rattle.c_handle.specs.Durable.{FailsKept, FailsUnless, failed_status, owed_f
 use Rattle.c_handle.specs.Kept.{KeptSeen, State, Still, Moving, Arriving, Lent, is_lost}
 use Rattle.c_handle.specs.Mirror.{is_closed}
 use Rattle.c_machine.specs.Plain.{ArePlain}
-use Rattle.c_handle.specs.Refused.{ArePlainIn, IsSameKept, IsSameSent}
+use Rattle.c_handle.specs.Refused.{ArePlainIn, IsSameKept, IsSameMachine, IsSameSent}
 use Rattle.c_handle.specs.SendStatus.{live_status}
 use Rattle.c_machine.specs.Status.{status_of}
 use Rattle.c_handle.specs.Stepped.{LiveSteppedIf, RefusedStepsNothing, StepsKept, StepsOwing, SteppedIf, live_sent_in, most_sent_by, sent_in}
-use Rattle.c_machine.proofs.Plain.{is_refusal, refused_quiet}
+use Rattle.c_machine.proofs.Plain.{is_refusal}
 use Rattle.c_handle.proofs.PageLogs.{logged_is_served, quiet_log, quiet_log_live}
-use Rattle.c_handle.proofs.Quiet.{no_number, quiet_by, same_loan}
+use Rattle.c_handle.proofs.Quiet.{no_number, quiet_by, refused_same, same_loan, same_machine, same_sent}
 
 -- A step that owes a flush makes one.
 made_by : (f e : Bool) → (if f then Flush else if e then EndOfWrite else Nothing) ≡ Flush → f ≡ true
@@ -134,15 +134,12 @@ same_buf : (sent buf new_buf : List ℕ) → sent ≡ [] → new_buf ≡ sent ++
 same_buf sent buf new_buf none is = is ∙ ap (λ (l : List ℕ). l ++ drop (length l) buf) none
 
 quiet_step : RefusedChangesNothing → (small : Bool) (m next : Seen) (log new_log : Option (List Bool)) (dev pick status number before : ℕ) (buf new_buf : List ℕ) → ArePlain m → SteppedIf small m log dev pick status number before buf new_buf next new_log → 1 ≤ status → status < 64
-    → (state_of next ≡ state_of m) × (number ≡ before) × (new_buf ≡ buf) × (new_log ≡ log)
-quiet_step law true m next log new_log dev pick status number before buf new_buf plain s some few = (ap state_of s.same, s.number_same, s.buf_same, s.log_same)
+    → IsSameMachine m next × (number ≡ before) × (new_buf ≡ buf) × (new_log ≡ log)
+quiet_step law true m next log new_log dev pick status number before buf new_buf plain s some few = (same_machine m next s.same, s.number_same, s.buf_same, s.log_same)
 quiet_step law false m next log new_log dev pick status number before buf new_buf plain s some few =
     let more : 1 ≤ status_of s.reply = omega (arith, some, s.status_is) in
     let less : status_of s.reply < 64 = omega (arith, few, s.status_is) in
-    (refused_quiet m next (Step dev pick) s.reply plain s.logged.is_applied more less, s.number_is ∙ no_number s.reply before more less, same_buf (sent_in s.reply) buf new_buf (none_sent s.reply more less) s.sent, quiet_log m next log new_log (Step dev pick) s.reply law s.logged (is_refusal s.reply more less))
-
-same_sent : (l next : LiveSeen) → next ≡ l → IsSameSent l next
-same_sent l next same = rw same (record { machine = refl; rest = refl })
+    (refused_same law m next (Step dev pick) s.reply s.logged.is_applied (is_refusal s.reply more less), s.number_is ∙ no_number s.reply before more less, same_buf (sent_in s.reply) buf new_buf (none_sent s.reply more less) s.sent, quiet_log m next log new_log (Step dev pick) s.reply law s.logged (is_refusal s.reply more less))
 
 quiet_live_step : RefusedChangesNothing → (closed small : Bool) (l next : LiveSeen) (log new_log : Option (List Bool)) (dev pick status number before : ℕ) (buf new_buf : List ℕ) → ArePlain l.machine → LiveSteppedIf closed small l log dev pick status number before buf new_buf next new_log → 1 ≤ status → status < 64
     → IsSameSent l next × (number ≡ before) × (new_buf ≡ buf) × (new_log ≡ log)
@@ -151,7 +148,7 @@ quiet_live_step law false true l next log new_log dev pick status number before 
 quiet_live_step law false false l next log new_log dev pick status number before buf new_buf plain s some few =
     let more : 1 ≤ live_status s.reply = omega (arith, some, s.status_is) in
     let less : live_status s.reply < 64 = omega (arith, few, s.status_is) in
-    let quiet = quiet_by (refusal_for l.phase (Guest (Step dev pick))) l next (Step dev pick) s.reply before plain more less (logged_is_served l next log new_log (Step dev pick) s.reply s.serves) in
+    let quiet = quiet_by law (refusal_for l.phase (Guest (Step dev pick))) l next (Step dev pick) s.reply before plain more less (logged_is_served l next log new_log (Step dev pick) s.reply s.serves) in
     (quiet.0, s.number_is ∙ quiet.1, same_buf (live_sent_in s.reply) buf new_buf (none_sent_live s.reply more less) s.sent, quiet_log_live l next log new_log (Step dev pick) s.reply law more less s.serves)
 
 quiet_kept : RefusedChangesNothing → (k next : State) (log new_log : Option (List Bool)) (dev pick status number before : ℕ) (buf new_buf : List ℕ) → ArePlainIn k → StepsKept k log dev pick status number before buf new_buf next new_log → 1 ≤ status → status < 64
@@ -174,8 +171,8 @@ quiet_kept law (Lent x) (Moving next) log new_log dev pick status number before 
 quiet_kept law (Lent x) (Arriving next) log new_log dev pick status number before buf new_buf plain s some few = absurd s
 
 pub itself : (k : State) → IsSameKept k k
-itself (Still m) = refl
-itself (Moving l) = record { machine = refl; rest = refl }
+itself (Still m) = same_machine m m refl
+itself (Moving l) = same_sent l l refl
 itself (Arriving r) = refl
 itself (Lent x) = same_loan x x refl
 

@@ -1,52 +1,43 @@
 -- What the steps of a turn do to a machine that makes steps, whether it is being migrated or not.
 use Rattle.std.proofs.Common.{◌≡◌, ◌≤◌, ◌<◌, ◌⊎◌, ℕ, suc, ◌==◌, nat_lt, if◌then◌else◌, Bool, true, false, List, [], ◌∷◌, ◌++◌, length, map, inl, inr, refl, sym, ap, subst, ◌∙◌, arith, append-nil, append_assoc, true≢false}
-use Rattle.std.proofs.lemmas.List.{map-append}
 use Rattle.std.proofs.lemmas.Bool.{eqb-true, ltb-false}
 use Rattle.std.specs.Prelude.{Option, Some, None, slice_get, slice_index_or}
 use Rattle.blk.specs.declared.durable.SyncOwed.{SyncOwed}
 use Rattle.blk.specs.declared.durable.SyncOwed.TheVariants.{Nothing, Flush, EndOfWrite}
 use Rattle.machine.specs.AppliedLaws.{RefusedChangesNothing}
-use Rattle.machine.specs.Effect.{Effect}
 use Rattle.machine.specs.NextWork.{next_work_with_lost}
 use Rattle.machine.specs.Seen.{state_of}
 use Rattle.machine.specs.State.{DeviceState, MachineState}
-use Rattle.machine.specs.Turn.{step_of}
 use Rattle.machine.specs.Unsynced.{makes_flush}
 use Rattle.machine.specs.declared.event.Event.{Event}
 use Rattle.machine.specs.declared.event.Event.TheVariants.{Step}
 use Rattle.machine.specs.declared.reply.Reply.{Reply}
 use Rattle.machine.specs.declared.reply.Reply.TheVariants.{DiskFailed}
 use Rattle.machine.specs.declared.work.Work.{Work}
-use Rattle.wire.specs.Stream.{texts}
 use Rattle.sender.specs.Calls.{AfterGuest, Guests, Serves}
-use Rattle.sender.specs.History.{History, guest_events, text, then_came}
 use Rattle.sender.specs.LiveState.{HasPlaces, LiveSeen, now, refusal_for}
 use Rattle.sender.specs.Unsynced.{FailsLiveFlush, FailsLiveFlushIf}
 use Rattle.sender.specs.declared.event.LiveEvent.TheVariants.{Guest}
 use Rattle.sender.specs.declared.event.LiveReply.{LiveReply}
 use Rattle.sender.specs.declared.event.LiveReply.TheVariants as r
 use Rattle.sender.specs.declared.mig_error.MigError.{MigError}
-use Rattle.sender.proofs.BehindLent.{may_guest}
 use Rattle.sender.proofs.Fresh.{told}
 use Rattle.c_handle.specs.Durable.{FailsKept, FailsUnless, owed_for, owed_lost}
 use Rattle.c_handle.specs.Kept.{KeptSeen, State, Still, Moving, Arriving, Lent}
 use Rattle.c_handle.specs.Mirror.{is_away, is_closed, is_stopped}
 use Rattle.c_handle.specs.NextWork.{FindsUnless, FindsWork, NamesWork, owed_status}
 use Rattle.c_handle.specs.Refused.{ArePlainIn, IsSameKept}
-use Rattle.c_handle.specs.Sent.{GoesOnSent, IsSent}
 use Rattle.c_handle.specs.Stepped.{LiveSteppedIf, StepsKept, StepsOwing, most_sent_by}
 use Rattle.c_handle.specs.OnHandle.{Unless}
-use Rattle.c_handle.specs.Turns.{AreMade, EndsTurn, IsAsBefore, IsEnded, IsNamed, IsStep, IsUsedUp, Once, RefusedTurnsNothing, TurnsStaySent, counted, ends_it, is_refused, status_by, turn_refusal}
+use Rattle.c_handle.specs.Turns.{AreMade, EndsTurn, IsAsBefore, IsEnded, IsNamed, IsStep, IsUsedUp, Once, RefusedTurnsNothing, counted, ends_it, is_refused, status_by, turn_refusal}
 use Rattle.c_handle.specs.declared.turning.Turn.{Turn}
 use Rattle.c_handle.specs.declared.turning.Outcome.{Outcome}
 use Rattle.c_handle.specs.declared.turning.Outcome.TheVariants as outcomes
 use Rattle.c_handle.proofs.Owing.{itself, refused_steps_nothing}
 use Rattle.c_handle.proofs.PageLogs.{logged_is_served}
-use Rattle.c_handle.proofs.Sent.{calls_stay_sent}
-use Rattle.c_handle.proofs.Failing.{failed_flushes_stay_sent}
 
 -- A step of a machine that is being migrated changed nothing, was served, or its flush failed.
-abbrev DidLive : LiveSeen → ℕ → ℕ → LiveSeen → Type 0
+abbrev pub DidLive : LiveSeen → ℕ → ℕ → LiveSeen → Type 0
 DidLive l dev pick next = (next ≡ l) ⊎ (((reply : Reply) × HasPlaces l × Serves l (Guest (Step dev pick)) (r.Guest reply) next) ⊎ (HasPlaces l × (is_closed l.phase ≡ false) × FailsLiveFlush l dev pick next))
 
 by_reply : (l next : LiveSeen) (dev pick : ℕ) (reply : LiveReply) → HasPlaces l → Serves l (Guest (Step dev pick)) reply next
@@ -81,7 +72,7 @@ failed_live true l next dev pick status is f = inl f.1
 failed_live false l next dev pick status is f = failed_if (makes_flush (now l) dev pick) l next dev pick f.places is f.failed
 
 -- What a step leaves is a machine as before, being migrated or not.
-abbrev Did : ℕ → ℕ → State → State → Type 0
+abbrev pub Did : ℕ → ℕ → State → State → Type 0
 Did dev pick (Still m) (Still next) = Unit {0}
 Did dev pick (Moving l) (Moving next) = DidLive l dev pick next
 Did dev pick _ _ = ⊥
@@ -133,10 +124,10 @@ phase_live l next dev pick (inr (inl did_it)) =
 phase_live l next dev pick (inr (inr failed)) = ap (λ (x : LiveSeen). x.phase) failed.2.rest
 
 -- The machine makes steps, before one and after it.
-abbrev Runs : State → Type 0
+abbrev pub Runs : State → Type 0
 Runs k = (is_away k ≡ false) × (is_stopped k ≡ false)
 
-runs_on : (k next : State) (dev pick : ℕ) → Runs k → Did dev pick k next → Runs next
+pub runs_on : (k next : State) (dev pick : ℕ) → Runs k → Did dev pick k next → Runs next
 runs_on (Still m) (Still next) dev pick runs d = (refl, refl)
 runs_on (Moving l) (Moving next) dev pick runs d = (refl, ap is_closed (phase_live l next dev pick d) ∙ runs.1)
 runs_on (Still m) (Moving next) dev pick runs d = absurd d
@@ -148,7 +139,7 @@ runs_on (Moving l) (Lent next) dev pick runs d = absurd d
 runs_on (Arriving r) next dev pick runs d = absurd (true≢false runs.0)
 runs_on (Lent x) next dev pick runs d = absurd (true≢false runs.0)
 
-did_step : (k next : KeptSeen) (t : Turn) (w : Work) (status number : ℕ) (buf new_buf : List ℕ) → Runs k.state → IsStep k t w status number buf new_buf next → Did w.dev w.pick k.state next.state
+pub did_step : (k next : KeptSeen) (t : Turn) (w : Work) (status number : ℕ) (buf new_buf : List ℕ) → Runs k.state → IsStep k t w status number buf new_buf next → Did w.dev w.pick k.state next.state
 did_step k next t w status number buf new_buf runs s = did (owed_lost k w.dev w.pick) k.state next.state k.written next.written w.dev w.pick status number t.len buf new_buf runs.0 s.made
 
 pub all_run : (k : KeptSeen) (t : Turn) (ws : List Work) (buf new_buf : List ℕ) (next : KeptSeen) (at : Turn) → Runs k.state → AreMade k t ws buf new_buf next at → Runs next.state
@@ -202,7 +193,7 @@ lt_true : (m n : ℕ) (b : Bool) → nat_lt m n ≡ b → m < n → b ≡ true
 lt_true m n true is less = refl
 lt_true m n false is less = absurd (omega (arith, ltb-false m n is, less))
 
-told_refused : (status : ℕ) → 1 ≤ status → status < 64 → is_refused status ≡ true
+pub told_refused : (status : ℕ) → 1 ≤ status → status < 64 → is_refused status ≡ true
 told_refused status some few = rw (lt_true 0 status (nat_lt 0 status) refl some, lt_true status 64 (nat_lt status 64) refl few) refl
 
 unless_first : (b : Bool) (made told_is : ℕ) → (suc made == 0) ≡ b → (if b then told_is else 78) ≡ 78
@@ -261,90 +252,3 @@ quiet_unless law None k next t after status buf new_buf is u plain some few = qu
 
 pub refused_turns_nothing : RefusedChangesNothing → RefusedTurnsNothing
 refused_turns_nothing law k next t after status buf new_buf plain turns some few = quiet_unless law (turn_refusal k.state t (length buf)) k next t after status buf new_buf refl turns plain some few
-
--- The history of a machine that is being migrated.
-no_text : (m : MachineState) (h : History) (e : Event) (reply : Reply) (f : Effect) → text m (then_came h (Guest e) (r.Guest reply) f) ≡ text m h
-unfolding texts
-no_text m h e reply f = append-nil (text m h)
-
-abbrev GoOn : MachineState → List ℕ → List ℕ → History → LiveSeen → Type 0
-GoOn m taken pages h next = (works : List Work) × GoesOnSent m h taken (map step_of works) pages next
-
-none_sent : (m : MachineState) (taken pages : List ℕ) (h : History) (l : LiveSeen) → IsSent m h taken pages l → GoOn m taken pages h l
-none_sent m taken pages h l is = ([], record { history = h; is_sent = is; came = sym (append-nil (guest_events h)); text_is = refl })
-
-one_sent : (m : MachineState) (taken pages : List ℕ) (h : History) (l next : LiveSeen) (w : Work) → IsSent m h taken pages l → DidLive l w.dev w.pick next → GoOn m taken pages h next
-one_sent m taken pages h l next w is (inl same) = none_sent m taken pages h next (subst (λ (x : LiveSeen). IsSent m h taken pages x) (sym same) is)
-one_sent m taken pages h l next w is (inr (inl served)) =
-    let more = calls_stay_sent m h taken pages (Guest (step_of w)) (r.Guest served.0) l next is served.1 (may_guest pages (step_of w)) served.2 in
-    (w ∷ [], record { history = then_came h (Guest (step_of w)) (r.Guest served.0) more.effect; is_sent = more.is_sent; came = refl; text_is = no_text m h (step_of w) served.0 more.effect })
-one_sent m taken pages h l next w is (inr (inr failed)) =
-    let more = failed_flushes_stay_sent m h taken pages w.dev w.pick l next is failed.0 (λ stopped. true≢false (sym (ap is_closed stopped) ∙ failed.1)) failed.2 in
-    (w ∷ [], record { history = then_came h (Guest (step_of w)) (r.Guest DiskFailed) more.effect; is_sent = more.is_sent; came = refl; text_is = no_text m h (step_of w) DiskFailed more.effect })
-
-then_sent : (m : MachineState) (taken pages : List ℕ) (h : History) (next last : LiveSeen) (first : GoOn m taken pages h next) → GoOn m taken pages first.1.history last → GoOn m taken pages h last
-then_sent m taken pages h next last first second = (
-  first.0 ++ second.0,
-  record {
-    history = second.1.history;
-    is_sent = second.1.is_sent;
-    came = second.1.came ∙ ap (λ (es : List Event). es ++ map step_of second.0) first.1.came ∙ append_assoc (guest_events h) (map step_of first.0) (map step_of second.0) ∙ ap (λ (es : List Event). guest_events h ++ es) (sym (map-append step_of first.0 second.0));
-    text_is = second.1.text_is ∙ first.1.text_is;
-  },
-)
-
-live_of : (s next : State) (l : LiveSeen) (dev pick : ℕ) → s ≡ Moving l → Did dev pick s next → (live : LiveSeen) × (next ≡ Moving live) × DidLive l dev pick live
-live_of s (Moving live) l dev pick is d = (live, refl, rw is at d)
-live_of s (Still m) l dev pick is d = absurd (rw is at d)
-live_of s (Arriving r) l dev pick is d = absurd (rw is at d)
-live_of s (Lent x) l dev pick is d = absurd (rw is at d)
-
-abbrev LeavesSent : MachineState → List ℕ → List ℕ → History → State → Type 0
-LeavesSent m taken pages h s = (works : List Work) × (live : LiveSeen) × (s ≡ Moving live) × GoesOnSent m h taken (map step_of works) pages live
-
-step_sent : (m : MachineState) (taken pages : List ℕ) (h : History) (s next last : State) (l : LiveSeen) (w : Work) → s ≡ Moving l → IsSent m h taken pages l → Did w.dev w.pick s next
-    → ((h : History) (live : LiveSeen) → next ≡ Moving live → IsSent m h taken pages live → LeavesSent m taken pages h last) → LeavesSent m taken pages h last
-step_sent m taken pages h s next last l w is sent_is d rest =
-    let live = live_of s next l w.dev w.pick is d in
-    let on = one_sent m taken pages h l live.0 w sent_is live.2 in
-    let more = rest on.1.history live.0 live.1 on.1.is_sent in
-    let all = then_sent m taken pages h live.0 more.1 on (more.0, more.3) in
-    (all.0, more.1, more.2, all.1)
-
-last_sent : (m : MachineState) (taken pages : List ℕ) (h : History) (s : State) (l : LiveSeen) → s ≡ Moving l → IsSent m h taken pages l → LeavesSent m taken pages h s
-last_sent m taken pages h s l is sent_is = let none = none_sent m taken pages h l sent_is in (none.0, l, is, none.1)
-
--- What ends a turn is a step, or changes nothing.
-ends_by : (outcome : Outcome) (k next : KeptSeen) (t after : Turn) (buf new_buf : List ℕ) → Runs k.state → Once k t outcome buf new_buf next after → ends_it outcome ≡ true → (next ≡ k) ⊎ ((w : Work) × Did w.dev w.pick k.state next.state)
-ends_by outcomes.Made k next t after buf new_buf runs once ends = absurd cc
-ends_by (outcomes.NoneNamed reason) k next t after buf new_buf runs once ends = inl once.4.0
-ends_by outcomes.PassedOver k next t after buf new_buf runs once ends = inl once.2.0
-ends_by (outcomes.Refused reason) k next t after buf new_buf runs once ends = inr (once.0, did_step k next t once.0 reason once.1 buf new_buf runs once.2)
-ends_by (outcomes.Answered reason) k next t after buf new_buf runs once ends = inr (once.0, did_step k next t once.0 reason once.1 buf new_buf runs once.2)
-
-ended_by : (made : ℕ) (k next : KeptSeen) (t after : Turn) (status : ℕ) (buf new_buf : List ℕ) → Runs k.state → IsUsedUp k t status buf new_buf next after ⊎ IsEnded made k t status buf new_buf next after → (next ≡ k) ⊎ ((w : Work) × Did w.dev w.pick k.state next.state)
-ended_by made k next t after status buf new_buf runs (inl u) = inl u.same.0
-ended_by made k next t after status buf new_buf runs (inr e) = ends_by e.outcome k next t after buf new_buf runs e.once e.ends
-
-end_sent : (m : MachineState) (taken pages : List ℕ) (h : History) (k next : KeptSeen) (l : LiveSeen) → k.state ≡ Moving l → IsSent m h taken pages l → (next ≡ k) ⊎ ((w : Work) × Did w.dev w.pick k.state next.state) → LeavesSent m taken pages h next.state
-end_sent m taken pages h k next l is sent_is (inl same) = last_sent m taken pages h next.state l (ap (λ (x : KeptSeen). x.state) same ∙ is) sent_is
-end_sent m taken pages h k next l is sent_is (inr one) = step_sent m taken pages h k.state next.state next.state l one.0 is sent_is one.1 (λ g live at after. last_sent m taken pages g next.state live at after)
-
-all_sent : (m : MachineState) (taken pages : List ℕ) (h : History) (ws : List Work) (k mid next : KeptSeen) (t at : Turn) (buf mid_buf : List ℕ) (l : LiveSeen) → k.state ≡ Moving l → Runs k.state → IsSent m h taken pages l → AreMade k t ws buf mid_buf mid at
-    → (next ≡ mid) ⊎ ((w : Work) × Did w.dev w.pick mid.state next.state) → LeavesSent m taken pages h next.state
-all_sent m taken pages h [] k mid next t at buf mid_buf l is runs sent_is done last = end_sent m taken pages h mid next l (ap (λ (x : KeptSeen). x.state) done.0 ∙ is) sent_is last
-all_sent m taken pages h (w ∷ ws) k mid next t at buf mid_buf l is runs sent_is done last =
-    let d = did_step k done.0 t w done.2.status done.2.number buf done.1 runs done.2.step in
-    step_sent m taken pages h k.state done.0.state next.state l w is sent_is d
-    (λ g live now after. all_sent m taken pages g ws done.0 mid next (counted t w) at done.1 mid_buf live now (runs_on k.state done.0.state w.dev w.pick runs d) after done.3 last)
-
-sent_unless : (m : MachineState) (taken pages : List ℕ) (h : History) (o : Option ℕ) (k next : KeptSeen) (t after : Turn) (status : ℕ) (buf new_buf : List ℕ) (l : LiveSeen) → o ≡ turn_refusal k.state t (length buf) → k.state ≡ Moving l → IsSent m h taken pages l
-    → Unless o (λ reason. (status ≡ reason) × IsAsBefore k buf new_buf next × (after ≡ t)) (EndsTurn k t status buf new_buf next after) → LeavesSent m taken pages h next.state
-sent_unless m taken pages h (Some reason) k next t after status buf new_buf l o_is is sent_is u = last_sent m taken pages h next.state l (ap (λ (x : KeptSeen). x.state) u.1.0 ∙ is) sent_is
-sent_unless m taken pages h None k next t after status buf new_buf l o_is is sent_is u =
-    let runs = runs_unless k.state t (length buf) (sym o_is) in
-    all_sent m taken pages h u.works k u.between next t u.at buf u.mid_buf l is runs sent_is u.made
-    (ended_by (length u.works) u.between next u.at after status u.mid_buf new_buf (all_run k t u.works buf u.mid_buf u.between u.at runs u.made) u.ended)
-
-pub turns_stay_sent : TurnsStaySent
-turns_stay_sent m h taken pages k next t after status buf new_buf l is sent_is turns = sent_unless m taken pages h (turn_refusal k.state t (length buf)) k next t after status buf new_buf l refl is sent_is turns

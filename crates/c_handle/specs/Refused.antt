@@ -1,10 +1,9 @@
--- The state after an event that was refused, whatever the contents of the handle: nothing changed, except that for a machine
--- that is being migrated it is left open whether a page that was not written counts as dirty.
+-- The state after an event that was refused, whatever the contents of the handle: nothing changed.
 use Rattle.std.specs.Prelude.{◌≡◌, ◌≤◌, ◌<◌, ℕ, Bool, List, Option, map}
 use Rattle.machine.specs.Parked.{ParkedSeen, WhateverRam, back_with}
-use Rattle.machine.specs.Seen.{no_marks, state_of}
+use Rattle.machine.specs.Seen.{Seen, all_marks, no_marks, state_of}
 use Rattle.machine.specs.declared.event.Event.{Event}
-use Rattle.sender.specs.LiveState.{LiveSeen, now}
+use Rattle.sender.specs.LiveState.{LiveSeen}
 use Rattle.sender.specs.Parked.{LiveParkedSeen}
 use Rattle.c_machine.specs.Plain.{ArePlain}
 use Rattle.c_handle.specs.Told.{Tells, WritesKept}
@@ -17,9 +16,16 @@ ArePlainIn (Moving l) = ArePlain l.machine
 ArePlainIn (Arriving r) = Unit {0}
 ArePlainIn (Lent x) = map (λ d. d.marks) (parked_in x).devices ≡ map (λ d. no_marks) (parked_in x).devices
 
+-- It is the same machine: its state, the marks of its disks and the versions of its pages are as they were.
+pub record IsSameMachine (m next : Seen) : Type 0 where
+  pub state : state_of next ≡ state_of m
+  pub marks : all_marks next ≡ all_marks m
+  pub versions : next.memory.versions ≡ m.memory.versions
+
+-- Of one that is sent also what is due and what is dirty, and what waits.
 pub record IsSameSent (l next : LiveSeen) : Type 0 where
-  pub machine : now next ≡ now l
-  pub rest : next ≡ record l { machine = next.machine; dirty = next.dirty }
+  pub machine : IsSameMachine l.machine next.machine
+  pub rest : next ≡ record l { machine = next.machine }
 
 -- While RAM is lent: it is the same machine, whatever RAM holds meanwhile.
 pub record IsSameLent (p next : ParkedSeen) : Type 0 where
@@ -36,7 +42,7 @@ IsSameLoan (MovingLent l) (MovingLent next) = IsSameSentLent l next
 IsSameLoan _ _ = ⊥
 
 abbrev pub IsSameKept : State → State → Type 0
-IsSameKept (Still m) (Still next) = state_of next ≡ state_of m
+IsSameKept (Still m) (Still next) = IsSameMachine m next
 IsSameKept (Moving l) (Moving next) = IsSameSent l next
 IsSameKept (Arriving r) (Arriving next) = next ≡ r
 IsSameKept (Lent x) (Lent next) = IsSameLoan x next

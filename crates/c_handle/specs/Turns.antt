@@ -1,5 +1,5 @@
 -- A turn of the devices in one call: the steps that `vmig_next` names, one after another, as `vmig_step` makes them, and why it ends.
-use Rattle.std.specs.Prelude.{◌≡◌, ◌≢◌, ◌≤◌, ◌<◌, ◌⊎◌, ℕ, ◌-◌, ◌==◌, ◌&&◌, ◌||◌, if◌then◌else◌, nat_lt, not, Bool, true, false, List, [], ◌∷◌, length, map, Option, Some, None, slice_get}
+use Rattle.std.specs.Prelude.{◌≡◌, ◌≢◌, ◌≤◌, ◌<◌, ◌⊎◌, ℕ, ◌-◌, ◌==◌, ◌&&◌, ◌||◌, if◌then◌else◌, nat_lt, not, Bool, true, false, List, [], ◌∷◌, ◌++◌, length, map, Option, Some, None, slice_get}
 use Rattle.machine.specs.Seen.{state_of}
 use Rattle.machine.specs.Shapes.{made_as}
 use Rattle.machine.specs.State.{DeviceState, MachineState}
@@ -71,8 +71,8 @@ pub record IsStep (k : KeptSeen) (t : Turn) (w : Work) (status number : ℕ) (bu
   pub made : StepsOwing (owed_lost k w.dev w.pick) k.state k.written w.dev w.pick status number t.len buf new_buf next.state next.written
   pub rest : next ≡ record k { state = next.state; written = next.written }
 
--- It was, and the turn goes on.
-pub record IsMade (k : KeptSeen) (t : Turn) (w : Work) (buf new_buf : List ℕ) (next : KeptSeen) : Type 0 where
+-- It was, and the turn goes on: the next step of a turn.
+pub record MakesNext (k : KeptSeen) (t : Turn) (w : Work) (buf new_buf : List ℕ) (next : KeptSeen) : Type 0 where
   pub status : ℕ
   pub number : ℕ
   pub step : IsStep k t w status number buf new_buf next
@@ -82,7 +82,7 @@ pub record IsMade (k : KeptSeen) (t : Turn) (w : Work) (buf new_buf : List ℕ) 
 -- Steps were made, one after another.
 abbrev pub AreMade : KeptSeen → Turn → List Work → List ℕ → List ℕ → KeptSeen → Turn → Type 0
 AreMade k t [] buf new_buf next at = (next ≡ k) × (at ≡ t) × (new_buf ≡ buf)
-AreMade k t (w ∷ ws) buf new_buf next at = (mid : KeptSeen) × (mid_buf : List ℕ) × IsMade k t w buf mid_buf mid × AreMade mid (counted t w) ws mid_buf new_buf next at
+AreMade k t (w ∷ ws) buf new_buf next at = (mid : KeptSeen) × (mid_buf : List ℕ) × MakesNext k t w buf mid_buf mid × AreMade mid (counted t w) ws mid_buf new_buf next at
 
 -- No step changed anything.
 abbrev pub IsAsBefore : KeptSeen → List ℕ → List ℕ → KeptSeen → Type 0
@@ -90,7 +90,7 @@ IsAsBefore k buf new_buf next = (next ≡ k) × (new_buf ≡ buf)
 
 -- The next step of a turn that has some left, by its outcome.
 abbrev pub Once : KeptSeen → Turn → Outcome → List ℕ → List ℕ → KeptSeen → Turn → Type 0
-Once k t outcomes.Made buf new_buf next after = (w : Work) × IsMade k t w buf new_buf next × (after ≡ counted t w)
+Once k t outcomes.Made buf new_buf next after = (w : Work) × MakesNext k t w buf new_buf next × (after ≡ counted t w)
 Once k t (outcomes.NoneNamed status) buf new_buf next after = (w : Work) × IsNamed k t status w × (status ≢ work) × (status ≢ sync) × IsAsBefore k buf new_buf next × (after ≡ t)
 Once k t outcomes.PassedOver buf new_buf next after = (w : Work) × IsNamed k t sync w × IsAsBefore k buf new_buf next × (after ≡ counted t w)
 Once k t (outcomes.Refused status) buf new_buf next after = (w : Work) × (number : ℕ) × IsStep k t w status number buf new_buf next × (is_refused status ≡ true) × (after ≡ t)
@@ -155,8 +155,20 @@ abbrev pub RefusedTurnsNothing : Type 0
 RefusedTurnsNothing = (k next : KeptSeen) (t after : Turn) (status : ℕ) (buf new_buf : List ℕ) → ArePlainIn k.state → TurnsKept k t status buf new_buf next after → 1 ≤ status → status < 64
     → IsSameKept k.state next.state × (new_buf ≡ buf) × (after ≡ t)
 
--- The steps of a turn are added to the history of a machine that is being migrated. Of a disk that is lost those that make a flush are
--- steps whose disk failed.
+-- The step that ended a turn, if one did: the one that `vmig_next` named then, as `vmig_step` made it. One that was refused before the machine was no step.
+abbrev pub EndsBy : KeptSeen → Turn → List ℕ → List ℕ → KeptSeen → List Work → Type 0
+EndsBy k t buf new_buf next [] = IsAsBefore k buf new_buf next
+EndsBy k t buf new_buf next (w ∷ []) = (status : ℕ) × (number : ℕ) × IsStep k t w status number buf new_buf next
+EndsBy k t buf new_buf next ws = ⊥
+
+-- The steps of a turn: those that were made and went on, and the one that ended it. One that is refused as a whole makes none.
+abbrev pub HasSteps : KeptSeen → Turn → ℕ → List ℕ → List ℕ → KeptSeen → Turn → List Work → Type 0
+HasSteps k t status buf new_buf next after works =
+    Unless (turn_refusal k.state t (length buf)) (λ reason. works ≡ [])
+    ((e : EndsTurn k t status buf new_buf next after) × (ws : List Work) × EndsBy e.between e.at e.mid_buf new_buf next ws × (works ≡ e.works ++ ws))
+
+-- The steps of a turn, all of them and no others, are added to the history of a machine that is being migrated. Of a disk that is lost those
+-- that make a flush are steps whose disk failed.
 abbrev pub TurnsStaySent : Type 0
 TurnsStaySent = (m : MachineState) (h : History) (taken pages : List ℕ) (k next : KeptSeen) (t after : Turn) (status : ℕ) (buf new_buf : List ℕ) (l : LiveSeen) → k.state ≡ Moving l → IsSent m h taken pages l → TurnsKept k t status buf new_buf next after
-    → (works : List Work) × (live : LiveSeen) × (next.state ≡ Moving live) × GoesOnSent m h taken (map step_of works) pages live
+    → (works : List Work) × (live : LiveSeen) × HasSteps k t status buf new_buf next after works × (next.state ≡ Moving live) × GoesOnSent m h taken (map step_of works) pages live

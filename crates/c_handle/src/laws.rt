@@ -21,10 +21,12 @@ pub fn refused_changes_nothing()
     ensures { RefusedChangesNothing }
 {}
 
-/// The same for all contents of a handle, and no number is returned.
+/// The same for all contents of a handle, also of dirty items and of the versions of pages, and no number is returned.
 pub fn refused_tells_nothing()
     ensures { RefusedTellsNothing }
-{}
+{
+    machine::laws::refused_changes_nothing();
+}
 
 /// The same for writes of RAM, and no page is logged.
 pub fn refused_writes_nothing()

@@ -1,4 +1,4 @@
-use Rattle.c_handle.proofs.TurnSteps.{turns_stay_sent as proved}
+use Rattle.c_handle.proofs.TurnsSent.{turns_stay_sent as proved}
 use Rattle.c_handle.proofs.laws.turns_stay_sent.Goals as goal
 
 pub returns : goal.returns
