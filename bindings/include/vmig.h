@@ -364,7 +364,8 @@ enum {
     VMIG_OUT_OF_RAM = 2,                /* the access is not all in RAM; of pages: there is no such page */
     VMIG_TOO_LONG = 3,                  /* an access to RAM of more than 4,096 bytes; disk_done: another count, or other bytes */
     VMIG_WRONG_KIND = 4,                /* a device of this kind has no such call, or no disk in the machine */
-    VMIG_BAD_FRAME = 5,                 /* a frame of fewer than 14 bytes, or of more than the longest of its device */
+    VMIG_BAD_FRAME = 5,                 /* a frame of fewer than 14 bytes, or of more than the longest of its device, or
+                                         * than MTU + 14 without a VLAN tag where it offers an MTU (5.1.4.1) */
 
     /* Refused: the call. */
     VMIG_NO_SECTOR = 7,                 /* the disk has no such sector */
@@ -467,8 +468,8 @@ typedef struct vmig_shape {
     uint64_t sectors;                   /* of a disk: 1 to 2,097,152 sectors of 512 bytes, to 4,294,967,295 with VMIG_LARGE; of a
                                          * disk outside to 2^54, with and without it */
     uint8_t id[20];                     /* of a disk: the id that it returns to a driver */
-    uint32_t frame;                     /* of a network device: how many bytes its longest frame has: 1,514, or with VMIG_LARGE to
-                                         * 65,535; 0 is 1,514. A device of 1,514 offers no MTU, and is described by 0 */
+    uint32_t frame;                     /* of a network device: how many bytes its longest frame has: 1,514, or with VMIG_LARGE
+                                         * 1,518 to 65,535; 0 is 1,514. A device of 1,514 offers no MTU, and is described by 0 */
     uint64_t reserved[2];               /* 0 */
 } vmig_shape;                           /* 56 bytes, no padding */
 

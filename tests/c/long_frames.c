@@ -20,7 +20,7 @@ enum { RINGS = 0x1000, RING = 0x3000, DRIVER_AREA = 0x1000, DEVICE_AREA = 0x2000
 /* How many frames wait: 64, or as many of the longest as 96,896 bytes hold. */
 static const struct device {
     uint32_t longest, waiting;
-} DEVICES[] = {{1514, 64}, {1515, 63}, {1518, 63}, {9018, 10}, {65535, 1}};
+} DEVICES[] = {{1514, 64}, {1518, 63}, {1519, 63}, {9018, 10}, {65535, 1}};
 
 struct guest {
     vmig_machine m;
@@ -33,10 +33,17 @@ static uint8_t frame[65536], room[65548], buf[VMIG_SENT_MAX], stream[1 << 19], a
 
 static int is_long(const struct guest *g) { return g->is.longest > 1514; }
 
-/* The n-th frame has bytes of its own. */
-static const uint8_t *fill(uint32_t n, size_t len)
+/* The most bytes of a frame without a VLAN tag (VIRTIO 1.2, 5.1.4.1). */
+static uint32_t most_untagged(const struct guest *g) { return is_long(g) ? g->is.longest - (TAGGED - SHORTEST) : g->is.longest; }
+
+static void set_type(uint8_t first, uint8_t second) { frame[12] = first, frame[13] = second; }
+
+/* The n-th frame has bytes of its own, and a VLAN tag where it needs one. */
+static const uint8_t *fill(const struct guest *g, uint32_t n, size_t len)
 {
     for (size_t i = 0; i < len; i++) frame[i] = (uint8_t)(17 * n + i + i / 251);
+    if (len > most_untagged(g)) set_type(0x81, 0x00);
+    else if (len >= SHORTEST) set_type(0x08, 0x00);
     return frame;
 }
 
@@ -162,7 +169,7 @@ static void input(struct guest *g, uint32_t n, size_t len, vmig_status wanted, s
 {
     size_t kept = 77;
 
-    expect("a frame", vmig_input(&g->m, 0, fill(n, len), len, &kept), wanted);
+    expect("a frame", vmig_input(&g->m, 0, fill(g, n, len), len, &kept), wanted);
     expect("kept", kept, wanted_kept);
 }
 
@@ -177,7 +184,7 @@ static void receives(struct guest *g, uint32_t n, uint32_t len)
     is_used(g, RECEIVE, FRAME_HEADER + len);
     get_bytes(&g->m, BUFFERS, room, FRAME_HEADER + len);
     for (size_t i = 0; i < FRAME_HEADER; i++) expect("its header", room[i], i == 10);
-    expect("its bytes", (uint64_t)memcmp(room + FRAME_HEADER, fill(n, len), len), 0);
+    expect("its bytes", (uint64_t)memcmp(room + FRAME_HEADER, fill(g, n, len), len), 0);
 }
 
 /* A frame that does not fit the guest's buffer is dropped, and the buffer waits for the next one. */
@@ -193,6 +200,25 @@ static void drops(struct guest *g)
     expect("its length", used, FRAME_HEADER + g->is.longest - 1);
 }
 
+/* What counts as a VLAN tag: a frame of more bytes than MTU and an Ethernet header is taken with one, and without one is none of the device. */
+static void types(struct guest *g)
+{
+    static const struct { uint8_t first, second; int is_tag; } cases[] = {
+        {0x81, 0x00, 1}, {0x88, 0xa8, 1}, {0x08, 0x00, 0}, {0x81, 0x01, 0}, {0x00, 0x81, 0}, {0x88, 0xa9, 0}, {0x81, 0xa8, 0}, {0x88, 0x00, 0}, {0x86, 0xdd, 0}};
+    uint32_t most = most_untagged(g);
+
+    for (size_t i = 0; i < sizeof cases / sizeof *cases; i++)
+        for (uint32_t len = most; len <= g->is.longest && len <= most + 1; len++) {
+            int is_taken = cases[i].is_tag || len <= most;
+            size_t kept = 77;
+            fill(g, 6, len);
+            set_type(cases[i].first, cases[i].second);
+            expect("a frame of this type", vmig_input(&g->m, 0, frame, len, &kept), is_taken ? VMIG_OK : VMIG_BAD_FRAME);
+            expect("kept", kept, is_taken ? len : 77);
+            expect("it is dropped", vmig_drop(&g->m, 0), VMIG_OK);
+        }
+}
+
 static void comes_in(struct guest *g)
 {
     input(g, 0, SHORTEST - 1, VMIG_BAD_FRAME, 77);
@@ -204,6 +230,7 @@ static void comes_in(struct guest *g)
     receives(g, 4, 1514);
     input(g, 5, g->is.longest, VMIG_OK, g->is.longest);
     receives(g, 5, g->is.longest);
+    types(g);
     drops(g);
 }
 
@@ -213,7 +240,7 @@ static void sends(struct guest *g, uint32_t n, uint32_t len, vmig_status wanted)
     uint32_t used = 77;
 
     memset(room, 0, FRAME_HEADER);
-    memcpy(room + FRAME_HEADER, fill(n, len), len);
+    memcpy(room + FRAME_HEADER, fill(g, n, len), len);
     put_bytes(&g->m, BUFFERS + BUFFER, room, FRAME_HEADER + len);
     hand_over(g, TRANSMIT, FRAME_HEADER + len);
     expect("a small buffer of the host", vmig_step(&g->m, 0, TRANSMIT, buf, g->is.longest - 1, &used), VMIG_TOO_SMALL);

@@ -566,7 +566,7 @@ static void headers(void)
 /* A row of each longest frame, where at most this one is allowed. */
 static void rows(uint32_t allowed)
 {
-    static const uint32_t longest[] = {0, 14, 1513, 1514, 1515, 1518, 9017, 9018, 9019, 65534, 65535};
+    static const uint32_t longest[] = {0, 14, 1513, 1514, 1515, 1517, 1518, 9017, 9018, 9019, 65534, 65535};
 
     for (size_t i = 0; i < sizeof longest / sizeof *longest; i++) {
         struct stream s = header_of(3, 129, longest[i]);
@@ -589,7 +589,8 @@ static void names(void)
         vmig_status arrives, shapes;
     } cases[] = {{0, 0, VMIG_OK, VMIG_OK}, {1, VMIG_LARGE, VMIG_NOT_KNOWN, VMIG_BAD_SHAPE}, {1513, VMIG_LARGE, VMIG_NOT_KNOWN, VMIG_BAD_SHAPE},
                  {1513, 0, VMIG_NOT_KNOWN, VMIG_BAD_SHAPE}, {1514, 0, VMIG_OK, VMIG_OK}, {1514, VMIG_LOG, VMIG_OK, VMIG_OK},
-                 {1514, VMIG_LARGE, VMIG_OK, VMIG_OK}, {1515, VMIG_LARGE, VMIG_OK, VMIG_OK}, {1515, 0, VMIG_NOT_KNOWN, VMIG_BAD_SHAPE},
+                 {1514, VMIG_LARGE, VMIG_OK, VMIG_OK}, {1515, VMIG_LARGE, VMIG_OK, VMIG_BAD_SHAPE},
+                 {1517, VMIG_LARGE, VMIG_OK, VMIG_BAD_SHAPE}, {1518, VMIG_LARGE, VMIG_OK, VMIG_OK}, {1515, 0, VMIG_NOT_KNOWN, VMIG_BAD_SHAPE},
                  {1515, VMIG_LOG, VMIG_NOT_KNOWN, VMIG_BAD_SHAPE}, {65535, VMIG_LARGE | VMIG_LOG, VMIG_OK, VMIG_OK},
                  {65536, VMIG_LARGE, VMIG_NOT_KNOWN, VMIG_BAD_SHAPE}, {65536 + 1515, VMIG_LARGE, VMIG_NOT_KNOWN, VMIG_BAD_SHAPE},
                  {UINT32_MAX, VMIG_LARGE, VMIG_NOT_KNOWN, VMIG_BAD_SHAPE}};

@@ -250,6 +250,8 @@ void long_frames()
     setup.pages = 1, setup.shapes = &shape, setup.count = 1, setup.flags = VMIG_LARGE;
     EXPECT(m.make(&setup), status::ok);
     EXPECT(m.describe().shapes[0].frame == 9018 && m.describe().message == 9018);
+    EXPECT(m.input(0, frame.data(), frame.size(), &kept), status::bad_frame);
+    frame[12] = 0x81;  // a VLAN tag
     EXPECT(m.input(0, frame.data(), frame.size(), &kept), status::ok);
     EXPECT(m.save(stream.data(), stream.size(), &len), status::ok);
     arrival.most_pages = 1, arrival.flags = VMIG_LARGE, arrival.frame = 9017;

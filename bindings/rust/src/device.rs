@@ -18,7 +18,7 @@ pub enum Device {
     LongNetwork {
         /// The address of its card.
         mac: [u8; 6],
-        /// How many bytes its longest frame has: 1,514 at least.
+        /// How many bytes its longest frame has: 1,514, or 1,518 at least.
         longest: u16,
     },
 

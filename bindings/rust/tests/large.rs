@@ -47,7 +47,10 @@ fn long_frames_arrive_where_they_are_allowed() {
     assert_eq!(refused.error, Error::BadShape);
     let mut machine = refused.into_value().large().build().unwrap();
     assert_eq!((machine.room(0), machine.message_len(), machine.devices()), (Ok(10), 9018, Ok(vec![long])));
-    assert_eq!((machine.input(0, &[1; 9018]), machine.input(0, &[1; 9019])), (Ok(9018), Err(Error::BadFrame)));
+    let mut tagged = [1; 9019];
+    tagged[12..14].copy_from_slice(&[0x81, 0]);
+    assert_eq!((machine.input(0, &tagged[..9018]), machine.input(0, &tagged)), (Ok(9018), Err(Error::BadFrame)));
+    assert_eq!((machine.input(0, &[1; 9014]), machine.input(0, &[1; 9015])), (Ok(9014), Err(Error::BadFrame)));
     let stream = machine.save().unwrap();
     assert_eq!(announced(&stream).unwrap().unwrap().devices, [long]);
     let usual = || Arrival::builder().most_pages(1);

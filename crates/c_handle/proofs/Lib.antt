@@ -41,3 +41,4 @@ mod Sent
 mod Streams
 mod ToldStates
 mod TurnSteps
+mod TurnsSent

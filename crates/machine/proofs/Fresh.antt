@@ -157,7 +157,7 @@ shape_sound : (l : Limits) (shape : Shape) → FitsLimits l → is_beyond l shap
 shape_sound l (Net mac) fits within has = record { size = has.size; bytes = has.bytes }
 shape_sound l (LongNet mac longest) fits within has =
     let long = long_within l mac longest within in
-    record { address = record { size = has.size; bytes = has.bytes }; longer = long.0; most = omega (arith, long.1, fits.frame) }
+    record { address = record { size = has.size; bytes = has.bytes }; longer = omega (arith, long.0); most = omega (arith, long.1, fits.frame) }
 shape_sound l (Block sectors read_only id) fits within has =
     let count = sectors_within l sectors read_only id within in
     record { some = count.0; few = omega (arith, count.1, fits.sectors); id_size = has.size; id_bytes = has.bytes }

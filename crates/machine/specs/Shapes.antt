@@ -100,8 +100,8 @@ disk_sizes [] = []
 disk_sizes (shape ∷ shapes) = with_size (disk_size_of shape) (disk_sizes shapes)
 
 -- Whether a shape is beyond its limits: a block device has one to as many sectors as they allow, for which a disk outside has a limit of its
--- own, 2^54 at most, and the longest frame of a network device for long ones has 1,518 bytes at least, and no more than they allow; other
--- devices have no such limit.
+-- own, 2^54 at most, and the longest frame of a network device for long ones has 1,518 bytes at least, so that its MTU is 1,500 at least, and no
+-- more than they allow; other devices have no such limit.
 abbrev pub is_beyond : Limits → Shape → Bool
 is_beyond limits (Block sectors read_only id) = sectors == 0 || nat_lt limits.sectors sectors
 is_beyond limits (Outside sectors read_only id) = sectors == 0 || nat_lt OUTSIDE_GREATEST sectors || nat_lt limits.outside sectors

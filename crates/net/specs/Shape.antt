@@ -1,18 +1,17 @@
 -- What a network device may be made as, and its configuration.
-use Rattle.std.specs.Prelude.{◌≡◌, ℕ, ◌-◌, ◌++◌, ◌≤◌, List, length, ◌==◌, replicate, if◌then◌else◌}
+use Rattle.std.specs.Prelude.{◌≡◌, ℕ, ◌-◌, ◌++◌, ◌<◌, ◌≤◌, List, length, ◌==◌, replicate, if◌then◌else◌}
 use Rattle.guestmem.specs.Number.{IsBytes, little_bytes}
-use Rattle.net.specs.declared.limits.TheConstants.{FRAME_GREATEST, FRAME_MAX, LONG_FRAME_MIN}
+use Rattle.net.specs.declared.limits.TheConstants.{FRAME_GREATEST, FRAME_MAX}
 
 -- A MAC has 6 bytes.
 pub record IsMac (mac : List ℕ) : Type 0 where
   pub size : length mac ≡ 6
   pub bytes : IsBytes mac
 
--- A device for long frames: the longest has as many bytes as a tagged frame with a payload of 1,500 at least, so that no guest gets a
--- smaller MTU than every Ethernet has, and no more than fit 16 bits.
+-- A device for long frames: the longest has more bytes than the longest of a device that is not, and no more than fit 16 bits.
 pub record IsLongNet (mac : List ℕ) (longest : ℕ) : Type 0 where
   pub address : IsMac mac
-  pub longer : LONG_FRAME_MIN ≤ longest
+  pub longer : FRAME_MAX < longest
   pub most : longest ≤ FRAME_GREATEST
 
 -- The most bytes of a payload: what the longest frame has beside an Ethernet header with a VLAN tag, 14 bytes and 4.

@@ -9,8 +9,8 @@ pub(crate) const FRAME_MIN: usize = 14;
 /// The most bytes of a frame of a device that is not made for longer ones: an Ethernet header and a payload of 1,500 bytes.
 pub const FRAME_MAX: u16 = 1514;
 
-/// The fewest bytes that the longest frame of a device for long ones may have: an Ethernet header with a VLAN tag, and the payload of 1,500
-/// bytes that every Ethernet carries.
+/// The fewest bytes of the longest frame that a device for long ones is made with: an Ethernet header with a VLAN tag, and the payload of
+/// 1,500 bytes that every Ethernet carries. Streams of an older library may have devices for shorter ones.
 pub const LONG_FRAME_MIN: u16 = 1518;
 
 /// The most bytes that the longest frame of any device may have.

@@ -86,7 +86,7 @@ long_reads mac rest longest good =
     let grouped = append_assoc mac (digits 2 longest) rest in
     let long : nat_lt (length ((mac ++ digits 2 longest) ++ rest)) 8 ≡ false = le-ltb _ _ (omega (arith, length-append (mac ++ digits 2 longest) rest, both)) in
     let told : number_at ((mac ++ digits 2 longest) ++ rest) 6 2 ≡ longest = ap (λ (x : List ℕ). number_at x 6 2) grouped ∙ subst (λ (k : ℕ). number_at (mac ++ (digits 2 longest ++ rest)) k 2 ≡ longest) good.address.size (number_at-digits 2 longest mac rest (omega (arith, good.most))) in
-    let more : nat_lt longest 1518 ≡ false = le-ltb _ _ good.longer in
+    let more : nat_lt 1514 longest ≡ true = lt-ltb 1514 longest good.longer in
     let address : take 6 ((mac ++ digits 2 longest) ++ rest) ≡ mac = ap (take 6) grouped ∙ take_at mac (digits 2 longest ++ rest) 6 good.address.size in
     rw (long, told, more, address, drop_at (mac ++ digits 2 longest) rest 8 both) refl
 
@@ -184,14 +184,18 @@ long_written bytes are long =
     ∙ ap (λ (x : List ℕ). take 6 bytes ++ (digits 2 (number_at bytes 6 2) ++ x)) rest
     ∙ sym (append_assoc (take 6 bytes) (digits 2 (number_at bytes 6 2)) (drop 8 bytes))
 
+not_so : (b : Bool) → not b ≡ false → b ≡ true
+not_so true e = refl
+not_so false e = absurd cc
+
 long_read : (n : ℕ) (bytes : List ℕ) (found : Shape × List ℕ) → IsBytes bytes → n ≡ 129 → long_net_shape_of bytes ≡ Some found → ShapeRead (n ∷ bytes) found
 unfolding long_net_shape_of spelled_shape
 long_read n bytes found are is e =
-    let good = not_chosen (nat_lt (length bytes) 8 || nat_lt (number_at bytes 6 2) 1518) _ found e in
-    let both = neither (nat_lt (length bytes) 8) (nat_lt (number_at bytes 6 2) 1518) good.0 in
+    let good = not_chosen (nat_lt (length bytes) 8 || not (nat_lt 1514 (number_at bytes 6 2))) _ found e in
+    let both = neither (nat_lt (length bytes) 8) (not (nat_lt 1514 (number_at bytes 6 2))) good.0 in
     let within = ltb-false (length bytes) 8 both.0 in
     subst (λ (y : Shape × List ℕ). ShapeRead (n ∷ bytes) y) (same_found _ found good.1) (record {
-      good = record { address = record { size = omega (arith, within, length-take 6 bytes); bytes = IsBytes-take 6 bytes are }; longer = ltb-false (number_at bytes 6 2) 1518 both.1; most = omega (arith, number_at-fits 2 6 bytes are) };
+      good = record { address = record { size = omega (arith, within, length-take 6 bytes); bytes = IsBytes-take 6 bytes are }; longer = ltb-true 1514 (number_at bytes 6 2) (not_so (nat_lt 1514 (number_at bytes 6 2)) both.1); most = omega (arith, number_at-fits 2 6 bytes are) };
       whole = ap (λ (k : ℕ). k ∷ bytes) is ∙ ap (λ (x : List ℕ). 129 ∷ x) (long_written bytes are within);
     })
 

@@ -3,7 +3,7 @@ use Rattle.std.specs.Prelude.{ℕ, List, [], ◌∷◌, length, take, drop, nat_
 use Rattle.guestmem.specs.Number.{number_at}
 use Rattle.machine.specs.declared.shape.Shape.{Shape}
 use Rattle.machine.specs.declared.shape.Shape.TheVariants.{Net, LongNet, Block, Outside, Console, Entropy}
-use Rattle.net.specs.declared.limits.TheConstants.{LONG_FRAME_MIN}
+use Rattle.net.specs.declared.limits.TheConstants.{FRAME_MAX}
 use Rattle.blk.specs.declared.shape.TheConstants.{OUTSIDE_GREATEST, SECTORS_GREATEST}
 
 -- The shape of a network device, whose device ID comes before the bytes, and the bytes after the shape.
@@ -13,7 +13,7 @@ net_shape_of bytes = if nat_lt (length bytes) 6 then None else Some (Net (take 6
 -- The shape of a network device for long frames, whose number comes before the bytes, and the bytes after the shape.
 unfoldable pub long_net_shape_of : List ℕ → Option (Shape × List ℕ)
 long_net_shape_of bytes =
-    if nat_lt (length bytes) 8 || nat_lt (number_at bytes 6 2) LONG_FRAME_MIN then None
+    if nat_lt (length bytes) 8 || not (nat_lt FRAME_MAX (number_at bytes 6 2)) then None
     else Some (LongNet (take 6 bytes) (number_at bytes 6 2), drop 8 bytes)
 
 -- The shape of a block device, whose device ID comes before the bytes, and the bytes after the shape.

@@ -8,7 +8,7 @@ ghost use Rattle.wire.specs.ShapeReading.{block_shape_of, long_net_shape_of, net
 use crate::numbers::{u8_at, u16_at, u64_at};
 use blk::{OUTSIDE_GREATEST, SECTORS_GREATEST};
 use machine::{Limits, Shape};
-use net::{FRAME_MAX, LONG_FRAME_MIN};
+use net::FRAME_MAX;
 
 /// The device ID with which the shape of a network device begins.
 pub const NET_ID: u8 = 1;
@@ -106,7 +106,7 @@ fn net_shape_at(bytes: &[u8]) -> Option<(Shape, &[u8])>
 fn long_net_shape_at(bytes: &[u8]) -> Option<(Shape, &[u8])>
     ensures { MatchOption result (long_net_shape_of bytes.now ≡ None) (λ x. long_net_shape_of bytes.now ≡ Some (x.0, x.1.now)) }
 {
-    if bytes.len() < 8 || u16_at(bytes, 6) < LONG_FRAME_MIN {
+    if bytes.len() < 8 || u16_at(bytes, 6) <= FRAME_MAX {
         return None;
     }
     let longest = u16_at(bytes, 6);
