@@ -55,19 +55,19 @@ abbrev Done : KeptSeen → Work → ℕ → List ℕ → List ℕ → KeptSeen �
 Done k w status buf new_buf next l = ((live : LiveSeen) × (next.state ≡ Moving live) × DoneLive l w.dev w.pick live) ⊎ (IsAsBefore k buf new_buf next × (status < 64))
 
 not_stopped : (l : LiveSeen) → is_closed l.phase ≡ false → l.phase ≡ phases.Stopped → ⊥
-not_stopped l open stopped = true≢false (sym (ap is_closed stopped) ∙ open)
+not_stopped l goes stopped = true≢false (sym (ap is_closed stopped) ∙ goes)
 
 served_by : (l live : LiveSeen) (dev pick : ℕ) (reply : LiveReply) → HasPlaces l → is_closed l.phase ≡ false → Serves l (Guest (Step dev pick)) reply live
     → ((refusal_for l.phase (Guest (Step dev pick)) ≡ None) × Guests l (Step dev pick) reply live) ⊎ ((x : MigError) × (refusal_for l.phase (Guest (Step dev pick)) ≡ Some x) × ((reply ≡ r.Mig x) × (live ≡ l))) → DoneLive l dev pick live
-served_by l live dev pick reply places open serves (inr refused) =
-    let none : (◌≡◌ {A = Option MigError} None (Some refused.0)) = sym (guest_free l.phase (Step dev pick) (not_stopped l open)) ∙ refused.1 in absurd cc
-served_by l live dev pick (r.Guest reply) places open serves (inl done) = inl (reply, places, serves)
-served_by l live dev pick (r.Begun round) places open serves (inl done) = absurd done.1
-served_by l live dev pick (r.Copied item) places open serves (inl done) = absurd done.1
-served_by l live dev pick r.RoundDone places open serves (inl done) = absurd done.1
-served_by l live dev pick r.RoundOpen places open serves (inl done) = absurd done.1
-served_by l live dev pick (r.Stopped pages sectors) places open serves (inl done) = absurd done.1
-served_by l live dev pick (r.Mig error) places open serves (inl done) = absurd done.1
+served_by l live dev pick reply places goes serves (inr refused) =
+    let none : (◌≡◌ {A = Option MigError} None (Some refused.0)) = sym (guest_free l.phase (Step dev pick) (not_stopped l goes)) ∙ refused.1 in absurd cc
+served_by l live dev pick (r.Guest reply) places goes serves (inl done) = inl (reply, places, serves)
+served_by l live dev pick (r.Begun round) places goes serves (inl done) = absurd done.1
+served_by l live dev pick (r.Copied item) places goes serves (inl done) = absurd done.1
+served_by l live dev pick r.RoundDone places goes serves (inl done) = absurd done.1
+served_by l live dev pick r.RoundOpen places goes serves (inl done) = absurd done.1
+served_by l live dev pick (r.Stopped pages sectors) places goes serves (inl done) = absurd done.1
+served_by l live dev pick (r.Mig error) places goes serves (inl done) = absurd done.1
 
 as_before : (k next : KeptSeen) (s : State) (log : Option (List Bool)) (buf new_buf : List ℕ) → next ≡ record k { state = s; written = log } → s ≡ k.state → log ≡ k.written → new_buf ≡ buf → IsAsBefore k buf new_buf next
 as_before k next s log buf new_buf rest state_same log_same buf_same = (rest ∙ rw (state_same, log_same) refl, buf_same)
@@ -81,19 +81,19 @@ module _ (k next : KeptSeen) (l live : LiveSeen) (w : Work) (status number befor
   undone same log_same buf_same = as_before k next next.state next.written buf new_buf rest (next_is ∙ ap Moving same ∙ sym is) log_same buf_same
 
   stepped_done : (closed small : Bool) → is_closed l.phase ≡ closed → LiveSteppedIf closed small l k.written w.dev w.pick status number before buf new_buf live next.written → Done k w status buf new_buf next l
-  stepped_done true small open s = inr (undone s.same s.log_same s.buf_same, omega (arith, s.status_is))
-  stepped_done false true open s = inr (undone s.same s.log_same s.buf_same, omega (arith, s.status_is))
-  stepped_done false false open s =
+  stepped_done true small goes s = inr (undone s.same s.log_same s.buf_same, omega (arith, s.status_is))
+  stepped_done false true goes s = inr (undone s.same s.log_same s.buf_same, omega (arith, s.status_is))
+  stepped_done false false goes s =
       let serves = logged_is_served l live k.written next.written (Step w.dev w.pick) s.reply s.serves in
-      inl (live, next_is, served_by l live w.dev w.pick s.reply s.places open serves (told (refusal_for l.phase (Guest (Step w.dev w.pick))) (Guests l (Step w.dev w.pick) s.reply live) (λ x. (s.reply ≡ r.Mig x) × (live ≡ l)) serves))
+      inl (live, next_is, served_by l live w.dev w.pick s.reply s.places goes serves (told (refusal_for l.phase (Guest (Step w.dev w.pick))) (Guests l (Step w.dev w.pick) s.reply live) (λ x. (s.reply ≡ r.Mig x) × (live ≡ l)) serves))
 
   failed_if : (made : Bool) → makes_flush (now l) w.dev w.pick ≡ made → HasPlaces l → is_closed l.phase ≡ false → status ≡ 69 → status ≡ (if made then 69 else 65) → FailsLiveFlushIf made l w.dev w.pick live → Done k w status buf new_buf next l
-  failed_if true made_is places open fails told_is f = inl (live, next_is, inr (places, open, f))
-  failed_if false made_is places open fails told_is f = absurd (omega (arith, fails, told_is))
+  failed_if true made_is places goes fails told_is f = inl (live, next_is, inr (places, goes, f))
+  failed_if false made_is places goes fails told_is f = absurd (omega (arith, fails, told_is))
 
   failed_done : (closed : Bool) → is_closed l.phase ≡ closed → status ≡ 69 → FailsUnless closed l w.dev w.pick status live → Done k w status buf new_buf next l
-  failed_done true open fails f = absurd (omega (arith, fails, f.0))
-  failed_done false open fails f = failed_if (makes_flush (now l) w.dev w.pick) refl f.places open fails (f.status_is ∙ told_as (makes_flush (now l) w.dev w.pick)) f.failed
+  failed_done true goes fails f = absurd (omega (arith, fails, f.0))
+  failed_done false goes fails f = failed_if (makes_flush (now l) w.dev w.pick) refl f.places goes fails (f.status_is ∙ told_as (makes_flush (now l) w.dev w.pick)) f.failed
 
 -- A step that `vmig_next` names owes no end of a write of a disk that is lost.
 no_end_by : (lost : Bool) (o : SyncOwed) (has : Bool) → (not (lost && is_end_owed o) && has) ≡ true → (if lost then o else Nothing) ≡ EndOfWrite → ⊥
@@ -114,35 +114,35 @@ can_found lost devices last (Some w) status dev pick is n told_is =
 can_found lost devices last None status dev pick is n told_is = absurd (omega (arith, n.0, told_is))
 
 can_unless : (closed : Bool) (lost : List Bool) (devices : List DeviceState) (last : Work) (dev pick : ℕ) → closed ≡ false → FindsUnless closed lost devices 78 dev last.dev pick last.pick → device_can_work (slice_index_or lost dev false) (slice_get devices dev) pick ≡ true
-can_unless true lost devices last dev pick open n = absurd (true≢false open)
-can_unless false lost devices last dev pick open n = can_found lost devices last (next_work_with_lost devices lost last) 78 dev pick refl n refl
+can_unless true lost devices last dev pick goes n = absurd (true≢false goes)
+can_unless false lost devices last dev pick goes n = can_found lost devices last (next_work_with_lost devices lost last) 78 dev pick refl n refl
 
 no_end : (k : KeptSeen) (t : Turn) (w : Work) (l : LiveSeen) → k.state ≡ Moving l → is_closed l.phase ≡ false → IsNamed k t 78 w → owed_lost k w.dev w.pick ≡ EndOfWrite → ⊥
-no_end k t w l is open named owes =
+no_end k t w l is goes named owes =
     let here : FindsUnless (is_closed l.phase) k.lost (state_of l.machine).devices 78 w.dev t.dev w.pick t.pick = rw is at named in
-    let can = can_unless (is_closed l.phase) k.lost (state_of l.machine).devices (record { dev = t.dev; pick = t.pick }) w.dev w.pick open here in
-    let there : owed_in k.state w.dev w.pick ≡ owed_for (slice_get (state_of l.machine).devices w.dev) w.pick = rw (is, open) refl in
+    let can = can_unless (is_closed l.phase) k.lost (state_of l.machine).devices (record { dev = t.dev; pick = t.pick }) w.dev w.pick goes here in
+    let there : owed_in k.state w.dev w.pick ≡ owed_for (slice_get (state_of l.machine).devices w.dev) w.pick = rw (is, goes) refl in
     no_end_of (is_lost k w.dev) (slice_get (state_of l.machine).devices w.dev) w.pick can (subst (λ (o : SyncOwed). (if is_lost k w.dev then o else Nothing) ≡ EndOfWrite) there owes)
 
 -- A step of a turn, by what it owes, and by the state that it leaves.
 done_in : (o : SyncOwed) (k next : KeptSeen) (l : LiveSeen) (w : Work) (s : State) (status number before : ℕ) (buf new_buf : List ℕ) → k.state ≡ Moving l → next.state ≡ s → is_closed l.phase ≡ false → next ≡ record k { state = next.state; written = next.written }
     → StepsOwing o (Moving l) k.written w.dev w.pick status number before buf new_buf s next.written → (o ≡ EndOfWrite → ⊥) → Done k w status buf new_buf next l
-done_in Nothing k next l w (Moving live) status number before buf new_buf is next_is open rest s no =
+done_in Nothing k next l w (Moving live) status number before buf new_buf is next_is goes rest s no =
     stepped_done k next l live w status number before buf new_buf is next_is rest (is_closed l.phase) (nat_lt (length buf) (most_sent_by l.machine w.dev w.pick)) refl s
-done_in Flush k next l w (Moving live) status number before buf new_buf is next_is open rest s no =
+done_in Flush k next l w (Moving live) status number before buf new_buf is next_is goes rest s no =
     failed_done k next l live w status number before buf new_buf is next_is rest (is_closed l.phase) refl s.status_is s.fails
-done_in EndOfWrite k next l w s status number before buf new_buf is next_is open rest owing no = absurd (no refl)
-done_in Nothing k next l w (Still m) status number before buf new_buf is next_is open rest s no = absurd s
-done_in Nothing k next l w (Arriving r) status number before buf new_buf is next_is open rest s no = absurd s
-done_in Nothing k next l w (Lent x) status number before buf new_buf is next_is open rest s no = absurd s
-done_in Flush k next l w (Still m) status number before buf new_buf is next_is open rest s no = absurd s.fails
-done_in Flush k next l w (Arriving r) status number before buf new_buf is next_is open rest s no = absurd s.fails
-done_in Flush k next l w (Lent x) status number before buf new_buf is next_is open rest s no = absurd s.fails
+done_in EndOfWrite k next l w s status number before buf new_buf is next_is goes rest owing no = absurd (no refl)
+done_in Nothing k next l w (Still m) status number before buf new_buf is next_is goes rest s no = absurd s
+done_in Nothing k next l w (Arriving r) status number before buf new_buf is next_is goes rest s no = absurd s
+done_in Nothing k next l w (Lent x) status number before buf new_buf is next_is goes rest s no = absurd s
+done_in Flush k next l w (Still m) status number before buf new_buf is next_is goes rest s no = absurd s.fails
+done_in Flush k next l w (Arriving r) status number before buf new_buf is next_is goes rest s no = absurd s.fails
+done_in Flush k next l w (Lent x) status number before buf new_buf is next_is goes rest s no = absurd s.fails
 
 step_done : (k next : KeptSeen) (t : Turn) (w : Work) (l : LiveSeen) (status number : ℕ) (buf new_buf : List ℕ) → k.state ≡ Moving l → Runs k.state → IsStep k t w status number buf new_buf next → Done k w status buf new_buf next l
 step_done k next t w l status number buf new_buf is runs s =
-    let open : is_closed l.phase ≡ false = (rw is at runs).1 in
-    done_in (owed_lost k w.dev w.pick) k next l w next.state status number t.len buf new_buf is refl open s.rest (rw is at s.made) (no_end k t w l is open s.named)
+    let goes : is_closed l.phase ≡ false = (rw is at runs).1 in
+    done_in (owed_lost k w.dev w.pick) k next l w next.state status number t.len buf new_buf is refl goes s.rest (rw is at s.made) (no_end k t w l is goes s.named)
 
 -- A step after which a turn goes on was not refused.
 either_by : (a b c d : Bool) (status : ℕ) → (status == 65) ≡ a → (status == 66) ≡ b → (status == 67) ≡ c → (status == 70) ≡ d → (e : Bool) → (a || b || c || (d && not e)) ≡ true → 64 ≤ status
@@ -238,9 +238,13 @@ sent_unless m taken pages h None k next t after status buf new_buf l o_is is sen
     let runs = runs_unless k.state t (length buf) (sym o_is) in
     let first = made_sent m taken pages h u.works k u.between t u.at buf u.mid_buf l is runs sent_is u.made in
     let last = end_sent m taken pages first.2.history (length u.works) u.between next u.at after first.0 status u.mid_buf new_buf first.1 (all_run k t u.works buf u.mid_buf u.between u.at runs u.made) first.2.is_sent u.ended in
-    let all = then_sent m taken pages h first.0 last.2.0 (map step_of u.works) (map step_of last.0) first.2 last.2.2 in
-    (u.works ++ last.0, last.2.0, by_steps k next t after status buf new_buf (u.works ++ last.0) None o_is (u, last.0, last.1, refl), last.2.1,
-     subst (λ (es : List Event). GoesOnSent m h taken es pages last.2.0) (sym (map-append step_of u.works last.0)) all)
+    let all = then_sent m taken pages h first.0 last.2.0 (map step_of u.works) (map step_of last.0) first.2 last.2.2 in (
+      u.works ++ last.0,
+      last.2.0,
+      by_steps k next t after status buf new_buf (u.works ++ last.0) None o_is (u, last.0, last.1, refl),
+      last.2.1,
+      subst (λ (es : List Event). GoesOnSent m h taken es pages last.2.0) (sym (map-append step_of u.works last.0)) all,
+    )
 
 pub turns_stay_sent : TurnsStaySent
 turns_stay_sent m h taken pages k next t after status buf new_buf l is sent_is turns = sent_unless m taken pages h (turn_refusal k.state t (length buf)) k next t after status buf new_buf l refl is sent_is turns

@@ -91,9 +91,7 @@ fn fits_mtu(longest: u16, frame: &[u8]) -> bool
     requires { FRAME_MIN ≤ length frame.now }
     ensures { result ≡ fits_mtu longest frame.now }
 {
-    longest <= FRAME_MAX
-        || frame.len() <= mtu_of(longest) as usize + FRAME_MIN
-        || is_tagged(frame)
+    longest <= FRAME_MAX || frame.len() <= mtu_of(longest) as usize + FRAME_MIN || is_tagged(frame)
 }
 
 /// Whether a VLAN tag follows the two addresses: 0x8100, or 0x88a8 of a service's VLAN (IEEE 802.1Q, 9.5).
