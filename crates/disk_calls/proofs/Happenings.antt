@@ -46,7 +46,7 @@ use Rattle.disk_calls.specs.Calls as out_calls
 use Rattle.disk_calls.specs.Calls.{AllCalls, CallsState, IsAt, IsHandedOut, is_out_of, with_out, without, without_at}
 use Rattle.disk_calls.specs.Desk.{Desk, Drop, End, Goes, Hand, Lose, Pass, Placed, Ran, Reply, Take, Turn, moved_up, outs_of, reply_to}
 use Rattle.disk_calls.specs.Handing.{asker, call_at}
-use Rattle.disk_calls.specs.Machines.{Answers, GoesTo, Happening, Happens, Hands, IsDesk, IsNoAnswer, KeepsRequests, MachinesMeetCalls, MakeAll, Makes, asked_of}
+use Rattle.disk_calls.specs.Machines.{Answers, GoesTo, Happening, Happens, Hands, IsDesk, Rests, IsNoAnswer, KeepsRequests, MachinesMeetCalls, MakeAll, Makes, asked_of}
 use Rattle.disk_calls.specs.declared.calls.Handed.{Handed}
 use Rattle.disk_calls.specs.declared.out.Out as outs
 use Rattle.disk_calls.proofs.Asking.{calls_are_met, is_same}
@@ -563,6 +563,9 @@ module _ (size base : ℕ) (m after : MachineState) (calls then : AllCalls) (dev
         let same = answered_elsewhere m after n dev given (asker (get_or (asked_of m) n []) h.0.call) h.3 other in
         stays size base d after then dev (with_calls after calls then dev size d (same_desk m after calls dev size d desk same) devices)
   ]
+  makes_turns Rests h =
+      let same : IsDesk after calls dev size d = same_desk m after calls dev size d desk (ap (λ (ds : List DeviceState). slice_get ds dev) h.0) in
+      stays size base d after then dev (with_calls after calls then dev size d same (ap (λ (c : AllCalls). slice_get c.devices dev) h.1))
 
 -- And so are all happenings.
 ran_append : (size base : ℕ) (d : Desk) (front back : List Turn) (mid new : Desk) → Ran size base d front mid → Ran size base mid back new → Ran size base d (front ++ back) new

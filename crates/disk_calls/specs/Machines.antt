@@ -44,6 +44,8 @@ pub data Happening : Type 0 where
   Hands : ℕ → Handed → Happening
   -- the disk answers the i-th call of a device that is out, whole or in part
   Answers : ℕ → ℕ → DiskAnswer → Happening
+  -- RAM and disks change in any way, as RAM does while it is lent, and no device does
+  Rests : Happening
 
 abbrev pub IsNoAnswer : events.Event → Type 0
 IsNoAnswer (Disk dev pick given) = ⊥
@@ -64,6 +66,7 @@ Makes m calls (Happens e) after then = (o : Outcome) × (r : Reply) × IsNoAnswe
 Makes m calls (Hands most handed) after then = (1 ≤ most) × IsHandedOut most calls (asked_of m) handed then × (after ≡ m)
 Makes m calls (Answers dev i given) after then =
     (out : Out) × IsAt calls.devices dev i out × (answers out.call (answer_of given) ≡ true) × GoesTo m dev given (asker (slice_index_or (asked_of m) dev []) out.call) after × (then ≡ without calls dev i)
+Makes m calls Rests after then = (after.devices ≡ m.devices) × (then ≡ calls)
 
 abbrev pub MakeAll : MachineState → AllCalls → List Happening → MachineState → AllCalls → Type 0
 MakeAll m calls [] after then = (after ≡ m) × (then ≡ calls)
