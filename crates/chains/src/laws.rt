@@ -1,6 +1,8 @@
 //! Laws of the definitions, each as a function whose contract it is. Calling one costs nothing, and gives a proof that
 //! contract.
 
+mod beside;
+
 ghost use Rattle.std.specs.Prelude.{◌≡◌, ℕ, List, length};
 ghost use Rattle.guestmem.specs.Memory.{Memory};
 ghost use Rattle.guestmem.specs.Later.{IsLater};
@@ -12,6 +14,8 @@ ghost use Rattle.chains.specs.Transmit.{MayWantMemory};
 ghost use Rattle.chains.specs.declared.chain.Chain.{Chain};
 ghost use Rattle.chains.specs.declared.next.Next.{Next};
 ghost use Rattle.chains.specs.declared.transmitting.MessageForm.{MessageForm};
+
+pub use beside::{looks_are_local, quiet_word_is_quiet, services_are_local, sights_are_local};
 
 /// A queue, of either layout, has at most one chain at its taking position.
 pub fn one_chain()
