@@ -8,3 +8,4 @@ pub mod Limits
 pub mod Runs
 pub mod Against
 pub mod Others
+pub mod Footprint

@@ -16,3 +16,4 @@ pub mod Outside
 pub mod Writing
 pub mod Parts
 pub mod Inside
+pub mod Footprint

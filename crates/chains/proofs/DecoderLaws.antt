@@ -19,7 +19,7 @@ little_same new old at i (suc n) same =
     let rest = little_same new old at (suc i) n (λ k below. same k (omega (arith, below))) in
     rw (first, rest) refl
 
-number_same : (new old : List ℕ) (at n : ℕ) → ((k : ℕ) → k < n → get_or new (at + k) 0 ≡ get_or old (at + k) 0) → number_at new at n ≡ number_at old at n
+pub number_same : (new old : List ℕ) (at n : ℕ) → ((k : ℕ) → k < n → get_or new (at + k) 0 ≡ get_or old (at + k) 0) → number_at new at n ≡ number_at old at n
 unfolding number_at
 number_same new old at n same = little_same new old at 0 n (λ k below. same k (omega (arith, below)))
 

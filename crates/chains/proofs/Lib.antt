@@ -12,3 +12,10 @@ pub mod PlaceLaws
 pub mod SplitLaws
 pub mod LookLaws
 pub mod ServedLaws
+pub mod FootprintLaws
+pub mod StepFootprint
+mod Known
+mod KnownParts
+pub mod PackedFootprint
+pub mod LookFootprint
+pub mod QuietWord

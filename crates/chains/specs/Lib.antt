@@ -18,3 +18,4 @@ pub mod Frame
 pub mod Look
 pub mod Service
 pub mod Served
+pub mod Footprint

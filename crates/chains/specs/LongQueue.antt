@@ -9,7 +9,7 @@ use Rattle.chains.specs.declared.limits.TheConstants.{SHORT_CHAIN_MAX}
 use Rattle.chains.specs.State.{RingState}
 use Rattle.chains.specs.Descriptor.{descriptor_at}
 use Rattle.chains.specs.Whole.{IsTable, ArePlain}
-use Rattle.chains.specs.SplitChain.{AreLinked, head}
+use Rattle.chains.specs.SplitChain.{AreLinked, head, waiting}
 use Rattle.chains.specs.PackedChain.{entries_from}
 use Rattle.chains.specs.Ring.{IsEmptyQueue}
 
@@ -67,9 +67,10 @@ pub record HasLongRow (IsRow : List Descriptor → Type 0) (size : ℕ) : Type 0
   pub long : SHORT_CHAIN_MAX < length row
   pub few : length row ≤ size
 
--- A long row is at the taking position of a split queue.
-abbrev pub IsLongSplit : List ℕ → RingState → Type 0
-IsLongSplit ram q = HasLongRow (IsSplitRow ram q) q.size
+-- A long row is at the taking position of a split queue. It has no more chains than slots: of one with more no descriptor is read.
+pub record IsLongSplit (ram : List ℕ) (q : RingState) : Type 0 where
+  pub available : waiting ram q ≤ q.size
+  pub has : HasLongRow (IsSplitRow ram q) q.size
 
 -- A long row is at the taking position of a packed queue.
 abbrev pub IsLongPacked : List ℕ → RingState → Type 0

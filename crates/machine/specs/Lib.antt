@@ -2,6 +2,7 @@ pub mod AnyRing
 pub mod Rings
 pub mod Applied
 pub mod AppliedLaws
+pub mod Beside
 pub mod Board
 pub mod Calls
 pub mod DeviceStep
@@ -11,7 +12,9 @@ pub mod Dropping
 pub mod Effect
 pub mod EffectLaws
 pub mod First
+pub mod Footprint
 pub mod Held
+pub mod Lacking
 pub mod Layout
 pub mod Limits
 pub mod Lines
@@ -34,5 +37,6 @@ pub mod State
 pub mod Step
 pub mod StepLaws
 pub mod Stepped
+pub mod Stored
 pub mod Turn
 pub mod Unsynced

@@ -3,9 +3,10 @@
 //! The flag WRITE of a used descriptor says whether bytes were written (VIRTIO 1.2, 2.8.3), so `publish` takes that beside the
 //! count.
 
-ghost use Rattle.std.specs.Prelude.{◌≡◌, ◌≤◌, ◌<◌, ◌+◌, ◌++◌, true, length, IsTrue, ◌↔◌};
+ghost use Rattle.std.specs.Prelude.{◌≡◌, ◌≤◌, ◌<◌, ◌+◌, ◌++◌, true, length, IsTrue, ◌↔◌, None};
 ghost use Rattle.guestmem.specs.Memory.{Memory};
 ghost use Rattle.chains.specs.Decoder.{Fits, empty_decoder};
+ghost use Rattle.chains.specs.Footprint.{Knows, look_pieces};
 ghost use Rattle.chains.specs.RingCore.{core_state};
 ghost use Rattle.chains.specs.State.{state_of, MayRing, HasAreas};
 ghost use Rattle.chains.specs.PackedChain.{IsAvailable};
@@ -18,7 +19,8 @@ use crate::table::find;
 use byteorder::{ByteOrder, LittleEndian};
 use chains::flags::{AVAIL, USED, WRITE};
 use chains::{
-    Chain, DESCRIPTOR_SIZE, Decoder, Descriptor, Next, NextKind, Positions, Ring, RingCore,
+    Chain, DESCRIPTOR_SIZE, Decoder, Descriptor, Next, NextKind, Piece, Positions, Ring, RingCore,
+    lacks_packed,
 };
 use guestmem::{NoMemory, Ram, TouchLog};
 use mmio::Queue;
@@ -113,6 +115,14 @@ impl PackedRing {
         ensures fits { (ram : Memory) → Fits self.new.decoder ram }
     {
         self.decoder.clear();
+    }
+
+    /// The first piece of RAM that a look lacks among those that are held, if it lacks one.
+    pub fn lacks(&self, ram: &Ram, held: &[Piece]) -> Option<Piece>
+        requires { HasAreas (length ram.now.bytes) self.now.state }
+        ensures { result ≡ None → Knows held.now ram.now.bytes (look_pieces ram.now.bytes self.now.state) }
+    {
+        lacks_packed(&self.core, ram, held)
     }
 
     /// Whether the driver asks for an interrupt for a chain of `slots` slots at the used position, by what it holds in

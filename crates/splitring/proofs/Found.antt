@@ -142,26 +142,30 @@ found_table ram q first last c new (Err Malformed) split available is b f = λ d
 found_table ram q first last c new (Err NoMemory) split available is b f =
     let size = length-append b.front f.behind.row in
     rw split (record {
-      row = b.front ++ f.behind.row;
-      is_row = inr (record {
-        front = b.front;
-        last = last;
-        inner = f.behind.row;
-        linked = rw is at b.linked;
-        plain = b.plain;
-        feature = f.feature;
-        named = b.named;
-        table = f.table;
-        in_row = f.behind.in_row;
-        parts = refl;
-      });
-      long = omega (arith, size, f.behind.long);
-      few = omega (arith, size, f.behind.few, b.few);
+      available = available;
+      has = record {
+        row = b.front ++ f.behind.row;
+        is_row = inr (record {
+          front = b.front;
+          last = last;
+          inner = f.behind.row;
+          linked = rw is at b.linked;
+          plain = b.plain;
+          feature = f.feature;
+          named = b.named;
+          table = f.table;
+          in_row = f.behind.in_row;
+          parts = refl;
+        });
+        long = omega (arith, size, f.behind.long);
+        few = omega (arith, size, f.behind.few, b.few);
+      };
     })
 
 -- Where the list breaks a rule, there is no chain; where memory was refused for it, a row is long.
-pub found_none : (ram : List ℕ) (q : RingState) (first : ℕ) (c new : Chain) (last : Descriptor) (why : NoChain) → q.is_packed ≡ false → first ≡ head ram q
+pub found_none : (ram : List ℕ) (q : RingState) (first : ℕ) (c new : Chain) (last : Descriptor) (why : NoChain) → q.is_packed ≡ false → waiting ram q ≤ q.size → first ≡ head ram q
     → WalkGives q.base ram (own_table q) first q.size [] c last (Err why) → ChainGives ram q new (Err why)
-found_none ram q first c new last Malformed split is none = λ d. rw split (λ s.
+found_none ram q first c new last Malformed split available is none = λ d. rw split (λ s.
     none s.direct s.all (rw is s.linked) (spelled_replaced q.base ram q.has_indirect s.direct s.all s.replaced) (omega (arith, s.whole.few)) (sound_whole q.base ram q.size s.all s.whole))
-found_none ram q first c new last NoMemory split is b = rw split (record { row = b.row; is_row = inl (rw is at b.in_row); long = omega (arith, b.long); few = omega (arith, b.few) })
+found_none ram q first c new last NoMemory split available is b =
+    rw split (record { available = available; has = record { row = b.row; is_row = inl (rw is at b.in_row); long = omega (arith, b.long); few = omega (arith, b.few) } })

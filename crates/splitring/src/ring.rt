@@ -1,8 +1,9 @@
 //! A split ring.
 
-ghost use Rattle.std.specs.Prelude.{◌≡◌, ◌+◌, ◌++◌, ◌≤◌, false, length};
+ghost use Rattle.std.specs.Prelude.{◌≡◌, ◌+◌, ◌++◌, ◌≤◌, false, length, None};
 ghost use Rattle.guestmem.specs.Memory.{Memory};
 ghost use Rattle.chains.specs.Decoder.{Fits, HasDecoded, empty_decoder};
+ghost use Rattle.chains.specs.Footprint.{Knows, look_pieces};
 ghost use Rattle.chains.specs.RingCore.{core_state};
 ghost use Rattle.chains.specs.State.{state_of, MayRing, HasAreas};
 ghost use Rattle.chains.specs.SplitChain.{available_index};
@@ -12,7 +13,9 @@ ghost use Rattle.byteorder.specs.Endian.{little_bytes};
 use crate::slot::slot_of;
 use crate::table::find;
 use byteorder::{ByteOrder, LittleEndian};
-use chains::{Chain, Decoder, Next, NextKind, NoChain, Positions, Ring, RingCore};
+use chains::{
+    Chain, Decoder, Next, NextKind, NoChain, Piece, Positions, Ring, RingCore, lacks_split,
+};
 use guestmem::{NoMemory, Ram, TouchLog};
 use mmio::Queue;
 use std::alloc::Global;
@@ -116,6 +119,14 @@ impl SplitRing {
         ensures fits { (ram : Memory) → Fits self.new.decoder ram }
     {
         self.decoder.clear();
+    }
+
+    /// The first piece of RAM that a look lacks among those that are held, if it lacks one.
+    pub fn lacks(&self, ram: &Ram, held: &[Piece]) -> Option<Piece>
+        requires { HasAreas (length ram.now.bytes) self.now.state }
+        ensures { result ≡ None → Knows held.now ram.now.bytes (look_pieces ram.now.bytes self.now.state) }
+    {
+        lacks_split(&self.core, ram, held)
     }
 
     /// Fills in the chain at the taking position, if there is one. `available` is the driver's index, which is not that

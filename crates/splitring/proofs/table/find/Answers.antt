@@ -9,7 +9,7 @@ pub returns-in_err-is_named-clause-gives : goal.returns-in_err-is_named-clause-g
 returns-in_err-is_named-clause-gives c =
     let why = err_from_is_err_and c.from_residual.result c.from_residual.ensures.1 in
     let none = c.in_err-is_named.ensures.gives [] (held_none _ _ _ c.clear.ensures c.clear-2.ensures) in
-    rw (why.1, why.2) (found_none _ (core_state false c.args.core.now) c.args.first c.walk.new.chain c.walk.new.chain c.walk.new.last _ refl c.requires.head none)
+    rw (why.1, why.2) (found_none _ (core_state false c.args.core.now) c.args.first c.walk.new.chain c.walk.new.chain c.walk.new.last _ refl c.requires.available c.requires.head none)
 
 pub returns-then-is_named-clause-gives : goal.returns-then-is_named-clause-gives
 returns-then-is_named-clause-gives c =

@@ -1,0 +1,8 @@
+use Rattle.machine.proofs.Beside.{beside_step, written_there}
+use Rattle.machine.proofs.laws.beside.beside_is_step.Goals as goal
+
+pub returns-clause-written : goal.returns-clause-written
+returns-clause-written c = written_there
+
+pub returns-clause-step : goal.returns-clause-step
+returns-clause-step c = beside_step
