@@ -17,11 +17,12 @@ use Rattle.mmio.specs.State.{Registers, with_common}
 use Rattle.mmio.specs.Interrupts.{used_raised}
 use Rattle.blk.specs.Sectors.{AreWhole, Sector}
 use Rattle.chains.specs.Footprint.{AgreeOn}
+use Rattle.chains.specs.declared.lacking.Piece.{Piece}
 use Rattle.chains.specs.declared.next.Next.{Next}
-use Rattle.machine.specs.Applied.{IsApplied, as_given, bad_on}
-use Rattle.machine.specs.Beside.{AppliedIsLocal, AppliedWordIsLast, BesideIsStep, EffectsAreLocal, HeldIsBeside, IsMadeOver, IsStepOf, window_memory, IsWritten, QuietIsOpen, WordIsLast, WrittenIsThere, written_with, publishing_of, interrupted, interrupting, raised_in, seen_raised, with_interrupt, with_memory, with_ram}
+use Rattle.machine.specs.Applied.{IsApplied, IsAppliedLogged, as_given, bad_on}
+use Rattle.machine.specs.Beside.{AppliedIsLocal, AppliedWordIsLast, BesideIsStep, EffectsAreLocal, HeldIsBeside, IsLoggedOver, IsStepOf, OpenIsStep, ended, KnowsReads, KnowsWord, window_memory, IsWritten, QuietIsOpen, WordIsLast, WrittenIsThere, written_with, publishing_of, interrupted, interrupting, raised_in, seen_raised, with_interrupt, with_memory, with_ram}
 use Rattle.machine.specs.DeviceStep.{DeviceAnswer, device_step}
-use Rattle.machine.specs.Effect.{Effect, Replacement, applied, replaced_in, sets_on}
+use Rattle.machine.specs.Effect.{Effect, Replacement, applied, items_of, replaced_in, sets_on}
 use Rattle.region.specs.declared.region.Region.{Region}
 use Rattle.machine.specs.Parked.{IsParked, ParkedSeen, back_with}
 use Rattle.machine.specs.Footprint.{Publishing, asks_at, has_published, publishing, asks_by, asks_interrupt, device_word, raised, raised_if, reads_of, step_asks, step_reads, step_word, word_by}
@@ -419,24 +420,92 @@ written_there old new dev pick reply h ram versions = record {
   };
 }
 
+-- It writes the same items.
+by_items : (old new : Seen) (dev pick : ℕ) (reply : Reply) (h : IsApplied old (Step dev pick) reply new) (ram after : Memory)
+    (has : HasEffect (with_ram (as_given (state_of old) (Step dev pick) h.given) ram.bytes) (Step dev pick) (outcome_of reply) reply h.effect)
+    (bytes : IsBytes ram.bytes) (same : length old.memory.bytes ≡ length ram.bytes) (written : IsWritten h.effect ram after) → items_of (applied_by old new dev pick reply h ram after has bytes same written).effect ≡ items_of h.effect
+unfolding applied_by
+by_items old new dev pick reply h ram after has bytes same written = refl
+
+held_items : (p next : ParkedSeen) (window after : Memory) (held : List Piece) (dev pick : ℕ) (reply : Reply) (h : IsApplied (back_with p window) (Step dev pick) reply (back_with next after))
+    (reads : KnowsReads held (state_of (back_with p window)) dev pick) (word : KnowsWord held (state_of (back_with p window)) dev pick) (ram written : Memory) (bytes : IsBytes ram.bytes) (same : length window.bytes ≡ length ram.bytes)
+    (agree : AgreeOn window.bytes ram.bytes held) (is : IsWritten h.effect ram written) → items_of (held_beside p next window after held dev pick reply h reads word ram written bytes same agree is).effect ≡ items_of h.effect
+unfolding held_beside applied_local
+held_items p next window after held dev pick reply h reads word ram written bytes same agree is = by_items (back_with p window) (back_with next after) dev pick reply h ram written _ bytes same is
+
+raised_items : (old new : Seen) (dev pick : ℕ) (reply : Reply) (h : IsApplied old (Step dev pick) reply new) (ram after : Memory) (r : Replacement) (got : Option DeviceSeen)
+    (there : slice_get new.devices dev ≡ got) (replaced : h.effect.replaced ≡ Some r) (number : dev ≡ r.number) (device : slice_get (map (λ (x : DeviceSeen). x.state) new.devices) dev ≡ Some r.device)
+    (has : HasEffect (with_ram (as_given (state_of old) (Step dev pick) h.given) ram.bytes) (Step dev pick) (outcome_of reply) reply (with_interrupt true h.effect))
+    (bytes : IsBytes ram.bytes) (same : length old.memory.bytes ≡ length ram.bytes) (written : IsWritten h.effect ram after)
+    → items_of (raised_at old new dev pick reply h ram after r got there replaced number device has bytes same written).effect ≡ items_of h.effect
+unfolding raised_at applied_raised
+raised_items old new dev pick reply h ram after r None there replaced number device has bytes same written =
+    let none = map_none (λ (x : DeviceSeen). x.state) new.devices dev there in
+    let bad : None ≡ Some r.device = sym none ∙ device in
+    cc
+raised_items old new dev pick reply h ram after r (Some d) there replaced number device has bytes same written = refl
+
+last_items : (due : Bool) (old new : Seen) (dev pick : ℕ) (reply : Reply) (h : IsApplied old (Step dev pick) reply new) (ram after : Memory)
+    (is : asks_by (slice_get (state_of old).devices dev) pick h.has.seen reply after.bytes ≡ due)
+    (has : HasEffect (with_ram (as_given (state_of old) (Step dev pick) h.given) ram.bytes) (Step dev pick) (outcome_of reply) reply (with_interrupt due h.effect))
+    (bytes : IsBytes ram.bytes) (same : length old.memory.bytes ≡ length ram.bytes) (written : IsWritten h.effect ram after)
+    → items_of (last_by due old new dev pick reply h ram after is has bytes same written).effect ≡ items_of h.effect
+unfolding last_by
+last_items false old new dev pick reply h ram after is has bytes same written = by_items old new dev pick reply h ram after _ bytes same written
+last_items true old new dev pick reply h ram after is has bytes same written = raised_items old new dev pick reply h ram after _ (slice_get new.devices dev) refl _ _ _ has bytes same written
+
+open_items : (old new : Seen) (dev pick : ℕ) (reply : Reply) (h : IsApplied old (Step dev pick) reply new) (ram after : Memory) (bytes : IsBytes ram.bytes) (same : length old.memory.bytes ≡ length ram.bytes)
+    (reads : AgreeOn old.memory.bytes ram.bytes (step_reads (state_of old) dev pick (outcome_of reply) h.has.seen))
+    (quiet : step_asks (state_of old) dev pick h.has.seen reply (set_all old.memory.bytes h.effect.writes) ≡ false) (written : IsWritten h.effect ram after)
+    → items_of (applied_last old new dev pick reply h ram after bytes same reads quiet written).effect ≡ items_of h.effect
+unfolding applied_last
+open_items old new dev pick reply h ram after bytes same reads quiet written = last_items _ old new dev pick reply h ram after refl _ bytes same written
+
+-- The machine that was lent made it.
+step_of : (m : Seen) (p q : ParkedSeen) (dev pick : ℕ) (reply : Reply) (f : Effect) (x : Memory) → m.devices ≡ p.devices → (a : IsApplied (back_with p m.memory) (Step dev pick) reply (back_with q x)) → items_of a.effect ≡ items_of f
+    → x.bytes ≡ set_all m.memory.bytes f.writes → x.versions ≡ q.versions → IsStepOf m dev pick reply f q
+step_of m p q dev pick reply f x devices a items bytes versions =
+    let P : List DeviceSeen → Type 0 = λ ds. (b : IsApplied (record { memory = m.memory; devices = ds }) (Step dev pick) reply (back_with q x)) × (items_of b.effect ≡ items_of f) in
+    let both = subst P (sym devices) (a, items) in
+    record { after = back_with q x; applied = both.0; items = both.1; bytes = bytes; versions = versions; devices = refl }
+
 pub beside_step : BesideIsStep
 beside_step m p next window after held dev pick reply h bytes devices versions left same agree reads word =
     let ram = m.memory in
-    let made = held_beside p next window after held dev pick reply h reads word ram (written_with ram h.effect after.versions) bytes same agree (written_there (back_with p window) (back_with next after) dev pick reply h ram versions) in
-    record {
-      after = back_with next (written_with ram h.effect after.versions);
-      applied = subst (λ (ds : List DeviceSeen). IsApplied (record { memory = ram; devices = ds }) (Step dev pick) reply (back_with next (written_with ram h.effect after.versions))) (sym devices) made;
-      bytes = refl;
-      versions = left;
-      devices = refl;
-    }
+    let there = written_there (back_with p window) (back_with next after) dev pick reply h ram versions in
+    let x = written_with ram h.effect after.versions in
+    step_of m p next dev pick reply h.effect x devices (held_beside p next window after held dev pick reply h reads word ram x bytes same agree there)
+    (held_items p next window after held dev pick reply h reads word ram x bytes same agree there) refl left
 
--- A step that was made with a window.
-pub made_over : (p : ParkedSeen) (window left : Region) (dev pick : ℕ) (reply : Reply) (next : ParkedSeen) (old new : Seen) → old ≡ back_with p (window_memory p window) → IsApplied old (Step dev pick) reply new → IsParked new left next → IsMadeOver p window dev pick reply left next
-made_over p window left dev pick reply next old new is applied parked =
-    let here = subst (λ (m : Seen). IsApplied m (Step dev pick) reply new) is applied in
-    record {
-      after = new.memory;
-      applied = subst (λ (ds : List DeviceSeen). IsApplied (back_with p (window_memory p window)) (Step dev pick) reply (record { memory = new.memory; devices = ds })) (sym parked.devices_are) here;
-      lent = parked.lent;
-    }
+interrupted_back : (due : Bool) (dev : ℕ) (q : ParkedSeen) (x : Memory) → interrupted due dev (back_with q x) ≡ back_with (ended due dev q) x
+interrupted_back true dev q x = refl
+interrupted_back false dev q x = refl
+
+ended_versions : (due : Bool) (dev : ℕ) (q : ParkedSeen) → (ended due dev q).versions ≡ q.versions
+ended_versions true dev q = refl
+ended_versions false dev q = refl
+
+pub open_step : OpenIsStep
+open_step m p next window after held dev pick reply h bytes devices versions left same agree reads quiet =
+    let ram = m.memory in
+    let old = back_with p window in
+    let found = slice_get (state_of old).devices dev in
+    let there = written_there old (back_with next after) dev pick reply h ram versions in
+    let x = written_with ram h.effect after.versions in
+    let off : asks_by found pick h.has.seen reply (set_all window.bytes h.effect.writes) ≡ false = ap (asks_by found pick h.has.seen reply) (sym h.ram) ∙ sym (asks_same found pick h.has.seen reply after.bytes) ∙ quiet in
+    let due = asks_by found pick h.has.seen reply x.bytes in
+    let known = reads (outcome_of reply) h.has.seen h.has.may_see ram.bytes agree in
+    let last = applied_last old (back_with next after) dev pick reply h ram x bytes same known off there in
+    let P : Seen → Type 0 = λ s. (b : IsApplied (back_with p ram) (Step dev pick) reply s) × (items_of b.effect ≡ items_of h.effect) in
+    let both = subst P (interrupted_back due dev next x) (last, open_items old (back_with next after) dev pick reply h ram x bytes same known off there) in
+    subst (λ (d : Bool). IsStepOf m dev pick reply h.effect (ended d dev next)) (sym (asks_same found pick h.has.seen reply x.bytes))
+    (step_of m p (ended due dev next) dev pick reply h.effect x devices both.0 both.1 refl (left ∙ sym (ended_versions due dev next)))
+
+-- A step that was made with a window, and a log.
+pub logged_over : {L : Type 0} (taking : L → Item → L) (p : ParkedSeen) (window left : Region) (dev pick : ℕ) (reply : Reply) (next : ParkedSeen) (old new : Seen) (log mid new_log : L) → old ≡ back_with p (window_memory p window) → mid ≡ log
+    → IsAppliedLogged taking old mid (Step dev pick) reply new new_log → IsParked new left next → IsLoggedOver taking p window log dev pick reply left next new_log
+logged_over {L} taking p window left dev pick reply next old new log mid new_log is same applied parked =
+    let here = subst (λ (x : L). IsAppliedLogged taking old x (Step dev pick) reply new new_log) same applied in
+    let there = subst (λ (m : Seen). IsAppliedLogged taking m log (Step dev pick) reply new new_log) is here in
+    let last = subst (λ (ds : List DeviceSeen). IsAppliedLogged taking (back_with p (window_memory p window)) log (Step dev pick) reply (record { memory = new.memory; devices = ds }) new_log) (sym parked.devices_are) there in
+    record { made = record { after = new.memory; applied = last.is_applied; lent = parked.lent }; logged = last.logged }

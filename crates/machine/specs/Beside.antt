@@ -2,6 +2,7 @@
 use Rattle.std.specs.Prelude.{◌≡◌, ℕ, Bool, false, List, [], length, Option, Some, None, slice_get, slice_set, if◌then◌else◌}
 use Rattle.region.specs.Address.{address}
 use Rattle.region.specs.declared.region.Region.{Region}
+use Rattle.guestmem.specs.Item.{Item, after_all}
 use Rattle.guestmem.specs.Later.{IsLater}
 use Rattle.guestmem.specs.Lent.{IsLent, given_back}
 use Rattle.guestmem.specs.Memory.{Memory}
@@ -131,6 +132,7 @@ WrittenIsThere = (old new : Seen) (dev pick : ℕ) (reply : Reply) (h : IsApplie
 pub record IsStepOf (m : Seen) (dev pick : ℕ) (reply : Reply) (effect : Effect) (next : ParkedSeen) : Type 0 where
   pub after : Seen
   pub applied : IsApplied m (Step dev pick) reply after
+  pub items : items_of applied.effect ≡ items_of effect
   pub bytes : after.memory.bytes ≡ set_all m.memory.bytes effect.writes
   pub versions : after.memory.versions ≡ next.versions
   pub devices : after.devices ≡ next.devices
@@ -139,6 +141,17 @@ abbrev pub BesideIsStep : Type 0
 BesideIsStep = (m : Seen) (p next : ParkedSeen) (window after : Memory) (held : List Piece) (dev pick : ℕ) (reply : Reply) (h : IsApplied (back_with p window) (Step dev pick) reply (back_with next after))
     → IsBytes m.memory.bytes → m.devices ≡ p.devices → m.memory.versions ≡ window.versions → after.versions ≡ next.versions → length window.bytes ≡ length m.memory.bytes → AgreeOn window.bytes m.memory.bytes held
     → KnowsReads held (state_of (back_with p window)) dev pick → KnowsWord held (state_of (back_with p window)) dev pick → IsStepOf m dev pick reply h.effect next
+
+-- A machine whose RAM is lent, once its open step is ended.
+abbrev pub ended : Bool → ℕ → ParkedSeen → ParkedSeen
+ended due dev p = if due then record p { devices = raised_in p.devices dev (slice_get p.devices dev) } else p
+
+-- The same of a step that is open: the word is that of RAM, once what the step writes is there.
+abbrev pub OpenIsStep : Type 0
+OpenIsStep = (m : Seen) (p next : ParkedSeen) (window after : Memory) (held : List Piece) (dev pick : ℕ) (reply : Reply) (h : IsApplied (back_with p window) (Step dev pick) reply (back_with next after))
+    → IsBytes m.memory.bytes → m.devices ≡ p.devices → m.memory.versions ≡ window.versions → after.versions ≡ next.versions → length window.bytes ≡ length m.memory.bytes → AgreeOn window.bytes m.memory.bytes held
+    → KnowsReads held (state_of (back_with p window)) dev pick → asks_at (step_publishing (state_of (back_with p window)) dev pick h.has.seen reply) after.bytes ≡ false
+    → IsStepOf m dev pick reply h.effect (ended (asks_at (step_publishing (state_of (back_with p window)) dev pick h.has.seen reply) (set_all m.memory.bytes h.effect.writes)) dev next)
 
 -- The memory of a machine over a window.
 abbrev pub window_memory : ParkedSeen → Region → Memory
@@ -149,3 +162,8 @@ pub record IsMadeOver (p : ParkedSeen) (window : Region) (dev pick : ℕ) (reply
   pub after : Memory
   pub applied : IsApplied (back_with p (window_memory p window)) (Step dev pick) reply (back_with next after)
   pub lent : IsLent after left next.versions
+
+-- The same, and a log was told exactly what the step writes into.
+pub record IsLoggedOver {L : Type 0} (taking : L → Item → L) (p : ParkedSeen) (window : Region) (log : L) (dev pick : ℕ) (reply : Reply) (left : Region) (next : ParkedSeen) (new_log : L) : Type 0 where
+  pub made : IsMadeOver p window dev pick reply left next
+  pub logged : new_log ≡ after_all taking log (items_of made.applied.effect)

@@ -19,3 +19,4 @@ pub mod Unsynced
 pub mod ParkedCalls
 pub mod Marks
 pub mod Guests
+pub mod Beside

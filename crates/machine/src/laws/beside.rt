@@ -22,7 +22,7 @@ pub fn device_steps_are_local()
         → device_step d m content pick o seen ≡ raised_if (asks_interrupt d pick seen (device_step d w content pick o seen).reply (set_all m (device_step d w content pick o seen).writes)) (device_step d w content pick o seen) }
 {}
 
-ghost use Rattle.machine.specs.Beside.{AppliedIsLocal, AppliedWordIsLast, BesideIsStep, EffectsAreLocal, HeldIsBeside, QuietIsOpen, WordIsLast, WrittenIsThere};
+ghost use Rattle.machine.specs.Beside.{AppliedIsLocal, AppliedWordIsLast, BesideIsStep, EffectsAreLocal, HeldIsBeside, OpenIsStep, QuietIsOpen, WordIsLast, WrittenIsThere};
 
 /// So of the steps of a machine.
 pub fn effects_are_local()
@@ -47,6 +47,7 @@ pub fn held_is_beside()
 pub fn beside_is_step()
     ensures written { WrittenIsThere }
     ensures step { BesideIsStep }
+    ensures ended { OpenIsStep }
 {}
 
 ghost use Rattle.guestmem.specs.Writes.{Write};

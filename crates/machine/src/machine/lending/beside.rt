@@ -7,7 +7,7 @@
 ghost use Rattle.std.specs.Prelude.{◌≡◌, ◌*◌, length};
 ghost use Rattle.guestmem.specs.declared.limits.TheConstants.{PAGE_SIZE};
 ghost use Rattle.machine.specs.Applied.{MayItems};
-ghost use Rattle.machine.specs.Beside.{IsMadeOver, window_memory};
+ghost use Rattle.machine.specs.Beside.{IsLoggedOver, window_memory};
 ghost use Rattle.machine.specs.Parked.{back_with};
 ghost use Rattle.machine.specs.Seen.{state_of};
 ghost use Rattle.machine.specs.Stepped.{reply_in};
@@ -31,7 +31,7 @@ impl<D: Disk> Parked<D> {
     ) -> (Stepped, Region, Parked<D>)
         requires size { length window.content ≡ PAGE_SIZE * length self.versions }
         requires may { MayItems L.may log.old (state_of (back_with self (window_memory self window))) }
-        ensures { IsMadeOver self window dev pick (reply_in result.0 sent.new.items) result.1 result.2 }
+        ensures { IsLoggedOver L.after self window log.old dev pick (reply_in result.0 sent.new.items) result.1 result.2 log.new }
     {
         let mut machine = self.give_back(window, &[], log);
         let stepped = machine.step_into_logged(dev, pick, sent, log);
