@@ -1,4 +1,4 @@
--- A block device reads no byte outside of its pieces.
+-- A block device reads no byte of a chain outside of its pieces.
 use Rattle.std.specs.Prelude.{◌≡◌, ℕ, zero, suc, ◌+◌, ◌*◌, ◌≤◌, List, [], ◌∷◌, ◌++◌, take, drop, length, slice_get, Bool, true, false, not, Option, Some, None, refl, if◌then◌else◌}
 use Rattle.std.proofs.Common.{ap, sym, ◌∙◌, arith, cond}
 use Rattle.std.proofs.lemmas.List.{drop-take}

@@ -1,4 +1,4 @@
--- Which bytes of RAM the steps of a block device read.
+-- Which bytes of RAM the steps of a block device read, beside those of the look and the driver's word about interrupts.
 use Rattle.std.specs.Prelude.{ℕ, ◌+◌, ◌*◌, List, [], Option, Some, None, take, drop, if◌then◌else◌}
 use Rattle.chains.specs.Footprint.{place_pieces}
 use Rattle.chains.specs.Places.{places}
@@ -15,12 +15,12 @@ use Rattle.blk.specs.declared.request.TheConstants.{HEADER_SIZE, SEGMENT_SIZE}
 abbrev pub taken_pieces : ℕ → Chain → List Piece
 taken_pieces base c = place_pieces base (take (HEADER_SIZE + SEGMENT_SIZE) (places c.readable))
 
--- Of one unit of a request: the bytes that a write writes next.
+-- Of one unit of a request: the bytes of the sector that a write writes next.
 abbrev pub unit_pieces : Kind → ℕ → Request → List Piece
 unit_pieces kind.Out base r = place_pieces base (take SECTOR_SIZE (drop (HEADER_SIZE + SECTOR_SIZE * r.done) (places r.readable)))
 unit_pieces _ base r = []
 
--- Of a request that advances. One that ends reads its chain no more.
+-- Of a request that advances. One that ends reads no byte of its chain.
 abbrev pub advance_pieces : ℕ → Option Request → List Piece
 advance_pieces base None = []
 advance_pieces base (Some r) = if is_open r then unit_pieces r.kind base r else []

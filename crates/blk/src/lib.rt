@@ -35,6 +35,7 @@
 //!   `disk_did` and `disk_failed` are `answer_step` (`specs/Outside`), and say whether the request awaited the answer. They call no disk and
 //!   take no memory. `Block::written_bytes` hands out what a write will write. `Block::advance_outside` advances a request that does not wait
 //!   for its disk. A run of sectors is its parts (`specs/Parts`), and outside is inside (`specs/Inside`): laws of `src/laws.rt`.
+//! - `Block::lacks` says which piece of RAM the next step of a request still lacks, where only some pieces are held (`specs/Footprint`).
 //! - `Block::has_sound_requests` tests what every outstanding request keeps in a RAM with this base, for requests that come from
 //!   elsewhere.
 //! - `Disk::sectors` is called where a disk comes in, and once with each write.
@@ -54,6 +55,7 @@ mod durable;
 mod fault_disk;
 mod file_disk;
 mod flushing;
+mod lacking;
 mod laws;
 mod mem_disk;
 mod moving;

@@ -12,10 +12,10 @@ pub mod PlaceLaws
 pub mod SplitLaws
 pub mod LookLaws
 pub mod ServedLaws
-pub mod FootprintLaws
-pub mod StepFootprint
-mod Known
-mod KnownParts
+pub mod SplitFootprint
 pub mod PackedFootprint
 pub mod LookFootprint
+pub mod ServiceFootprint
 pub mod QuietWord
+mod Known
+mod KnownParts

@@ -25,7 +25,7 @@ use Rattle.chains.specs.Served.{MayRefuse}
 use Rattle.chains.specs.Transmit.{MayWantMemory}
 use Rattle.chains.specs.Footprint.{AgreeAt, AgreeOn, chain_pieces, entry_piece, is_available, list_pieces, look_pieces, names_table, no_piece, packed_pieces, place_pieces, slot_pieces, split_pieces, table_pieces, whole_table}
 use Rattle.chains.proofs.ChainLaws.{length_entries}
-use Rattle.chains.proofs.FootprintLaws.{behind_local, chain_read, descriptor_local, empty_local, head_local, if_true, if_false, index_local, linked_local, names_true, pieces_same, split_answers_local, turned}
+use Rattle.chains.proofs.SplitFootprint.{behind_local, chain_read, descriptor_local, empty_local, head_local, if_true, if_false, index_local, linked_local, names_true, pieces_same, split_answers_local, turned}
 use Rattle.chains.proofs.PackedFootprint.{available_true, entries_local, packed_answers_local, packed_descriptor_local, packed_pieces_same}
 
 -- A list of pieces that goes on behind another.

@@ -15,7 +15,7 @@ use Rattle.chains.specs.PackedChain.{AreConsecutive, IsAvailable, IsPackedChain,
 use Rattle.chains.specs.Footprint.{AgreeAt, AgreeOn, entry_piece, is_available, names_table, packed_pieces, slot_pieces, whole_table}
 use Rattle.chains.proofs.DecoderLaws.{number_same}
 use Rattle.chains.proofs.ChainLaws.{length_entries}
-use Rattle.chains.proofs.FootprintLaws.{by_test, if_true, if_false, names_true, turned}
+use Rattle.chains.proofs.SplitFootprint.{by_test, if_true, if_false, names_true, turned}
 use Rattle.chains.specs.SplitChain.{IsSplitChain, IsSplitEmpty}
 use Rattle.chains.specs.Ring.{Answers}
 use Rattle.chains.specs.declared.next.Next.{Next}

@@ -53,8 +53,8 @@ pub struct Words {
     pub second: u64,
 }
 
-/// Reads the bytes of a descriptor. This is the one function that reads descriptors from RAM, and only a `Decoder` calls it, once,
-/// where it counts.
+/// Reads the bytes of a descriptor. This is the one function that reads descriptors from RAM. A ring's look calls it once, in its
+/// `Decoder`, where it counts; `lacking` calls it of what is held.
 #[inline(always)]
 pub(crate) fn words_at(ram: &Ram, index: u64) -> Words
     requires inside { index + DESCRIPTOR_SIZE ≤ length ram.now.bytes }

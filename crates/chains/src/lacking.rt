@@ -1,13 +1,14 @@
-//! What a look at a queue still lacks, in a RAM of which only some pieces are known.
+//! Which piece of RAM a look at a queue still lacks, where only some pieces are held.
 //!
-//! A host whose guest runs copies bytes of the guest's memory into the RAM that a step is made over, in the order in which they are
-//! asked for here. The look reads what is held, and nothing else.
+//! A host whose guest runs copies pieces of the guest's memory into the RAM that a step is made over, one by one, as they are asked for here.
+//! The order is the rule: the driver's index, or the flags of a descriptor, is copied before what it hands over. These functions read what is
+//! held, and nothing else, and take no memory. What they return is a piece inside RAM; `None` says that the look reads no byte beside
+//! those that are held.
 
-ghost use Rattle.std.specs.Prelude.{◌≡◌, ◌+◌, ◌*◌, ◌≤◌, List, ℕ, length, false, true, ◌<◌, ◌-◌, IsTrue, None, drop, min, take};
-ghost use Rattle.chains.specs.Footprint.{place_pieces};
-ghost use Rattle.chains.specs.Places.{AreSegmentsInside, places};
+ghost use Rattle.std.specs.Prelude.{◌≡◌, ◌+◌, ◌-◌, ◌*◌, ◌<◌, ◌≤◌, List, ℕ, IsTrue, None, drop, false, length, min, take, true};
 ghost use Rattle.guestmem.specs.Address.{IsWithin, index_of};
-ghost use Rattle.chains.specs.Footprint.{AgreeAt, Knows, KnowsPiece, SlotsKnow, WalkKnows, chain_pieces, is_available, packed_pieces, slot_pieces, split_pieces, table_pieces, whole_table};
+ghost use Rattle.chains.specs.Footprint.{AgreeAt, Knows, KnowsPiece, SlotsKnow, WalkKnows, chain_pieces, is_available, packed_pieces, place_pieces, slot_pieces, split_pieces, table_pieces, whole_table};
+ghost use Rattle.chains.specs.Places.{AreSegmentsInside, places};
 ghost use Rattle.chains.specs.RingCore.{core_state};
 ghost use Rattle.chains.specs.State.{HasAreas};
 
@@ -16,7 +17,7 @@ use crate::ring_core::RingCore;
 use crate::segs::Seg;
 use guestmem::Ram;
 
-/// `count` bytes of RAM, from an index on.
+/// A piece of RAM: `count` bytes, from an index on.
 #[derive(Clone, Copy, Debug, PartialEq, Eq)]
 pub struct Piece {
     /// The index in RAM of the first byte.
@@ -64,7 +65,7 @@ pub enum Walked {
     /// The list ends with this descriptor.
     Ends(Descriptor),
 
-    /// It has no end: an index lies past the table, or there are more descriptors than there is room for.
+    /// It breaks a rule: an index lies past the table, or there are more descriptors than there is room for.
     Breaks,
 }
 
@@ -118,7 +119,7 @@ pub fn lacks_split(core: &RingCore, ram: &Ram, held: &[Piece]) -> Option<Piece>
     lacks_chain(core, ram, held)
 }
 
-/// The same of the chain at the taking position.
+/// The first piece that is lacking of the chain at the taking position of a split queue.
 fn lacks_chain(core: &RingCore, ram: &Ram, held: &[Piece]) -> Option<Piece>
     requires areas { HasAreas (length ram.now.bytes) (core_state false core.now) }
     ensures { result ≡ None → Knows held.now ram.now.bytes (chain_pieces ram.now.bytes (core_state false core.now)) }
@@ -147,7 +148,7 @@ fn lacks_chain(core: &RingCore, ram: &Ram, held: &[Piece]) -> Option<Piece>
     }
 }
 
-/// The same of the table that the last descriptor of a list names, if it names one.
+/// The first piece that is lacking of the table that the last descriptor of a list names, if it names one.
 fn lacks_table(core: &RingCore, ram: &Ram, held: &[Piece], last: Descriptor) -> Option<Piece>
     ensures { result ≡ None → Knows held.now ram.now.bytes (table_pieces ram.now.bytes (core_state false core.now) last) }
 {
@@ -162,7 +163,7 @@ fn lacks_table(core: &RingCore, ram: &Ram, held: &[Piece], last: Descriptor) -> 
     }
 }
 
-/// Walks the descriptors of consecutive slots of a packed ring, from the taking position on, over what is held.
+/// Walks the descriptors in consecutive slots of a packed ring, from the taking position on, over what is held.
 fn walk_slots(core: &RingCore, ram: &Ram, held: &[Piece]) -> Walked
     requires areas { HasAreas (length ram.now.bytes) (core_state true core.now) }
     requires slot { core.now.taking.place < core.now.size }
@@ -219,7 +220,7 @@ fn is_available_at(descriptor: &Descriptor, wrap: bool) -> bool
     }
 }
 
-/// The same of the chain at the taking position.
+/// The first piece that is lacking of the chain at the taking position of a packed queue.
 fn lacks_slots(core: &RingCore, ram: &Ram, held: &[Piece]) -> Option<Piece>
     requires areas { HasAreas (length ram.now.bytes) (core_state true core.now) }
     requires slot { core.now.taking.place < core.now.size }
@@ -232,7 +233,7 @@ fn lacks_slots(core: &RingCore, ram: &Ram, held: &[Piece]) -> Option<Piece>
     }
 }
 
-/// The same of the table that the last descriptor names, if it names one of no more entries than there are slots: it is one piece.
+/// The table that the last descriptor of a packed chain names, if it is lacking. A table of more entries than there are slots is not read.
 fn lacks_entries(core: &RingCore, ram: &Ram, held: &[Piece], last: Descriptor) -> Option<Piece>
     ensures { result ≡ None → Knows held.now ram.now.bytes (whole_table ram.now.bytes (core_state true core.now) last) }
 {
@@ -253,7 +254,7 @@ fn lacks_entries(core: &RingCore, ram: &Ram, held: &[Piece], last: Descriptor) -
     None
 }
 
-/// The first piece that is lacking of `count` bytes of segments, `skip` bytes in, if one is.
+/// The first piece that is lacking of `count` bytes of segments, from offset `skip` on, if one is. Of each segment one piece is asked for.
 pub fn lacks_bytes(
     held: &[Piece],
     base: u64,
@@ -279,7 +280,7 @@ pub fn lacks_bytes(
     None
 }
 
-/// The part of a segment that lies among `left` bytes, `skip` bytes in.
+/// The part of a segment that lies among the `left` bytes from offset `skip` on.
 fn part_of(base: u64, ram: &Ram, seg: &Seg, skip: u64, left: u64) -> Piece
     requires inside { IsWithin base (length ram.now.bytes) seg.now.addr seg.now.len }
     ensures at { result.at ≡ index_of base seg.now.addr + min skip seg.now.len }

@@ -45,8 +45,10 @@
 //!   or where a message waits.
 //! - `add(descriptor, base, len, chain)` adds the buffer of a descriptor to a chain that a ring gathers as it walks, with the tests of
 //!   one buffer; `ended(chain)` is the last test, of all bytes together. Both layouts gather by these.
+//! - `lacks_split`, `lacks_packed` and `lacks_bytes` say which piece of RAM a look, or the bytes of a chain, still lack, where only some
+//!   pieces are held: for a step over a copy of what it reads, while the guest runs.
 //! - The module `laws`: a queue has at most one chain, and so one answer; every chain is bounded, whatever the driver wrote; memory
-//!   is taken only at a queue that is not empty.
+//!   is taken only at a queue that is not empty; what a look and a service of a chain read, and that they read nothing else.
 //!
 //! A chain of at most `SHORT_CHAIN_MAX` descriptors takes no memory: `smallvec` keeps short lists of segments inline.
 //!
@@ -68,8 +70,9 @@
 //! - `specs/Service`: what a step at a queue returns and changes, by what its device does with a chain;
 //! - `specs/Served`: that such a step was made, or was refused memory, and where it may be refused;
 //! - `specs/ReceiveBuffer` and `Transmit`: what giving bytes to a chain writes, and the step that takes a message;
+//! - `specs/Footprint`: which bytes of RAM a look reads, one after another, and what is known of RAM by pieces that are held of it;
 //! - `proofs/PlaceLaws`, `EffectLaws`, `DecoderLaws`, `HeldLaws`, `FrameLaws`, `SplitLaws`, `PackedLaws`, `ChainLaws` and `LookLaws`: what follows,
-//!   for proofs above.
+//!   for proofs above; so do `SplitFootprint`, `PackedFootprint`, `LookFootprint`, `ServiceFootprint` and `QuietWord`.
 //!
 //! A chain is a relation on whole lists of descriptors: it says which list is the chain, and not how to find it. What no list meets
 //! is malformed. Nothing is trusted here beside the toolchain and the crates below.

@@ -23,8 +23,11 @@ use Rattle.machine.specs.Applied.{IsApplied, IsAppliedLogged, as_given, bad_on}
 use Rattle.machine.specs.Beside.{AppliedIsLocal, AppliedWordIsLast, BesideIsStep, EffectsAreLocal, HeldIsBeside, IsLoggedOver, IsStepOf, OpenIsStep, ended, KnowsReads, KnowsWord, window_memory, IsWritten, QuietIsOpen, WordIsLast, WrittenIsThere, written_with, publishing_of, interrupted, interrupting, raised_in, seen_raised, with_interrupt, with_memory, with_ram}
 use Rattle.machine.specs.DeviceStep.{DeviceAnswer, device_step}
 use Rattle.machine.specs.Effect.{Effect, Replacement, applied, items_of, replaced_in, sets_on}
+use Rattle.region.specs.Address.{address}
 use Rattle.region.specs.declared.region.Region.{Region}
-use Rattle.machine.specs.Parked.{IsParked, ParkedSeen, back_with}
+use Rattle.machine.specs.Parked.{IsParked, ParkedSeen, WasHeld, back_with}
+use Rattle.machine.specs.Held.{IsHeld}
+use Rattle.machine.specs.declared.shape.Shape.{Shape}
 use Rattle.machine.specs.Footprint.{Publishing, asks_at, has_published, publishing, asks_by, asks_interrupt, device_word, raised, raised_if, reads_of, step_asks, step_reads, step_word, word_by}
 use Rattle.machine.specs.Outcome.{Outcome, outcome_of}
 use Rattle.machine.specs.Seen.{DeviceSeen, Seen, state_of}
@@ -36,6 +39,7 @@ use Rattle.machine.specs.declared.event.Event.TheVariants.{Step}
 use Rattle.machine.specs.declared.kind.Kind.{Kind}
 use Rattle.machine.specs.declared.kind.Kind.TheVariants.{Network, Block, Outside, Console, Entropy}
 use Rattle.machine.specs.declared.reply.Reply.{Reply}
+use Rattle.machine.proofs.At.{IsAt}
 use Rattle.machine.proofs.Staying.{stays_sound}
 use Rattle.machine.proofs.Within.{sound_by}
 use Rattle.machine.proofs.Footprint.{device_local, may_look_local, word_last}
@@ -243,6 +247,10 @@ raised_kind len r (Entropy pool) h = h
 
 raised_sound : {base : ℕ} (len : ℕ) (d : DeviceState) → IsSoundDevice base len d → IsSoundDevice base len (raised d)
 raised_sound len d s = stays_sound len d (raised d) refl (used_sound d.registers s.registers) s.positions (raised_kind len d.registers d.kind s.kind) s
+
+parked_parts : (versions other : List ℕ) (devices others : List DeviceSeen) → versions ≡ other → devices ≡ others
+    → ◌≡◌ {A = ParkedSeen} (record { versions = versions; devices = devices }) (record { versions = other; devices = others })
+parked_parts versions other devices others a b = rw (a, b) refl
 
 three_same : (ram after : List ℕ) (ds es : List DeviceState) (disks ks : List (List Sector)) → after ≡ ram → ds ≡ es → disks ≡ ks
     → ◌≡◌ {A = MachineState} (record { ram = after; devices = ds; disks = disks }) (record { ram = ram; devices = es; disks = ks })
@@ -509,3 +517,64 @@ logged_over {L} taking p window left dev pick reply next old new log mid new_log
     let there = subst (λ (m : Seen). IsAppliedLogged taking m log (Step dev pick) reply new new_log) is here in
     let last = subst (λ (ds : List DeviceSeen). IsAppliedLogged taking (back_with p (window_memory p window)) log (Step dev pick) reply (record { memory = new.memory; devices = ds }) new_log) (sym parked.devices_are) there in
     record { made = record { after = new.memory; applied = last.is_applied; lent = parked.lent }; logged = last.logged }
+
+-- A window that is given back and lent again: window and machine are as they were.
+pub place_again : (p : ParkedSeen) (window left : Region) (next : ParkedSeen) (m : Seen) → m ≡ back_with p (window_memory p window) → IsParked m left next → address left ≡ address window
+place_again p window left next m is parked =
+    let place : m.memory.place ≡ Some (address window) = ap (λ (s : Seen). s.memory.place) is in
+    some_same (address left) (address window) (sym parked.lent.place ∙ place)
+
+pub lent_again : (p : ParkedSeen) (window left : Region) (next : ParkedSeen) (m : Seen) → m ≡ back_with p (window_memory p window) → IsParked m left next → next ≡ p
+lent_again p window left next m is parked =
+    let versions : next.versions ≡ p.versions = parked.lent.versions_are ∙ ap (λ (s : Seen). s.memory.versions) is in
+    let devices : next.devices ≡ p.devices = parked.devices_are ∙ ap (λ (s : Seen). s.devices) is in
+    parked_parts next.versions p.versions next.devices p.devices versions devices
+
+-- A machine of which one device raised its interrupt is sound.
+got_at : (ds : List DeviceSeen) (dev : ℕ) (d : DeviceSeen) → IsAt ds dev d → slice_get ds dev ≡ Some d
+got_at [] dev d at = absurd (omega (arith, at.below))
+got_at (x ∷ ds) zero d at = ap (λ (y : DeviceSeen). Some y) (sym at.is)
+got_at (x ∷ ds) (suc dev) d at = got_at ds dev d (record { below = omega (arith, at.below); is = at.is })
+
+raised_machine : (m : Memory) (ds : List DeviceSeen) (dev : ℕ) (d : DeviceSeen) → slice_get ds dev ≡ Some d → IsSound (state_of (record { memory = m; devices = ds })) → IsSound (state_of (record { memory = m; devices = set ds dev (seen_raised d) }))
+raised_machine m ds dev d there sound =
+    let states = map (λ (x : DeviceSeen). x.state) ds in
+    let spread : map (λ (x : DeviceSeen). x.state) (set ds dev (seen_raised d)) ≡ set states dev (raised d.state) = map-set (λ (x : DeviceSeen). x.state) ds dev (seen_raised d) in
+    let disks : map (λ (x : DeviceSeen). x.sectors) (set ds dev (seen_raised d)) ≡ map (λ (x : DeviceSeen). x.sectors) ds = map_set_got (λ (x : DeviceSeen). x.sectors) ds dev d (seen_raised d) there refl in
+    let got : slice_get states dev ≡ Some d.state = map_got (λ (x : DeviceSeen). x.state) ds dev d there in
+    let kinds : map (λ (x : DeviceState). made_as x.kind) (map (λ (x : DeviceSeen). x.state) (set ds dev (seen_raised d))) ≡ map (λ (x : DeviceState). made_as x.kind) states =
+    ap (map (λ (x : DeviceState). made_as x.kind)) spread ∙ map_set_got (λ (x : DeviceState). made_as x.kind) states dev d.state (raised d.state) got refl in
+    let here = all_got (IsSoundDevice (base_of states) (length m.bytes)) states dev d.state got sound.devices in
+    let each : All (IsSoundDevice (base_of states) (length m.bytes)) (set states dev (raised d.state)) =
+    All-set (IsSoundDevice (base_of states) (length m.bytes)) states dev (raised d.state) (raised_sound (length m.bytes) d.state here) sound.devices in
+    let all : All (IsSoundDevice (base_of states) (length m.bytes)) (map (λ (x : DeviceSeen). x.state) (set ds dev (seen_raised d))) = rw spread each in
+    let count : length (map (λ (x : DeviceSeen). x.state) (set ds dev (seen_raised d))) ≡ length states = ap (λ (xs : List DeviceState). length xs) spread ∙ length-set states dev (raised d.state) in
+    let whole : All AreWhole (map (λ (x : DeviceSeen). x.sectors) (set ds dev (seen_raised d))) = rw disks sound.sectors in
+    sound_by (state_of (record { memory = m; devices = ds })) (state_of (record { memory = m; devices = set ds dev (seen_raised d) })) (record { ram = refl; devices = kinds; disks = ap (map length) disks }) count all sound.bytes whole sound
+
+raised_one : (shapes : List Shape) (m : Memory) (ds : List DeviceSeen) (dev : ℕ) (d : DeviceSeen) → IsAt ds dev d → IsHeld shapes (record { memory = m; devices = ds }) → IsHeld shapes (record { memory = m; devices = set ds dev (seen_raised d) })
+raised_one shapes m ds dev d at held = record {
+  sound = raised_machine m ds dev d (got_at ds dev d at) held.sound;
+  shapes_are = held.shapes_are ∙ sym (map_set_got (λ (x : DeviceSeen). made_as x.state.kind) ds dev d (seen_raised d) (got_at ds dev d at) refl);
+}
+
+pub raised_held : (shapes : List Shape) (versions : List ℕ) (ds : List DeviceSeen) (dev : ℕ) (d new : DeviceSeen) → IsAt ds dev d → new ≡ seen_raised d → WasHeld shapes (record { versions = versions; devices = ds }) → WasHeld shapes (record { versions = versions; devices = set ds dev new })
+raised_held shapes versions ds dev d new at is was = λ m sound bytes count.
+    let held = raised_one shapes m ds dev d at (was m sound bytes count) in
+    subst (λ (x : DeviceSeen). IsHeld shapes (record { memory = m; devices = set ds dev x })) (sym is) held
+
+-- The machine after that.
+none_at : (ds : List DeviceSeen) (dev : ℕ) → length ds ≤ dev → slice_get ds dev ≡ None
+none_at [] dev h = refl
+none_at (x ∷ ds) zero h = absurd (omega (arith, h))
+none_at (x ∷ ds) (suc dev) h = none_at ds dev (omega (arith, h))
+
+pub ended_past : (due : Bool) (versions : List ℕ) (ds : List DeviceSeen) (dev : ℕ) → length ds ≤ dev → ◌≡◌ {A = ParkedSeen} (record { versions = versions; devices = ds }) (ended due dev (record { versions = versions; devices = ds }))
+ended_past false versions ds dev h = refl
+ended_past true versions ds dev h = rw (none_at ds dev h) refl
+
+pub ended_there : (versions : List ℕ) (ds : List DeviceSeen) (dev : ℕ) (d new : DeviceSeen) → IsAt ds dev d → new ≡ seen_raised d
+    → ◌≡◌ {A = ParkedSeen} (record { versions = versions; devices = set ds dev new }) (ended true dev (record { versions = versions; devices = ds }))
+ended_there versions ds dev d new at is =
+    let there = got_at ds dev d at in
+    rw (there, is) refl

@@ -18,9 +18,9 @@ use Rattle.chains.specs.declared.lacking.Piece.{Piece}
 use Rattle.chains.specs.declared.looking.Wanted.{Wanted}
 use Rattle.chains.specs.declared.next.Next.{Next}
 use Rattle.chains.specs.declared.next.Next.TheVariants as next
-use Rattle.chains.proofs.FootprintLaws.{turned}
+use Rattle.chains.proofs.SplitFootprint.{turned}
 use Rattle.chains.proofs.LookFootprint.{agree_first, agree_rest, refuses_local, rest_local, sees_local}
-use Rattle.chains.proofs.StepFootprint.{due_local, written_same}
+use Rattle.chains.proofs.ServiceFootprint.{due_local, written_same}
 use Rattle.blk.specs.Advance.{AdvanceStep, advance_one, after_move}
 use Rattle.blk.specs.Footprint.{advance_pieces, unit_pieces}
 use Rattle.blk.specs.Move.{Move, bad_sector, disk_failed, move_of, moved}

@@ -1,12 +1,12 @@
--- What is known for a step that looks at a queue.
-use Rattle.std.specs.Prelude.{◌≡◌, ◌≢◌, ℕ, zero, suc, ◌<◌, ◌≤◌, ◌^◌, List, [], ◌∷◌, ◌++◌, length, take, drop, Bool, true, false, Option, Some, None, refl, if◌then◌else◌}
+-- What is known for a step by the pieces that are held.
+use Rattle.std.specs.Prelude.{◌≡◌, ◌≢◌, ℕ, zero, suc, ◌-◌, ◌<◌, ◌≤◌, ◌^◌, List, [], ◌∷◌, ◌++◌, length, map, take, drop, Bool, true, false, Option, Some, None, Result, Ok, Err, IfOk, slice_get, refl, if◌then◌else◌}
 use Rattle.std.proofs.Common.{ap, sym, subst, ◌∙◌, arith, cond}
 use Rattle.chains.specs.Footprint.{AgreeOn, Knows, look_pieces, place_pieces}
 use Rattle.chains.specs.Gives.{Gives}
 use Rattle.chains.specs.Look.{Sees, fits, seen_as}
 use Rattle.chains.specs.Places.{places}
 use Rattle.chains.specs.Ring.{Answers}
-use Rattle.chains.specs.State.{RingState}
+use Rattle.chains.specs.State.{RingState, state_of as ring_of}
 use Rattle.chains.specs.declared.chain.Chain.{Chain}
 use Rattle.chains.specs.declared.lacking.Piece.{Piece}
 use Rattle.chains.specs.declared.looking.Wanted.{Wanted}
@@ -14,12 +14,26 @@ use Rattle.chains.specs.declared.next.Next.{Next}
 use Rattle.chains.specs.declared.next.Next.TheVariants.{Empty, Malformed, Chain as Found}
 use Rattle.chains.specs.declared.next_kind.NextKind.{NextKind}
 use Rattle.chains.specs.declared.next_kind.NextKind.TheVariants as kinds
+use Rattle.chains.specs.declared.position.Positions.{Positions}
 use Rattle.chains.proofs.ChainLaws.{answer_same}
-use Rattle.machine.specs.DeviceStep.{MayLook, looked_at, wanted_of}
-use Rattle.machine.specs.Footprint.{chain_reads, device_reads, reads_at, seen_reads}
+use Rattle.mmio.specs.State.{queue_at}
+use Rattle.mmio.specs.declared.queue.Queue.{Queue}
+use Rattle.guestmem.specs.Memory.{Memory}
+use Rattle.blk.specs.Block.{limits_of}
+use Rattle.blk.specs.Footprint.{advance_pieces}
+use Rattle.blk.specs.Outside.{AreSoundIn}
+use Rattle.blk.specs.declared.block.Block as blocks
+use Rattle.machine.specs.Beside.{KnowsReads}
+use Rattle.machine.specs.DeviceStep.{MayLook, advanced_at, advanced_by, advances, looked_at, requests_of, wanted_of}
+use Rattle.machine.specs.Footprint.{chain_reads, device_reads, reads_at, reads_of, request_reads, seen_reads}
 use Rattle.machine.specs.Lacking.{CoversReads, KnowsDevice}
 use Rattle.machine.specs.Outcome.{Outcome, fine, disk_failed, no_memory}
+use Rattle.machine.specs.Seen.{DeviceSeen, state_of}
+use Rattle.machine.specs.Sound.{IsSoundDevice, IsSoundKind}
 use Rattle.machine.specs.State.{DeviceState}
+use Rattle.machine.specs.Step.{MaySeeAt}
+use Rattle.machine.proofs.At.{IsAt, found, past}
+use Rattle.machine.proofs.DiskAnswers.{sound_in}
 use Rattle.machine.specs.declared.kind.Kind.{Kind}
 use Rattle.machine.specs.declared.kind.Kind.TheVariants.{Network, Block, Outside, Console, Entropy}
 
@@ -123,3 +137,52 @@ pub a_chain : (d : DeviceState) (held : List Piece) (ram : List ℕ) (pick : ℕ
 a_chain d held ram pick q kind c looked gives is look known =
     let found : Gives ram q kinds.Chain c = subst (λ (k : NextKind). Gives ram q k c) is gives in
     knows_by d held ram pick q (Found c) looked found look (λ e same. let is_it : c ≡ e = (cc) in subst (λ (x : Chain). Knows held ram (chain_reads d.kind pick q.base x)) is_it known)
+
+-- A step that looks at no queue reads of the request that it advances, if it advances one.
+by_advance : (advances : Bool) (kind : Kind) (k : ℕ) (q : RingState) (held : List Piece) (ram : List ℕ) → Knows held ram (advance_pieces q.base (slice_get (requests_of kind) k)) → Knows held ram (request_reads kind k (if advances then Some q else None))
+by_advance true kind k q held ram known = known
+by_advance false kind k q held ram known = λ b h. tt
+
+request_known : (d : DeviceState) (held : List Piece) (ram : List ℕ) (pick : ℕ) (q : Option Queue) (p : Option Positions) → Knows held ram (advance_pieces d.registers.ram_base (slice_get (requests_of d.kind) (pick - 1)))
+    → Knows held ram (request_reads d.kind (pick - 1) (advanced_by d pick q p))
+request_known d held ram pick None p known = λ b h. tt
+request_known d held ram pick (Some q) None known = λ b h. tt
+request_known d held ram pick (Some q) (Some p) known = by_advance (advances d pick) d.kind (pick - 1) (ring_of q d.registers.common.features d.registers.ram_base p) held ram known
+
+unlooked_known : (d : DeviceState) (held : List Piece) (ram : List ℕ) (pick : ℕ) → looked_at d pick ≡ None → Knows held ram (request_reads d.kind (pick - 1) (advanced_at d pick)) → KnowsDevice held d ram pick
+unlooked_known d held ram pick none known = λ o seen may. subst (λ (ring : Option RingState). Knows held ram (reads_at d ram pick ring o seen)) (sym none) known
+
+pub advanced_known : (d : DeviceState) (held : List Piece) (ram : List ℕ) (pick : ℕ) → looked_at d pick ≡ None → Knows held ram (advance_pieces d.registers.ram_base (slice_get (requests_of d.kind) (pick - 1))) → KnowsDevice held d ram pick
+advanced_known d held ram pick none known = unlooked_known d held ram pick none (request_known d held ram pick (queue_at d.registers 0) (slice_get d.positions 0) known)
+
+idle_by : (advances : Bool) (kind : Kind) (k : ℕ) (q : RingState) (held : List Piece) (ram : List ℕ) → advances ≡ false → Knows held ram (request_reads kind k (if advances then Some q else None))
+idle_by true kind k q held ram is = cc
+idle_by false kind k q held ram is = λ b h. tt
+
+idle_request : (d : DeviceState) (held : List Piece) (ram : List ℕ) (pick : ℕ) (q : Option Queue) (p : Option Positions) → advances d pick ≡ false → Knows held ram (request_reads d.kind (pick - 1) (advanced_by d pick q p))
+idle_request d held ram pick None p is = λ b h. tt
+idle_request d held ram pick (Some q) None is = λ b h. tt
+idle_request d held ram pick (Some q) (Some p) is = idle_by (advances d pick) d.kind (pick - 1) (ring_of q d.registers.common.features d.registers.ram_base p) held ram is
+
+pub idle_known : (d : DeviceState) (held : List Piece) (ram : List ℕ) (pick : ℕ) → looked_at d pick ≡ None → advances d pick ≡ false → KnowsDevice held d ram pick
+idle_known d held ram pick none is = unlooked_known d held ram pick none (idle_request d held ram pick (queue_at d.registers 0) (slice_get d.positions 0) is)
+
+pub block_sound : {base : ℕ} (len : ℕ) (d : DeviceState) (block : blocks.Block) → d.kind ≡ Block block → IsSoundDevice base len d → AreSoundIn d.registers.ram_base len block.requests
+block_sound len d block is sound =
+    let kind : IsSoundKind len d.registers (Block block) = rw is at sound.kind in
+    sound_in len d.registers block (queue_at d.registers 0) refl kind
+
+-- A device of a machine.
+pub reads_known : (held : List Piece) (m : Memory) (ds : List DeviceSeen) (dev pick : ℕ) (d : DeviceSeen) → IsAt ds dev d → KnowsDevice held d.state m.bytes pick → KnowsReads held (state_of (record { memory = m; devices = ds })) dev pick
+reads_known held m ds dev pick d at known =
+    let There : Option DeviceState → Type 0 = λ f. (o : Outcome) (seen : Next) → MaySeeAt f m.bytes pick o seen → Knows held m.bytes (reads_of f m.bytes pick o seen) in
+    subst There (sym (found ds dev d at)) known
+
+pub none_read : (held : List Piece) (m : Memory) (ds : List DeviceSeen) (dev pick : ℕ) → length ds ≤ dev → KnowsReads held (state_of (record { memory = m; devices = ds })) dev pick
+none_read held m ds dev pick h =
+    let There : Option DeviceState → Type 0 = λ f. (o : Outcome) (seen : Next) → MaySeeAt f m.bytes pick o seen → Knows held m.bytes (reads_of f m.bytes pick o seen) in
+    subst There (sym (past ds dev h)) (λ o seen may b ok. tt)
+
+pub if_known : {E : Type 0} (P Q : Type 0) (result : Result (Option Piece) E) → (P → Q) → IfOk result (λ lacking. lacking ≡ None → P) → IfOk result (λ lacking. lacking ≡ None → Q)
+if_known P Q (Ok lacking) f known = λ none. f (known none)
+if_known P Q (Err error) f known = known

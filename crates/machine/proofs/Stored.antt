@@ -17,7 +17,7 @@ use Rattle.chains.specs.declared.chain.Chain.{Chain}
 use Rattle.chains.specs.declared.lacking.Piece.{Piece}
 use Rattle.chains.specs.declared.next.Next.{Next}
 use Rattle.chains.specs.declared.next.Next.TheVariants as next
-use Rattle.chains.proofs.StepFootprint.{set_same}
+use Rattle.chains.proofs.ServiceFootprint.{set_same}
 use Rattle.blk.specs.Advance.{advance_one, end_writes, used_len}
 use Rattle.blk.specs.Move.{Move, bad_sector, disk_failed, move_of, moved}
 use Rattle.blk.specs.Request.{is_open, next_sector, verdict_byte}

@@ -94,7 +94,7 @@ impl AnyRing {
         }
     }
 
-    /// The first piece of RAM that a look at its queue lacks among those that are held, if it lacks one.
+    /// The first piece of RAM that a look lacks, where these pieces are held, if it lacks one.
     pub fn lacks(&self, ram: &Ram, held: &[Piece]) -> Option<Piece>
         requires { HasAreas (length ram.now.bytes) (ring_in self.now) }
         ensures { result ≡ None → Knows held.now ram.now.bytes (look_pieces ram.now.bytes (ring_in self.now)) }

@@ -6,8 +6,7 @@
 //! With eight requests outstanding a block device has no room, and so no work at its queue: pick 0 is idle, the queue is not looked at,
 //! and no event note is written, since the driver is not to kick for chains that are not looked at.
 
-ghost use Rattle.std.specs.Prelude.{◌≡◌, ◌==◌, ◌^◌, length, IfOk, true, if◌then◌else◌};
-ghost use Rattle.machine.specs.Lacking.{CoversReads};
+ghost use Rattle.std.specs.Prelude.{◌≡◌, length, IfOk, true};
 ghost use Rattle.chains.specs.Frame.{MayLook, HasLooked};
 ghost use Rattle.chains.specs.Served.{HasRun, scene};
 ghost use Rattle.blk.specs.Durable.{is_flush_owed};
@@ -144,17 +143,6 @@ impl Kind {
             }
             Kind::Console { size, .. } => registers.read(offset, width, &size.configuration()),
             Kind::Entropy(_) => registers.read(offset, width, &[]),
-        }
-    }
-
-    /// How many bytes of a chain in its queue of this number a step reads at most, from the first readable one on.
-    pub(crate) fn reads(&self, number: u8) -> u64
-        ensures { CoversReads self.now number result }
-    {
-        match self {
-            Kind::Network { .. } | Kind::Console { .. } => sent_bytes(number),
-            Kind::Block(_) | Kind::Outside(_) => 32,
-            Kind::Entropy(_) => 0,
         }
     }
 
@@ -337,11 +325,4 @@ fn net_shape(mac: [u8; 6], longest: u16) -> Shape
         return Shape::Net { mac };
     }
     Shape::LongNet { mac, longest }
-}
-
-/// Of a device that receives in its first queue and sends in its second.
-fn sent_bytes(number: u8) -> u64
-    ensures { result ≡ (if number == 0 then 0 else 2 ^ 32) }
-{
-    if number == 0 { 0 } else { 1 << 32 }
 }

@@ -121,7 +121,7 @@ impl SplitRing {
         self.decoder.clear();
     }
 
-    /// The first piece of RAM that a look lacks among those that are held, if it lacks one.
+    /// The first piece of RAM that a look lacks, where these pieces are held, if it lacks one.
     pub fn lacks(&self, ram: &Ram, held: &[Piece]) -> Option<Piece>
         requires { HasAreas (length ram.now.bytes) self.now.state }
         ensures { result ≡ None → Knows held.now ram.now.bytes (look_pieces ram.now.bytes self.now.state) }

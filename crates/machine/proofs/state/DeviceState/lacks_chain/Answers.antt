@@ -13,5 +13,5 @@ pub returns : goal.returns
 returns c = λ none.
     let d = c.args.self.now in
     let base : c.ram_base-base.result ≡ d.registers.ram_base = c.ram_base-base.ensures ∙ ap (λ (d : DeviceState). d.registers.ram_base) c.self.view_is in
-    let covers : CoversReads d.kind c.args.pick c.reads-count.result = subst (λ (k : Kind). CoversReads k c.args.pick c.reads-count.result) (ap (λ (d : DeviceState). d.kind) c.self.view_is) c.reads-count.ensures in
+    let covers : CoversReads d.kind c.args.pick c.most_read-count.result = subst (λ (k : Kind). CoversReads k c.args.pick c.most_read-count.result) (ap (λ (d : DeviceState). d.kind) c.self.view_is) c.most_read-count.ensures in
     covers c.args.held.now c.args.ram.now.bytes d.registers.ram_base c.args.chain.now c.requires.total (rw (base, c.as_slice.ensures) at (c.lacks_bytes.ensures none))

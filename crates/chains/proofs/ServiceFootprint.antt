@@ -1,23 +1,21 @@
--- What a step does with a chain reads no byte outside of the chain's segments and of the driver's word of interrupts.
+-- What a step does with a chain reads no byte outside of the chain's segments and of the driver's word about interrupts.
 use Rattle.std.specs.Prelude.{◌≡◌, ◌≢◌, ℕ, zero, suc, ◌+◌, ◌-◌, ◌*◌, ◌/◌, ◌%◌, ◌<◌, ◌≤◌, ◌==◌, ◌&&◌, List, [], ◌∷◌, ◌++◌, All, map, length, drop, Bool, true, false, refl, if◌then◌else◌}
 use Rattle.std.proofs.Common.{ap, sym, ◌∙◌, arith, cond, get_or, set, inl, inr}
 use Rattle.std.proofs.lemmas.Bool.{cases_eq, cases_lt}
-use Rattle.std.proofs.lemmas.List.{get_or-set_same, get_or-set_other, get_or_past, length-set, map-append}
-use Rattle.std.proofs.lemmas.List.Elements.{All-head, All-tail}
-use Rattle.guestmem.specs.Address.{IsWithin, index_of}
+use Rattle.std.proofs.lemmas.List.{get_or-set_same, get_or-set_other, get_or_past, length-set}
 use Rattle.guestmem.specs.Number.{number_at}
 use Rattle.guestmem.specs.Writes.{Write, set_all}
 use Rattle.chains.specs.declared.chain.Chain.{Chain}
-use Rattle.chains.specs.declared.segs.Seg.{Seg}
 use Rattle.chains.specs.State.{RingState}
 use Rattle.chains.specs.declared.lacking.Piece.{Piece}
-use Rattle.chains.specs.Places.{AreSegmentsInside, addresses, places, read_places}
+use Rattle.chains.specs.Places.{places, read_places}
 use Rattle.chains.specs.Publish.{after_publish, after_take, is_interrupt_due, is_packed_due, is_split_due}
 use Rattle.chains.specs.ReceiveBuffer.{filled, give}
 use Rattle.chains.specs.Service.{Service}
 use Rattle.chains.specs.Transmit.{handed_back, message_of, send}
-use Rattle.chains.specs.Footprint.{AgreeAt, AgreeOn, event_piece, segment_piece, segment_pieces}
+use Rattle.chains.specs.Footprint.{AgreeAt, AgreeOn, event_piece, place_pieces}
 use Rattle.chains.proofs.DecoderLaws.{number_same}
+use Rattle.chains.proofs.LookFootprint.{rest_local}
 
 -- A byte that is set is the same in both, and so is each other.
 pub set_same : (a b : List ℕ) (i byte j : ℕ) → length a ≡ length b → get_or a j 0 ≡ get_or b j 0 → get_or (set a i byte) j 0 ≡ get_or (set b i byte) j 0
@@ -66,34 +64,11 @@ due_by false has_event a b q slots layout is h = split_due_by has_event a b q is
 pub due_local : (a b : List ℕ) (q : RingState) (slots : ℕ) → AgreeAt a b (event_piece q) → is_interrupt_due q slots a ≡ is_interrupt_due q slots b
 due_local a b q slots h = due_by q.is_packed q.has_event_index a b q slots refl refl h
 
--- The bytes of segments inside RAM are read in their pieces.
-addresses_local : (base : ℕ) (a b : List ℕ) (address count : ℕ) → base ≤ address → AgreeAt a b (record { at = index_of base address; count = count }) → read_places base a (addresses address count) ≡ read_places base b (addresses address count)
-addresses_local base a b address zero above h = refl
-addresses_local base a b address (suc count) above h =
-    let zeroth : index_of base address + 0 ≡ index_of base address = omega arith in
-    let here : get_or a (index_of base address) 0 ≡ get_or b (index_of base address) 0 = rw zeroth at (h 0 (omega arith)) in
-    let shifted : (k : ℕ) → k < count → get_or a (index_of base (address + 1) + k) 0 ≡ get_or b (index_of base (address + 1) + k) 0 = λ k below.
-    let at : index_of base address + suc k ≡ index_of base (address + 1) + k = omega arith in
-    rw at at (h (suc k) (omega (arith, below))) in
-    let rest = addresses_local base a b (address + 1) count (omega arith) shifted in
-    rw (here, rest) refl
-
-pub bytes_local : (base : ℕ) (a b : List ℕ) (segs : List Seg) → AreSegmentsInside base (length a) segs → AgreeOn a b (segment_pieces base segs) → read_places base a (places segs) ≡ read_places base b (places segs)
-bytes_local base a b [] inside h = refl
-bytes_local base a b (s ∷ segs) inside h =
-    let first : IsWithin base (length a) s.addr s.len = All-head (λ (t : Seg). IsWithin base (length a) t.addr t.len) s segs inside in
-    let others : AreSegmentsInside base (length a) segs = All-tail (λ (t : Seg). IsWithin base (length a) t.addr t.len) s segs inside in
-    let here = addresses_local base a b s.addr s.len first.above h.0 in
-    let rest = bytes_local base a b segs others h.1 in
-    let x = map-append (λ (place : ℕ). get_or a (index_of base place) 0) (addresses s.addr s.len) (places segs) in
-    let y = map-append (λ (place : ℕ). get_or b (index_of base place) 0) (addresses s.addr s.len) (places segs) in
-    x ∙ rw (here, rest) refl ∙ sym y
-
 -- A message that is sent, and the interrupt for it.
-pub send_local : {S : Type 0} (header : ℕ) (a b : List ℕ) (q : RingState) (state : S) (c : Chain) → length a ≡ length b → AreSegmentsInside q.base (length a) c.readable
-    → AgreeOn a b (segment_pieces q.base c.readable) → AgreeAt a b (event_piece (after_take q c.slots)) → send header a q state c ≡ send header b q state c
-send_local header a b q state c same inside h event =
-    let bytes = bytes_local q.base a b c.readable inside h in
+pub send_local : {S : Type 0} (header : ℕ) (a b : List ℕ) (q : RingState) (state : S) (c : Chain) → length a ≡ length b
+    → AgreeOn a b (place_pieces q.base (drop header (places c.readable))) → AgreeAt a b (event_piece (after_take q c.slots)) → send header a q state c ≡ send header b q state c
+send_local header a b q state c same h event =
+    let bytes = rest_local q.base a b (places c.readable) header h in
     let due = due_local (set_all a (handed_back q c)) (set_all b (handed_back q c)) (after_take q c.slots) c.slots (written_same a b (handed_back q c) (event_piece (after_take q c.slots)) same event) in
     rw (bytes, due) refl
 

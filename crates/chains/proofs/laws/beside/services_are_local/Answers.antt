@@ -1,5 +1,5 @@
-use Rattle.chains.proofs.StepFootprint.{send_local, give_local}
-use Rattle.chains.proofs.laws.services_are_local.Goals as goal
+use Rattle.chains.proofs.ServiceFootprint.{give_local, send_local}
+use Rattle.chains.proofs.laws.beside.services_are_local.Goals as goal
 
 pub returns-clause-send : goal.returns-clause-send
 returns-clause-send c = send_local
