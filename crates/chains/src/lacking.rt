@@ -80,14 +80,14 @@ fn walk_held(held: &[Piece], ram: &Ram, table: u64, entries: u32, first: u16, ro
         if index as u32 >= entries {
             return Walked::Breaks;
         }
-        let piece = Piece {
+        let entry = Piece {
             at: table + DESCRIPTOR_SIZE * index as u64,
             count: DESCRIPTOR_SIZE,
         };
-        if !is_held(held, piece) {
-            return Walked::Lacks(piece);
+        if !is_held(held, entry) {
+            return Walked::Lacks(entry);
         }
-        let descriptor = decode(false, words_at(ram, piece.at));
+        let descriptor = decode(false, words_at(ram, entry.at));
         if !descriptor.has_next {
             return Walked::Ends(descriptor);
         }
@@ -172,14 +172,14 @@ fn walk_slots(core: &RingCore, ram: &Ram, held: &[Piece]) -> Walked
     ram.recall();
     let mut slot = core.taking.place;
     for _step in 0..core.size {
-        let piece = Piece {
+        let slot_entry = Piece {
             at: core.descriptors + DESCRIPTOR_SIZE * slot as u64,
             count: DESCRIPTOR_SIZE,
         };
-        if !is_held(held, piece) {
-            return Walked::Lacks(piece);
+        if !is_held(held, slot_entry) {
+            return Walked::Lacks(slot_entry);
         }
-        let descriptor = decode(true, words_at(ram, piece.at));
+        let descriptor = decode(true, words_at(ram, slot_entry.at));
         if !descriptor.has_next {
             return Walked::Ends(descriptor);
         }
@@ -195,14 +195,14 @@ pub fn lacks_packed(core: &RingCore, ram: &Ram, held: &[Piece]) -> Option<Piece>
     ensures { result ≡ None → Knows held.now ram.now.bytes (packed_pieces ram.now.bytes (core_state true core.now)) }
 {
     ram.recall();
-    let piece = Piece {
+    let first_entry = Piece {
         at: core.descriptors + DESCRIPTOR_SIZE * core.taking.place as u64,
         count: DESCRIPTOR_SIZE,
     };
-    if !is_held(held, piece) {
-        return Some(piece);
+    if !is_held(held, first_entry) {
+        return Some(first_entry);
     }
-    let first = decode(true, words_at(ram, piece.at));
+    let first = decode(true, words_at(ram, first_entry.at));
     if !is_available_at(&first, core.taking.wrap) {
         return None;
     }
@@ -244,12 +244,12 @@ fn lacks_entries(core: &RingCore, ram: &Ram, held: &[Piece], last: Descriptor) -
     if entries > core.size as u32 {
         return None;
     }
-    let piece = Piece {
+    let table = Piece {
         at: last.addr - core.base,
         count: DESCRIPTOR_SIZE * entries as u64,
     };
-    if !is_held(held, piece) {
-        return Some(piece);
+    if !is_held(held, table) {
+        return Some(table);
     }
     None
 }
@@ -270,12 +270,12 @@ pub fn lacks_bytes(
     let mut skip = skip;
     let mut left = count;
     for seg in segs {
-        let piece = part_of(base, ram, seg, skip, left);
-        if !is_held(held, piece) {
-            return Some(piece);
+        let part = part_of(base, ram, seg, skip, left);
+        if !is_held(held, part) {
+            return Some(part);
         }
         skip = skip.saturating_sub(seg.len as u64);
-        left -= piece.count;
+        left -= part.count;
     }
     None
 }
