@@ -1,6 +1,6 @@
 -- What is known of a RAM by the pieces that are held of it.
-use Rattle.std.specs.Prelude.{◌≡◌, ℕ, zero, suc, ◌+◌, ◌-◌, ◌*◌, ◌/◌, ◌%◌, ◌<◌, ◌≤◌, ◌==◌, ◌&&◌, nat_le, nat_lt, List, [], ◌∷◌, ◌++◌, length, take, slice_index_or, Bool, true, false, refl, if◌then◌else◌}
-use Rattle.std.proofs.Common.{ap, sym, subst, ◌∙◌, arith, cond, get_or}
+use Rattle.std.specs.Prelude.{◌≡◌, ℕ, zero, suc, ◌+◌, ◌-◌, ◌*◌, ◌/◌, ◌%◌, ◌<◌, ◌≤◌, ◌==◌, ◌&&◌, nat_le, nat_lt, List, [], ◌∷◌, length, Bool, true, false, refl, if◌then◌else◌}
+use Rattle.std.proofs.Common.{ap, sym, subst, ◌∙◌, arith, get_or}
 use Rattle.std.proofs.lemmas.Bool.{le-ltb, lt-leb, lt-ltb, eq-eqb}
 use Rattle.guestmem.specs.Address.{index_of}
 use Rattle.chains.specs.State.{RingState}
@@ -9,7 +9,7 @@ use Rattle.chains.specs.declared.descriptor.Descriptor.{Descriptor}
 use Rattle.chains.specs.declared.lacking.Piece.{Piece}
 use Rattle.chains.specs.Descriptor.{decoded, descriptor_at, descriptor_in, words_of}
 use Rattle.chains.specs.declared.descriptor.Words.{Words}
-use Rattle.chains.specs.Footprint.{AgreeAt, AgreeOn, KnowsPiece, Knows, SlotsKnow, WalkKnows, is_available, packed_pieces, slot_pieces, whole_table, chain_pieces, entry_piece, head_piece, index_piece, list_pieces, names_table, no_piece, split_pieces, table_pieces}
+use Rattle.chains.specs.Footprint.{AgreeAt, AgreeOn, KnowsPiece, Knows, SlotsKnow, WalkKnows, is_available, packed_pieces, slot_pieces, whole_table, chain_pieces, entry_piece, index_piece, list_pieces, names_table, no_piece, split_pieces, table_pieces}
 use Rattle.chains.specs.declared.lacking.Walked.{Walked}
 use Rattle.chains.specs.declared.lacking.Walked.TheVariants.{Lacks, Ends, Breaks}
 

@@ -1,6 +1,6 @@
 -- What a device sees in a queue, and where memory may be refused for a look, is read in the pieces of the look.
-use Rattle.std.specs.Prelude.{◌≡◌, ℕ, zero, suc, ◌+◌, ◌*◌, ◌/◌, ◌%◌, ◌<◌, ◌≤◌, ◌&&◌, nat_le, nat_lt, List, [], ◌∷◌, ◌++◌, length, map, take, drop, slice_index, Bool, true, false, refl, if◌then◌else◌}
-use Rattle.std.proofs.Common.{ap, sym, subst, ◌∙◌, arith, cond, get_or, length-append, inl, inr}
+use Rattle.std.specs.Prelude.{◌≡◌, ℕ, zero, suc, ◌+◌, ◌*◌, ◌/◌, ◌%◌, ◌<◌, ◌≤◌, ◌&&◌, nat_le, nat_lt, List, [], ◌∷◌, ◌++◌, length, take, drop, Bool, true, false, refl, if◌then◌else◌}
+use Rattle.std.proofs.Common.{ap, sym, subst, ◌∙◌, arith, get_or, length-append, inl, inr}
 use Rattle.std.proofs.lemmas.Bool.{lt-ltb, and_from, le-leb}
 use Rattle.std.proofs.lemmas.List.{take-map, drop-map}
 use Rattle.std.specs.Bool.{MatchBool}
@@ -14,18 +14,17 @@ use Rattle.chains.specs.declared.looking.Wanted.TheVariants.{Room, Message, Requ
 use Rattle.chains.specs.declared.transmitting.MessageForm.{MessageForm}
 use Rattle.chains.specs.State.{RingState}
 use Rattle.chains.specs.Descriptor.{descriptor_at}
-use Rattle.chains.specs.Whole.{IsTable}
 use Rattle.chains.specs.Places.{read_places}
-use Rattle.chains.specs.SplitChain.{AreLinked, IsSplitEmpty, head, waiting}
-use Rattle.chains.specs.PackedChain.{IsPackedEmpty, entries_from}
-use Rattle.chains.specs.LongQueue.{AreInRow, AreInSlots, HasLongRow, IsLongPacked, IsLongQueue, IsLongSplit, IsPackedRow, IsRowIntoTable, IsRowOfTable, IsSplitRow}
+use Rattle.chains.specs.SplitChain.{AreLinked, IsSplitEmpty, head}
+use Rattle.chains.specs.PackedChain.{IsPackedEmpty}
+use Rattle.chains.specs.LongQueue.{AreInRow, AreInSlots, IsLongPacked, IsLongQueue, IsLongSplit, IsPackedRow, IsRowIntoTable, IsRowOfTable, IsSplitRow}
 use Rattle.chains.specs.Look.{Sees}
 use Rattle.chains.specs.Ring.{Answers, IsEmptyQueue}
 use Rattle.chains.specs.Served.{MayRefuse}
 use Rattle.chains.specs.Transmit.{MayWantMemory}
-use Rattle.chains.specs.Footprint.{AgreeAt, AgreeOn, chain_pieces, entry_piece, is_available, list_pieces, look_pieces, names_table, no_piece, packed_pieces, place_pieces, slot_pieces, split_pieces, table_pieces, whole_table}
+use Rattle.chains.specs.Footprint.{AgreeOn, chain_pieces, entry_piece, is_available, list_pieces, look_pieces, names_table, no_piece, packed_pieces, place_pieces, slot_pieces, split_pieces, table_pieces, whole_table}
 use Rattle.chains.proofs.ChainLaws.{length_entries}
-use Rattle.chains.proofs.SplitFootprint.{behind_local, chain_read, descriptor_local, empty_local, head_local, if_true, if_false, index_local, linked_local, names_true, pieces_same, split_answers_local, turned}
+use Rattle.chains.proofs.SplitFootprint.{behind_local, chain_read, descriptor_local, head_local, if_true, if_false, index_local, linked_local, names_true, pieces_same, split_answers_local, turned}
 use Rattle.chains.proofs.PackedFootprint.{available_true, entries_local, packed_answers_local, packed_descriptor_local, packed_pieces_same}
 
 -- A list of pieces that goes on behind another.

@@ -1,17 +1,16 @@
 -- A look at a packed queue reads no byte outside of its pieces.
-use Rattle.std.specs.Prelude.{◌≡◌, ◌≢◌, ℕ, zero, suc, ◌+◌, ◌-◌, ◌*◌, ◌/◌, ◌%◌, ◌<◌, ◌≤◌, ◌&&◌, not, nat_le, List, [], ◌∷◌, ◌++◌, length, Bool, true, false, refl, All, if◌then◌else◌}
-use Rattle.std.proofs.Common.{ap, sym, subst, ◌∙◌, arith, cond, get_or, length-append}
+use Rattle.std.specs.Prelude.{◌≡◌, ◌≢◌, ℕ, zero, suc, ◌+◌, ◌*◌, ◌/◌, ◌%◌, ◌<◌, ◌≤◌, ◌&&◌, nat_le, List, [], ◌∷◌, ◌++◌, length, Bool, true, false, refl, if◌then◌else◌}
+use Rattle.std.proofs.Common.{ap, sym, subst, ◌∙◌, arith, get_or, length-append}
 use Rattle.std.proofs.lemmas.Bool.{and_from, le-leb}
 use Rattle.std.specs.Bool.{MatchBool}
-use Rattle.guestmem.specs.Address.{IsWithin, index_of}
+use Rattle.guestmem.specs.Address.{index_of}
 use Rattle.guestmem.specs.Number.{number_at}
 use Rattle.chains.specs.declared.descriptor.Descriptor.{Descriptor}
 use Rattle.chains.specs.declared.lacking.Piece.{Piece}
 use Rattle.chains.specs.declared.chain.Chain.{Chain}
 use Rattle.chains.specs.State.{RingState}
-use Rattle.chains.specs.Descriptor.{descriptor_at, descriptor_in, decoded, words_of}
-use Rattle.chains.specs.Whole.{IsTable, IsWhole, ArePlain}
-use Rattle.chains.specs.PackedChain.{AreConsecutive, IsAvailable, IsPackedChain, IsPackedEmpty, IsPackedList, IsPackedTable, entries_from}
+use Rattle.chains.specs.Descriptor.{descriptor_at, descriptor_in}
+use Rattle.chains.specs.PackedChain.{AreConsecutive, IsAvailable, IsPackedChain, IsPackedEmpty, IsPackedTable, entries_from}
 use Rattle.chains.specs.Footprint.{AgreeAt, AgreeOn, entry_piece, is_available, names_table, packed_pieces, slot_pieces, whole_table}
 use Rattle.chains.proofs.DecoderLaws.{number_same}
 use Rattle.chains.proofs.ChainLaws.{length_entries}

@@ -1,18 +1,16 @@
 -- What a step does with a chain reads no byte outside of the chain's segments and of the driver's word about interrupts.
-use Rattle.std.specs.Prelude.{◌≡◌, ◌≢◌, ℕ, zero, suc, ◌+◌, ◌-◌, ◌*◌, ◌/◌, ◌%◌, ◌<◌, ◌≤◌, ◌==◌, ◌&&◌, List, [], ◌∷◌, ◌++◌, All, map, length, drop, Bool, true, false, refl, if◌then◌else◌}
-use Rattle.std.proofs.Common.{ap, sym, ◌∙◌, arith, cond, get_or, set, inl, inr}
+use Rattle.std.specs.Prelude.{◌≡◌, ℕ, ◌+◌, ◌*◌, ◌<◌, List, [], ◌∷◌, length, drop, Bool, true, false, refl, if◌then◌else◌}
+use Rattle.std.proofs.Common.{sym, ◌∙◌, arith, get_or, set, inl, inr}
 use Rattle.std.proofs.lemmas.Bool.{cases_eq, cases_lt}
 use Rattle.std.proofs.lemmas.List.{get_or-set_same, get_or-set_other, get_or_past, length-set}
-use Rattle.guestmem.specs.Number.{number_at}
 use Rattle.guestmem.specs.Writes.{Write, set_all}
 use Rattle.chains.specs.declared.chain.Chain.{Chain}
 use Rattle.chains.specs.State.{RingState}
 use Rattle.chains.specs.declared.lacking.Piece.{Piece}
-use Rattle.chains.specs.Places.{places, read_places}
-use Rattle.chains.specs.Publish.{after_publish, after_take, is_interrupt_due, is_packed_due, is_split_due}
+use Rattle.chains.specs.Places.{places}
+use Rattle.chains.specs.Publish.{after_take, is_interrupt_due, is_packed_due, is_split_due}
 use Rattle.chains.specs.ReceiveBuffer.{filled, give}
-use Rattle.chains.specs.Service.{Service}
-use Rattle.chains.specs.Transmit.{handed_back, message_of, send}
+use Rattle.chains.specs.Transmit.{handed_back, send}
 use Rattle.chains.specs.Footprint.{AgreeAt, AgreeOn, event_piece, place_pieces}
 use Rattle.chains.proofs.DecoderLaws.{number_same}
 use Rattle.chains.proofs.LookFootprint.{rest_local}

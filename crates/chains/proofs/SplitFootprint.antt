@@ -1,8 +1,7 @@
 -- A look at a split queue reads no byte outside of its pieces.
-use Rattle.std.specs.Prelude.{◌≡◌, ℕ, zero, suc, ◌+◌, ◌*◌, ◌/◌, ◌%◌, ◌^◌, ◌<◌, ◌≤◌, ◌==◌, ◌&&◌, nat_lt, nat_le, List, [], ◌∷◌, ◌++◌, length, Bool, true, false, refl, All, if◌then◌else◌}
-use Rattle.std.proofs.Common.{ap, sym, subst, ◌∙◌, arith, cond, get_or, length-append, inl, inr}
-use Rattle.std.proofs.lemmas.Bool.{lt-ltb, le-leb, ltb-false, le-ltb, and_from, ne_eqb}
-use Rattle.std.proofs.lemmas.List.{get_or-drop}
+use Rattle.std.specs.Prelude.{◌≡◌, ℕ, zero, suc, ◌+◌, ◌*◌, ◌/◌, ◌%◌, ◌^◌, ◌<◌, ◌≤◌, ◌==◌, ◌&&◌, nat_lt, nat_le, List, [], ◌∷◌, ◌++◌, length, Bool, true, false, refl, if◌then◌else◌}
+use Rattle.std.proofs.Common.{ap, sym, subst, ◌∙◌, arith, get_or, length-append}
+use Rattle.std.proofs.lemmas.Bool.{lt-ltb, le-leb, le-ltb, and_from, ne_eqb}
 use Rattle.std.specs.Bool.{MatchBool}
 use Rattle.guestmem.specs.Address.{IsWithin, index_of, is_within}
 use Rattle.guestmem.specs.Number.{number_at}
@@ -12,9 +11,9 @@ use Rattle.chains.specs.declared.next.Next.{Next}
 use Rattle.chains.specs.declared.next.Next.TheVariants.{Empty, Malformed, Chain as Found}
 use Rattle.chains.specs.State.{RingState}
 use Rattle.chains.specs.declared.lacking.Piece.{Piece}
-use Rattle.chains.specs.Descriptor.{descriptor_at, descriptor_in, decoded, words_of}
-use Rattle.chains.specs.Whole.{IsTable, IsWhole, ArePlain}
-use Rattle.chains.specs.SplitChain.{AreLinked, IsFromTable, IsReplaced, IsSplitChain, IsSplitEmpty, available_index, waiting, head}
+use Rattle.chains.specs.Descriptor.{descriptor_at, descriptor_in}
+use Rattle.chains.specs.Whole.{IsTable}
+use Rattle.chains.specs.SplitChain.{AreLinked, IsFromTable, IsSplitChain, IsSplitEmpty, available_index, waiting, head}
 use Rattle.chains.specs.Footprint.{AgreeAt, AgreeOn, entry_piece, list_pieces, no_piece, names_table, table_pieces, index_piece, head_piece, chain_pieces, split_pieces}
 use Rattle.chains.proofs.DecoderLaws.{number_same}
 use Rattle.chains.proofs.SplitLaws.{linked_some}

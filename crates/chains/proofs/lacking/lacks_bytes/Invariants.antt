@@ -1,4 +1,4 @@
-use Rattle.std.proofs.Common.{List, drop, take, ◌≡◌, ◌≤◌}
+use Rattle.std.proofs.Common.{drop, take}
 use Rattle.chains.specs.Footprint.{Knows, place_pieces}
 use Rattle.chains.specs.Places.{places}
 use Rattle.chains.proofs.lacking.lacks_bytes.Given as goal

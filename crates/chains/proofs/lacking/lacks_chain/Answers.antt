@@ -1,4 +1,4 @@
-use Rattle.std.proofs.Common.{false, refl, sym, subst, ◌≡◌, ℕ, List}
+use Rattle.std.proofs.Common.{false, refl, subst, ◌≡◌, ℕ}
 use Rattle.chains.specs.Footprint.{Knows, list_pieces, table_pieces}
 use Rattle.chains.specs.RingCore.{core_state}
 use Rattle.chains.specs.SplitChain.{head}

@@ -1,8 +1,6 @@
-use Rattle.std.proofs.Common.{rules, ◌≡◌, ◌+◌, ◌*◌, ◌≤◌, List, ℕ, length, None, ◌-◌, ◌<◌, Bool, true, false, [], ◌∷◌, sym, ap, subst, refl, ◌∙◌, arith}
+use Rattle.std.proofs.Common.{◌≡◌, ◌+◌, ℕ, ◌-◌, true, false, subst, refl, arith}
 use Rattle.std.proofs.lemmas.Bool.{not-true, not-false}
-use Rattle.chains.specs.declared.descriptor.Descriptor.{Descriptor}
-use Rattle.chains.specs.declared.lacking.Walked.{Walked}
-use Rattle.chains.specs.declared.lacking.Walked.TheVariants.{Lacks, Ends, Breaks}
+use Rattle.chains.specs.declared.lacking.Walked.TheVariants.{Ends, Breaks}
 use Rattle.chains.specs.Descriptor.{descriptor_at}
 use Rattle.chains.specs.Footprint.{WalkKnows}
 use Rattle.chains.proofs.Known.{known_past, known_end, known_none, read_is, walk_more}
