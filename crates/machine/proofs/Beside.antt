@@ -25,7 +25,7 @@ use Rattle.machine.specs.DeviceStep.{DeviceAnswer, device_step}
 use Rattle.machine.specs.Effect.{Effect, Replacement, applied, items_of, replaced_in, sets_on}
 use Rattle.region.specs.Address.{address}
 use Rattle.region.specs.declared.region.Region.{Region}
-use Rattle.machine.specs.Parked.{IsParked, ParkedSeen, WasHeld, back_with}
+use Rattle.machine.specs.Parked.{IsParked, ParkedSeen, WasHeld, back_with, parked_sectors}
 use Rattle.machine.specs.Held.{IsHeld}
 use Rattle.machine.specs.declared.shape.Shape.{Shape}
 use Rattle.machine.specs.Footprint.{Publishing, asks_at, has_published, publishing, asks_by, asks_interrupt, device_word, raised, raised_if, reads_of, step_asks, step_reads, step_word, word_by}
@@ -489,7 +489,7 @@ interrupted_back : (due : Bool) (dev : ℕ) (q : ParkedSeen) (x : Memory) → in
 interrupted_back true dev q x = refl
 interrupted_back false dev q x = refl
 
-ended_versions : (due : Bool) (dev : ℕ) (q : ParkedSeen) → (ended due dev q).versions ≡ q.versions
+pub ended_versions : (due : Bool) (dev : ℕ) (q : ParkedSeen) → (ended due dev q).versions ≡ q.versions
 ended_versions true dev q = refl
 ended_versions false dev q = refl
 
@@ -578,3 +578,11 @@ pub ended_there : (versions : List ℕ) (ds : List DeviceSeen) (dev : ℕ) (d ne
 ended_there versions ds dev d new at is =
     let there = got_at ds dev d at in
     rw (there, is) refl
+
+raised_sectors : (ds : List DeviceSeen) (dev : ℕ) (got : Option DeviceSeen) → slice_get ds dev ≡ got → map (λ (x : DeviceSeen). x.sectors) (raised_in ds dev got) ≡ map (λ (x : DeviceSeen). x.sectors) ds
+raised_sectors ds dev None there = refl
+raised_sectors ds dev (Some d) there = map_set_got (λ (x : DeviceSeen). x.sectors) ds dev d (seen_raised d) there refl
+
+pub ended_sectors : (due : Bool) (dev : ℕ) (p : ParkedSeen) → parked_sectors (ended due dev p) ≡ parked_sectors p
+ended_sectors true dev p = raised_sectors p.devices dev (slice_get p.devices dev) refl
+ended_sectors false dev p = refl

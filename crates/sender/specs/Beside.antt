@@ -1,5 +1,5 @@
 -- Steps that the caller makes beside the guest while the RAM is lent: each over a window, into which it has copied some pieces of RAM.
-use Rattle.std.specs.Prelude.{◌≡◌, ℕ, ◌/◌, List, length, Bool, true, false, slice_index}
+use Rattle.std.specs.Prelude.{◌≡◌, ℕ, ◌/◌, List, length, Bool, true, false, slice_index, Result, Ok, Err, MatchOption}
 use Rattle.chains.specs.Footprint.{AgreeOn}
 use Rattle.chains.specs.declared.lacking.Piece.{Piece}
 use Rattle.guestmem.specs.Lent.{AreBelow, is_named}
@@ -12,13 +12,19 @@ use Rattle.machine.specs.Footprint.{asks_at}
 use Rattle.machine.specs.Layout.{firsts_of}
 use Rattle.machine.specs.Parked.{ParkedSeen, back_with}
 use Rattle.machine.specs.Seen.{state_of}
+use Rattle.machine.specs.Stepped.{reply_in}
 use Rattle.machine.specs.Stored.{indexes_of, stored}
+use Rattle.machine.specs.declared.event.Event.TheVariants.{Step}
 use Rattle.machine.specs.declared.reply.Reply.{Reply}
+use Rattle.machine.specs.declared.stepped.Stepped.{Stepped}
 use Rattle.region.specs.Lending.{with_content}
 use Rattle.region.specs.declared.region.Region.{Region}
 use Rattle.sender.specs.Calls.{with_items}
 use Rattle.sender.specs.Parked.{KeepsWord, LiveParkedSeen, parked_layout}
+use Rattle.sender.specs.LiveState.{refusal_for}
 use Rattle.sender.specs.ParkedCalls.{IsLentCall, MakesBeside, a_step, parked_base}
+use Rattle.sender.specs.declared.event.LiveEvent.TheVariants.{Guest}
+use Rattle.sender.specs.declared.mig_error.MigError.{MigError}
 
 -- A step that was made over a window is one beside the guest, where RAM, as the step saw it, is what the window is in the pieces that are
 -- held, and these are all that the step reads.
@@ -39,7 +45,16 @@ pub record IsLiveMadeOver (p : LiveParkedSeen) (window : Region) (dev pick : ℕ
   pub dirty : next.dirty ≡ with_items (firsts_of (parked_layout p.parked)) p.dirty (items_of made.applied.effect)
   pub rest : next ≡ record p { parked = next.parked; dirty = next.dirty }
 
--- So it is a call of the loan, whatever RAM was elsewhere.
+-- The call: the phase refuses it as it refuses the step, and nothing changes, or it is made.
+abbrev pub AnswersOver : LiveParkedSeen → Region → ℕ → ℕ → Result Stepped MigError → List ℕ → Region → LiveParkedSeen → Type 0
+AnswersOver p window dev pick (Ok stepped) sent left next = IsLiveMadeOver p window dev pick (reply_in stepped sent) left next
+AnswersOver p window dev pick (Err e) sent left next = ⊥
+
+abbrev pub TriesOver : LiveParkedSeen → Region → ℕ → ℕ → Result Stepped MigError → List ℕ → Region → LiveParkedSeen → Type 0
+TriesOver p window dev pick result sent left next =
+    MatchOption (refusal_for p.phase (Guest (Step dev pick))) (AnswersOver p window dev pick result sent left next) (λ x. (result ≡ Err x) × (left ≡ window) × (next ≡ p))
+
+-- A step that is made is a call of the loan, whatever RAM was elsewhere.
 abbrev pub OverIsLentCall : Type 0
 OverIsLentCall = (p next : LiveParkedSeen) (window left : Region) (held : List Piece) (dev pick : ℕ) (reply : Reply) (h : IsLiveMadeOver p window dev pick reply left next) (wrote seen : List ℕ) → length window.content ≡ length seen → AgreeOn window.content seen held
     → KnowsReads held (state_of (back_with p.parked (window_memory p.parked window))) dev pick → KnowsWord held (state_of (back_with p.parked (window_memory p.parked window))) dev pick

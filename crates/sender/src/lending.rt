@@ -1,5 +1,6 @@
 //! Machines that are being migrated, and whose RAM is lent.
 
+mod beside;
 mod calls;
 
 ghost use Rattle.std.specs.Prelude.{◌≡◌, ◌+◌, ◌*◌, ◌<◌, ◌≤◌, ◌^◌, ◌++◌, [], Some, drop, false, length, min, take};
@@ -9,8 +10,6 @@ ghost use Rattle.wire.specs.Sinks.{Takes, over_writer};
 ghost use Rattle.region.specs.Address.{address};
 ghost use Rattle.guestmem.specs.Lent.{AreBelow, given_back};
 ghost use Rattle.guestmem.specs.declared.limits.TheConstants.{PAGE_SIZE};
-ghost use Rattle.machine.specs.Stepped.{reply_in};
-ghost use Rattle.sender.specs.Beside.{IsLiveMadeOver};
 ghost use Rattle.sender.specs.StopBytes.{IsStopBytesLent};
 ghost use Rattle.sender.specs.Parked.{IsLiveParked, live_back};
 
@@ -22,7 +21,7 @@ use crate::measuring::devices_len;
 use crate::phase::Phase;
 use dirtylog::BitSet;
 use guestmem::Both;
-use machine::{Disk, Parked, Stepped};
+use machine::{Disk, Parked};
 use region::Region;
 use std::marker::Model;
 use wire::{Digesting, Eager, Sink, Waiting};
@@ -105,38 +104,6 @@ impl<D: Disk, W: Digesting> LiveParked<D, W> {
         ensures { result.now ≡ self.now.parked }
     {
         &self.parked
-    }
-
-    /// Makes a step over a window, as `Parked::step_over` does. Exactly the items that the step writes into become dirty: a page of which it
-    /// only reads does not.
-    pub fn step_over(
-        self,
-        window: Region,
-        dev: u8,
-        pick: u8,
-        sent: &mut Vec<u8>,
-    ) -> (Stepped, Region, LiveParked<D, W>)
-        requires size { length window.content ≡ PAGE_SIZE * length self.parked.versions }
-        ensures { IsLiveMadeOver self window dev pick (reply_in result.0 sent.new.items) result.1 result.2 }
-    {
-        let LiveParked {
-            parked,
-            writer,
-            phase,
-            due,
-            at,
-            mut dirty,
-        } = self;
-        let (stepped, window, parked) = parked.step_over(window, dev, pick, sent, &mut dirty);
-        let next = LiveParked {
-            parked,
-            writer,
-            phase,
-            due,
-            at,
-            dirty,
-        };
-        (stepped, window, next)
     }
 
     /// The machine whose RAM is given back, as `Parked::give_back` does. The pages that were written meanwhile are dirty.
