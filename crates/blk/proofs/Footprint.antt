@@ -6,7 +6,8 @@ use Rattle.guestmem.specs.Writes.{set_all}
 use Rattle.chains.specs.State.{RingState}
 use Rattle.chains.specs.Places.{places, read_places}
 use Rattle.chains.specs.Publish.{is_interrupt_due}
-use Rattle.chains.specs.Footprint.{AgreeOn}
+use Rattle.chains.specs.Footprint.{AgreeOn, Knows, place_pieces}
+use Rattle.chains.specs.declared.lacking.Piece.{Piece}
 use Rattle.chains.specs.declared.chain.Chain.{Chain}
 use Rattle.chains.specs.declared.next.Next.{Next}
 use Rattle.chains.specs.declared.next.Next.TheVariants as next
@@ -52,3 +53,13 @@ move_local Flush base id a b content r is_fine h = refl
 move_local GetId base id a b content r is_fine h = refl
 move_local Refused base id a b content r is_fine h = refl
 move_local Zero base id a b content r is_fine h = refl
+
+-- The bytes that an open write writes next are known.
+either_way : (opens : Bool) (held : List Piece) (ram : List ℕ) (ps : List Piece) → Knows held ram ps → Knows held ram (if opens then ps else [])
+either_way true held ram ps known = known
+either_way false held ram ps known = λ b h. tt
+
+pub out_known : (base : ℕ) (held : List Piece) (ram : List ℕ) (r : Request) → r.kind ≡ Out → Knows held ram (place_pieces base (take 512 (drop (16 + 512 * r.done) (places r.readable)))) → Knows held ram (advance_pieces base (Some r))
+out_known base held ram r is known =
+    let unit : unit_pieces r.kind base r ≡ place_pieces base (take 512 (drop (16 + 512 * r.done) (places r.readable))) = rw is refl in
+    either_way (is_open r) held ram (unit_pieces r.kind base r) (rw unit known)

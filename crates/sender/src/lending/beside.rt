@@ -10,7 +10,8 @@ ghost use Rattle.guestmem.specs.declared.limits.TheConstants.{PAGE_SIZE};
 ghost use Rattle.machine.specs.Beside.{KnowsReads, window_memory};
 ghost use Rattle.machine.specs.Parked.{back_with};
 ghost use Rattle.machine.specs.Seen.{state_of};
-ghost use Rattle.sender.specs.Beside.{TriesOver, live_ended};
+ghost use Rattle.machine.specs.Stepped.{reply_in};
+ghost use Rattle.sender.specs.Beside.{IsLiveMadeOver, TriesOver, live_ended};
 
 use crate::lending::LiveParked;
 use crate::mig_error::MigError;
@@ -56,6 +57,7 @@ impl<D: Disk, W: Digesting> LiveParked<D, W> {
 
     /// Makes a step over a window, as `Parked::step_over` does. Exactly the items that the step writes into become dirty: a page of which it
     /// only reads does not. After a stop that closed the stream it is refused.
+    #[tactic(auto, using(crate::proofs::Over::over_refused, crate::proofs::Over::over_made))]
     pub fn step_over(
         self,
         window: Region,
@@ -69,6 +71,21 @@ impl<D: Disk, W: Digesting> LiveParked<D, W> {
         if let Err(error) = self.running() {
             return (Err(error), window, self);
         }
+        let (stepped, window, next) = self.made_over(window, dev, pick, sent);
+        (Ok(stepped), window, next)
+    }
+
+    /// The same in a phase in which the guest runs.
+    fn made_over(
+        self,
+        window: Region,
+        dev: u8,
+        pick: u8,
+        sent: &mut Vec<u8>,
+    ) -> (Stepped, Region, LiveParked<D, W>)
+        requires size { length window.content ≡ PAGE_SIZE * length self.parked.versions }
+        ensures { IsLiveMadeOver self window dev pick (reply_in result.0 sent.new.items) result.1 result.2 }
+    {
         let LiveParked {
             parked,
             writer,
@@ -86,7 +103,7 @@ impl<D: Disk, W: Digesting> LiveParked<D, W> {
             at,
             dirty,
         };
-        (Ok(stepped), window, next)
+        (stepped, window, next)
     }
 
     /// Ends an open step of a device (`Parked::end`): raises its used-buffer interrupt, if the driver's word asks for that. No item becomes

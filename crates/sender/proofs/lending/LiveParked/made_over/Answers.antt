@@ -3,7 +3,7 @@ use Rattle.machine.specs.Beside.{window_memory}
 use Rattle.machine.specs.Parked.{back_with}
 use Rattle.sender.specs.Parked.{LiveParkedSeen}
 use Rattle.sender.proofs.Over.{fit_over, made_over, may_over}
-use Rattle.sender.proofs.lending.LiveParked.step_over.Goals as goal
+use Rattle.sender.proofs.lending.LiveParked.made_over.Goals as goal
 
 pub step_over-stepped-requires-clause-may : goal.step_over-stepped-requires-clause-may
 step_over-stepped-requires-clause-may g c =
