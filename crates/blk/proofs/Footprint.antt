@@ -1,27 +1,18 @@
 -- A block device reads no byte of a chain outside of its pieces.
-use Rattle.std.specs.Prelude.{◌≡◌, ℕ, zero, suc, ◌+◌, ◌*◌, ◌≤◌, List, [], ◌∷◌, ◌++◌, take, drop, length, slice_get, Bool, true, false, not, Option, Some, None, refl, if◌then◌else◌}
-use Rattle.std.proofs.Common.{ap, sym, ◌∙◌, arith, cond}
+use Rattle.std.specs.Prelude.{◌≡◌, ℕ, zero, suc, ◌+◌, ◌*◌, ◌≤◌, List, [], ◌∷◌, take, drop, Bool, true, false, Some, refl, if◌then◌else◌}
+use Rattle.std.proofs.Common.{ap, sym, ◌∙◌, arith}
 use Rattle.std.proofs.lemmas.List.{drop-take}
-use Rattle.guestmem.specs.Writes.{set_all}
 use Rattle.chains.specs.State.{RingState}
 use Rattle.chains.specs.Places.{places, read_places}
-use Rattle.chains.specs.Publish.{is_interrupt_due}
 use Rattle.chains.specs.Footprint.{AgreeOn, Knows, place_pieces}
 use Rattle.chains.specs.declared.lacking.Piece.{Piece}
 use Rattle.chains.specs.declared.chain.Chain.{Chain}
-use Rattle.chains.specs.declared.next.Next.{Next}
-use Rattle.chains.specs.declared.next.Next.TheVariants as next
 use Rattle.chains.proofs.LookFootprint.{front_local, part_local}
-use Rattle.blk.specs.Advance.{AdvanceStep, advance_one, advance_step, completed, end_writes, used_len}
-use Rattle.blk.specs.Block.{limits_of}
 use Rattle.blk.specs.Footprint.{advance_pieces, taken_pieces, unit_pieces}
-use Rattle.blk.specs.Move.{Move, move_of, unit_bytes, write_unit}
+use Rattle.blk.specs.Move.{move_of, unit_bytes, write_unit}
 use Rattle.blk.specs.Request.{is_open}
 use Rattle.blk.specs.Sectors.{Sector}
 use Rattle.blk.specs.Take.{header_of, segment_of, take_chain}
-use Rattle.blk.specs.Task.{task_of}
-use Rattle.blk.specs.declared.advancing.Advanced.{Advanced}
-use Rattle.blk.specs.declared.advancing.Advanced.TheVariants.{Idle, Moved, BadSector, DiskFailed, Completed}
 use Rattle.blk.specs.declared.block.Block.{Block}
 use Rattle.blk.specs.declared.request.Kind.{Kind}
 use Rattle.blk.specs.declared.request.Kind.TheVariants.{Refused, In, Out, Flush, GetId, Zero}

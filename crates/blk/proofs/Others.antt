@@ -1,14 +1,14 @@
 -- Requests that do not wait for their disk: they advance alike over any sectors.
 use Rattle.std.proofs.Common.{◌≡◌, ℕ, List, [], Bool, true, false, cond, Option, Some, None, slice_get, refl, sym, ap, ◌∙◌}
-use Rattle.std.proofs.lemmas.Bool.{true≢false, false≢true}
+use Rattle.std.proofs.lemmas.Bool.{true≢false}
 use Rattle.chains.specs.State.{RingState}
 use Rattle.blk.specs.Advance.{advance_one, after_move, completed}
 use Rattle.blk.specs.Inside.{OthersAreAlike}
-use Rattle.blk.specs.Move.{SectorSet, move_of}
-use Rattle.blk.specs.Outside.{Failed, answers_in, awaits, awaits_at, awaits_in, call_of, outside_step, units_left, what_of}
+use Rattle.blk.specs.Move.{move_of}
+use Rattle.blk.specs.Outside.{Failed, answers_in, awaits_at, awaits_in, call_of, outside_step, units_left, what_of}
 use Rattle.blk.specs.Request.{is_good, is_open, next_sector}
 use Rattle.blk.specs.Sectors.{Sector}
-use Rattle.blk.specs.Sound.{HasSoundWork, IsSoundWork}
+use Rattle.blk.specs.Sound.{IsSoundWork}
 use Rattle.blk.specs.declared.block.Block.{Block}
 use Rattle.blk.specs.declared.request.Kind.{Kind}
 use Rattle.blk.specs.declared.request.Kind.TheVariants.{Refused, In, Out, Flush, GetId, Zero}

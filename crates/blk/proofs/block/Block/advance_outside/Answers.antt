@@ -1,4 +1,4 @@
-use Rattle.std.proofs.Common.{◌≤◌, None, ◌≡◌, ◌<◌, ◌∙◌, ap, refl, sym, false, true, Some, slice_get, length, arith}
+use Rattle.std.proofs.Common.{◌≤◌, None, ◌≡◌, ◌<◌, ◌∙◌, ap, refl, sym, false, Some, slice_get, length, arith}
 use Rattle.std.proofs.lemmas.Option.{slice_get_past, slice_get_read, get_or_from_slice_get}
 use Rattle.guestmem.proofs.LaterLaws.{later_same}
 use Rattle.guestmem.proofs.RisesLaws.{touches_none}
