@@ -1,5 +1,5 @@
 -- The migration of a machine out of a handle, while its RAM is lent.
-use Rattle.std.proofs.Common.{◌≡◌, ◌≢◌, ℕ, List, false, [], ◌∷◌, ◌++◌, sym, ap, ◌∙◌, map, subst, take, drop, length, true≢false}
+use Rattle.std.proofs.Common.{◌≡◌, ◌≢◌, ℕ, List, false, [], ◌∷◌, ◌++◌, append-nil, refl, sym, ap, ◌∙◌, map, subst, take, drop, length, true≢false}
 use Rattle.std.specs.Prelude.{Some, min}
 use Rattle.region.specs.Address.{address}
 use Rattle.region.specs.declared.region.Region.{Region}
@@ -16,12 +16,14 @@ use Rattle.sender.specs.declared.phase.Phase.{Phase}
 use Rattle.sender.specs.declared.phase.Phase.TheVariants as phases
 use Rattle.sender.specs.declared.event.LiveEvent.TheVariants.{Guest}
 use Rattle.sender.proofs.Behind.{back_is_behind}
+use Rattle.sender.specs.Taking.{untaken}
 use Rattle.sender.proofs.ParkedServed.{live_parked_is_served}
+use Rattle.sender.proofs.StepBeside.{goes_beside}
 use Rattle.wire.specs.Sinks.{Digested, SinkState, Takes, over_writer}
 use Rattle.c_handle.specs.Lent.{IsLiveLoan}
 use Rattle.c_handle.specs.Migrated.{HasTaken}
 use Rattle.c_handle.specs.Mirror.{is_closed}
-use Rattle.c_handle.specs.Sent.{LentCallsStaySent, LentComesBackSent, LentTakingsStaySent, lent_base}
+use Rattle.c_handle.specs.Sent.{LentCallsStaySent, LentComesBackSent, LentStepsStaySent, LentTakingsStaySent, lent_base}
 use Rattle.c_handle.proofs.Sent.{calls_stay_sent, takings_stay_sent}
 
 -- The same with another writer.
@@ -114,4 +116,27 @@ lent_calls_stay_sent m h taken pages e reply before p next is serves =
         loan = record { parked = was.parked; places = was.places; sound = subst IsMemory (sym was.memory) is.loan.sound };
         goes = ap is_closed was.phase ∙ is.goes;
       };
+    }
+
+still_open : (p : Phase) → p ≢ phases.Stopped → is_closed p ≡ false
+still_open phases.Fresh goes = refl
+still_open (phases.Open k) goes = refl
+still_open phases.Failed goes = refl
+still_open phases.Stopped goes = absurd (goes refl)
+
+pub lent_steps_stay_sent : LentStepsStaySent
+lent_steps_stay_sent m h taken pages wrote seen dev pick reply effect before p next is call word =
+    let l = is.lender in
+    let out : SinkState = over_writer (Some []) 0 false in
+    let gone = goes_beside m h out taken pages l p next before is.is_sent is.loan.places is.loan.sound (not_stopped l.phase is.goes) is.loan.parked (lent_base p) wrote seen dev pick reply effect refl call word in
+    record {
+      history = gone.history;
+      is_sent = record {
+        lender = gone.after;
+        is_sent = subst (λ (t : List ℕ). IsBehind m gone.history out (pages ++ wrote) (untaken t gone.after)) (append-nil taken) gone.behind;
+        loan = record { parked = gone.parked; places = gone.places; sound = gone.memory };
+        goes = still_open gone.after.phase gone.goes;
+      };
+      came = gone.came;
+      text_is = gone.text_is;
     }

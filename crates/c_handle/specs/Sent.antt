@@ -1,24 +1,27 @@
 -- The migration of a machine out of a handle, from its first call on: its history, and the bytes that C has taken. What C has
 -- taken, followed by what waits, is all that a machine that is being migrated has written. So after a stop it is the whole
 -- stream of the machine, and what is made of it on the other side is the machine.
-use Rattle.std.specs.Prelude.{◌≡◌, ◌≢◌, ◌++◌, ℕ, List, [], Some, false, length, map, take}
+use Rattle.std.specs.Prelude.{◌≡◌, ◌≢◌, ◌++◌, ℕ, List, [], ◌∷◌, Some, false, length, map, take}
 use Rattle.region.specs.Address.{address}
+use Rattle.region.specs.Lending.{with_content}
 use Rattle.region.specs.declared.region.Region.{Region}
 use Rattle.guestmem.specs.Lent.{AreBelow, given_back}
 use Rattle.guestmem.specs.Memory.{IsMemory}
+use Rattle.guestmem.specs.Writes.{set_all}
 use Rattle.machine.specs.Effect.{Effect}
 use Rattle.machine.specs.Seen.{AreHonest, Seen, state_of}
 use Rattle.machine.specs.Sound.{IsSound}
 use Rattle.machine.specs.State.{MachineState, base_of}
 use Rattle.machine.specs.declared.event.Event.{Event}
 use Rattle.machine.specs.declared.event.Event.TheVariants.{Step}
+use Rattle.machine.specs.declared.reply.Reply.{Reply}
 use Rattle.machine.specs.declared.reply.Reply.TheVariants.{DiskFailed}
 use Rattle.sender.specs.Calls.{Serves}
 use Rattle.sender.specs.History.{History, guest_events, has_fault, nothing, phase_of, text, then_came}
 use Rattle.sender.specs.LiveState.{HasPlaces, LiveSeen, now}
 use Rattle.sender.specs.Marks.{AreAmong, IsBehind, MayCall, live_marked, still_behind}
 use Rattle.sender.specs.Parked.{KeepsWord, LiveParkedSeen, live_back, live_base, page_writes}
-use Rattle.sender.specs.ParkedCalls.{ServesParked}
+use Rattle.sender.specs.ParkedCalls.{ServesParked, StepsBeside}
 use Rattle.sender.specs.Taking.{untaken}
 use Rattle.sender.specs.Unsynced.{FailsLiveFlush}
 use Rattle.sender.specs.declared.event.LiveEvent.{LiveEvent}
@@ -107,6 +110,21 @@ pub record GoesOnSent (m : MachineState) (h : History) (taken : List ℕ) (event
 -- The address at which RAM begins, while it is lent.
 abbrev pub lent_base : LiveParkedSeen → ℕ
 lent_base p = base_of (map (λ d. d.state) p.parked.devices)
+
+-- These events of the guest are added to the history, nothing is written meanwhile, and no pages but these are still to be named. By the
+-- history RAM holds what this region holds.
+pub record GoesOnLentSent (m : MachineState) (h : History) (taken : List ℕ) (events : List Event) (pages : List ℕ) (before : Region) (next : LiveParkedSeen) : Type 0 where
+  pub history : History
+  pub is_sent : IsSentLent m history taken pages before next
+  pub came : guest_events history ≡ guest_events h ++ events
+  pub text_is : text m history ≡ text m h
+
+-- A step beside the guest adds the guest's writes of the pages that it had written till then, as the step saw them, and the step. These pages
+-- are to be named too.
+abbrev pub LentStepsStaySent : Type 0
+LentStepsStaySent = (m : MachineState) (h : History) (taken pages : List ℕ) (wrote seen : List ℕ) (dev pick : ℕ) (reply : Reply) (effect : Effect) (before : Region) (p next : LiveParkedSeen) → IsSentLent m h taken pages before p
+    → StepsBeside p seen dev pick reply effect next → KeepsWord before (with_content before seen) (length p.parked.versions) wrote
+    → GoesOnLentSent m h taken (page_writes (lent_base p) wrote seen ++ Step dev pick ∷ []) (pages ++ wrote) (with_content before (set_all seen effect.writes)) next
 
 -- RAM that is given back by a caller that wrote into no page but these is as if the guest had written them by calls of the machine: so
 -- these writes are added to the history. What the caller names is still to be named no longer.

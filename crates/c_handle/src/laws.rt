@@ -9,7 +9,7 @@ ghost use Rattle.c_handle.specs.Outside.{RefusedAnswersNothing, RefusedHandsNoth
 ghost use Rattle.c_handle.specs.Refused.{RefusedTellsNothing, RefusedWritesNothing};
 ghost use Rattle.c_handle.specs.Stepped.{RefusedStepsNothing};
 ghost use Rattle.c_handle.specs.Turns.{RefusedTurnsNothing, TurnsStaySent};
-ghost use Rattle.c_handle.specs.Sent.{AbortsAfterTakings, ArrivedIsSent, CallsStaySent, FailedFlushesStaySent, FirstIsSent, LentCallsStaySent, LentComesBackSent, LentTakingsStaySent, MarksStaySent, StoppedIsWhole, TakingsChangeNothingElse, TakingsStaySent};
+ghost use Rattle.c_handle.specs.Sent.{AbortsAfterTakings, ArrivedIsSent, CallsStaySent, FailedFlushesStaySent, FirstIsSent, LentCallsStaySent, LentComesBackSent, LentStepsStaySent, LentTakingsStaySent, MarksStaySent, StoppedIsWhole, TakingsChangeNothingElse, TakingsStaySent};
 
 /// A machine over disks in memory stays one.
 pub fn plain_stays()
@@ -138,6 +138,11 @@ pub fn takings_change_nothing_else()
 /// So it is of a call that is made while RAM is lent.
 pub fn lent_calls_stay_sent()
     ensures { LentCallsStaySent }
+{}
+
+/// A step beside the guest adds to the history what the guest had written till then, and the step.
+pub fn lent_steps_stay_sent()
+    ensures { LentStepsStaySent }
 {}
 
 /// So it is of what is taken while RAM is lent.

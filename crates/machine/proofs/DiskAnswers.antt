@@ -124,7 +124,7 @@ writable_at len d block k request is sound there =
     rest_inside d.registers.ram_base len (512 * request.done) (places request.writable)
     (places_inside d.registers.ram_base len request.writable (requests_at len d.registers block k request (queue_at d.registers 0) refl kind there))
 
-sound_in : (len : ℕ) (r : Registers) (block : blocks.Block) (found : Option Queue) → queue_at r 0 ≡ found → IsSomeAnd found (λ q. AreRequestsOf r.ram_base len (is_packed_by r.common) q (limits_of block r.common.features) block.requests)
+pub sound_in : (len : ℕ) (r : Registers) (block : blocks.Block) (found : Option Queue) → queue_at r 0 ≡ found → IsSomeAnd found (λ q. AreRequestsOf r.ram_base len (is_packed_by r.common) q (limits_of block r.common.features) block.requests)
     → AreSoundIn r.ram_base len block.requests
 sound_in len r block None is are = absurd are
 sound_in len r block (Some q) is are = record { is_packed = is_packed_by r.common; size = q.size; limits = limits_of block r.common.features; sound = are.sound }

@@ -24,6 +24,10 @@ pub mod Containing
 mod Refusing
 mod Stepping
 pub mod At
+pub mod Footprint
+pub mod Beside
+pub mod Stored
+pub mod Lacking
 mod Raised
 pub mod Running
 pub mod Disks

@@ -3,6 +3,7 @@ pub mod Rings
 pub mod Applied
 pub mod AppliedLaws
 pub mod BadSectors
+pub mod Beside
 pub mod Board
 pub mod Calls
 pub mod DeviceStep
@@ -12,7 +13,9 @@ pub mod Dropping
 pub mod Effect
 pub mod EffectLaws
 pub mod First
+pub mod Footprint
 pub mod Held
+pub mod Lacking
 pub mod Layout
 pub mod Limits
 pub mod Lines
@@ -35,6 +38,7 @@ pub mod State
 pub mod Step
 pub mod StepLaws
 pub mod Stepped
+pub mod Stored
 pub mod Turn
 pub mod MachineTurn
 pub mod Unsynced

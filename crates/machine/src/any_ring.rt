@@ -3,17 +3,20 @@
 //! The layout is named by feature bit 34, which is fixed while a queue is ready; devices are generic over `Ring` and see
 //! neither. This type keeps the ring of a queue and is no `Ring` itself: each of its calls would tell the layout apart again.
 
-ghost use Rattle.std.specs.Prelude.{◌≡◌, ◌<◌, true, false};
+ghost use Rattle.std.specs.Prelude.{◌≡◌, ◌<◌, true, false, length, None};
+ghost use Rattle.chains.specs.Footprint.{Knows, look_pieces};
+ghost use Rattle.chains.specs.Gives.{Gives, GivesBounded};
 ghost use Rattle.chains.specs.RingCore.{core_state};
 ghost use Rattle.guestmem.specs.Memory.{Memory};
 ghost use Rattle.chains.specs.Decoder.{Fits};
-ghost use Rattle.chains.specs.State.{AreAbove, MayRing, state_of};
+ghost use Rattle.chains.specs.State.{AreAbove, HasAreas, MayRing, state_of};
 ghost use Rattle.mmio.specs.Bits.{has};
 ghost use Rattle.mmio.specs.declared.constants.TheConstants.{RING_PACKED};
 ghost use Rattle.machine.specs.Rings.{emptied};
 ghost use Rattle.machine.specs.AnyRing.{ring_in, decoder_in, is_packed_in};
 
-use chains::{Positions, RingCore, Site};
+use chains::{Chain, NextKind, Piece, Positions, Ring, RingCore, Site};
+use guestmem::Ram;
 use mmio::{Queue, RING_PACKED};
 use packedring::PackedRing;
 use splitring::SplitRing;
@@ -88,6 +91,30 @@ impl AnyRing {
         match self {
             AnyRing::Split(ring) => ring.forget(),
             AnyRing::Packed(ring) => ring.forget(),
+        }
+    }
+
+    /// The first piece of RAM that a look lacks, where these pieces are held, if it lacks one.
+    pub fn lacks(&self, ram: &Ram, held: &[Piece]) -> Option<Piece>
+        requires { HasAreas (length ram.now.bytes) (ring_in self.now) }
+        ensures { result ≡ None → Knows held.now ram.now.bytes (look_pieces ram.now.bytes (ring_in self.now)) }
+    {
+        match self {
+            AnyRing::Split(ring) => ring.lacks(ram, held),
+            AnyRing::Packed(ring) => ring.lacks(ram, held),
+        }
+    }
+
+    /// What is at the taking position, with the chain filled in (`Ring::next_into`).
+    pub fn next_into(&mut self, ram: &Ram, chain: &mut Chain) -> NextKind
+        requires areas { HasAreas (length ram.now.bytes) (ring_in self.old) }
+        requires fits { Fits (decoder_in self.old) ram.now }
+        ensures gives { Gives ram.now.bytes (ring_in self.old) result chain.new }
+        ensures bounded { GivesBounded (length ram.now.bytes) (ring_in self.old) result chain.new }
+    {
+        match self {
+            AnyRing::Split(ring) => ring.next_into(ram, chain),
+            AnyRing::Packed(ring) => ring.next_into(ram, chain),
         }
     }
 }

@@ -37,6 +37,7 @@ impl<D: Disk> Device<D> {
     ghost use Rattle.machine.specs.DeviceWork.{IsDeviceStep};
     ghost use Rattle.chains.specs.Decoder.{Fits};
     ghost use Rattle.machine.specs.AnyRing.{decoder_in};
+    ghost use Rattle.machine.specs.Beside.{seen_raised};
     ghost use Rattle.machine.specs.Rings.{FitAll, forgotten};
     ghost use Rattle.machine.specs.declared.any_ring.AnyRing.{AnyRing};
     ghost use Rattle.guestmem.specs.Memory.{Memory};
@@ -124,6 +125,13 @@ impl<D: Disk> Device<D> {
         ensures device { self.new ≡ record self.old { state = without_input self.old.state } }
     {
         self.state.drop_input()
+    }
+
+    /// Raises the used-buffer interrupt.
+    pub(crate) fn raise_used(&mut self)
+        ensures { self.new ≡ seen_raised self.old }
+    {
+        self.state.raise_used();
     }
 
     /// Fails the flush that a step with this pick makes, if it makes one. The disk is not called.

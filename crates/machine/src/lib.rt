@@ -108,6 +108,7 @@ mod work;
 
 pub use blk::{Disk, DiskFault, FaultDisk, FileDisk, MemDisk, SECTOR_SIZE, SECTORS_MAX, SyncOwed};
 pub use board::{Board, RamOf, Unmade};
+pub use chains::Piece;
 pub use device::Device;
 pub use event::{DiskAnswer, Event};
 pub use fitting::are_disks_of;

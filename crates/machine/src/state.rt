@@ -6,6 +6,7 @@
 //! A look and an advance are made on a ring in its layout, a `SplitRing` or a `PackedRing`: `Device::step` tells them apart.
 
 mod first_pick;
+mod lacking;
 mod outside;
 mod unsynced;
 

@@ -1,9 +1,9 @@
 -- The history of a machine whose RAM was lent, with the calls that were made meanwhile.
-use Rattle.std.proofs.Common.{◌≡◌, ◌≢◌, ℕ, ◌++◌, List, [], ◌∷◌, length, map, refl, sym, ap, subst, ◌∙◌, append_assoc, append-nil}
+use Rattle.std.proofs.Common.{◌≡◌, ◌≢◌, ℕ, ◌++◌, ◌||◌, Bool, true, false, List, [], ◌∷◌, length, map, refl, sym, ap, subst, ◌∙◌, append_assoc, append-nil}
 use Rattle.std.specs.Prelude.{IsTrue}
 use Rattle.region.specs.Address.{address}
 use Rattle.region.specs.declared.region.Region.{Region}
-use Rattle.guestmem.specs.Lent.{given_back}
+use Rattle.guestmem.specs.Lent.{given_back, is_named}
 use Rattle.guestmem.specs.Memory.{IsMemory, Memory}
 use Rattle.machine.specs.Parked.{IsParked, ParkedSeen}
 use Rattle.machine.specs.Seen.{DeviceSeen}
@@ -20,14 +20,16 @@ use Rattle.sender.specs.History.{History, guest_events, phase_of, text, then_cam
 use Rattle.sender.specs.LiveState.{HasPlaces, LiveSeen}
 use Rattle.sender.specs.Marks.{AreAmong, BehindGoesOn, IsBehind, LentIsBehind, MayCall, TakingStaysBehind, if_dirty}
 use Rattle.sender.specs.Parked.{IsLiveParked, KeepsWord, LiveParkedSeen, live_back, live_base, page_writes}
-use Rattle.sender.specs.ParkedCalls.{IsDoneLiveLent, IsLentCall, IsServedUncalled, LentCall, LentFollows, a_failed_flush, a_flush, a_taking, an_event, bytes_among, bytes_in, events_among, events_in, parked_base}
+use Rattle.sender.specs.ParkedCalls.{AreSeen, IsDoneLiveLent, IsLentCall, IsSeen, IsServedUncalled, LentCall, LentFollows, a_failed_flush, a_flush, a_step, a_taking, an_event, bytes_among, bytes_in, events_among, events_in, missing_among, missing_in, over_with, over_with_all, parked_base}
 use Rattle.sender.specs.Taking.{untaken}
 use Rattle.sender.specs.Unsynced.{FailsLiveFlush, FlushesLiveDisk}
 use Rattle.sender.specs.declared.event.LiveEvent.TheVariants.{Guest}
 use Rattle.sender.specs.declared.event.LiveReply.TheVariants as r
 use Rattle.sender.specs.declared.phase.Phase.{Phase}
 use Rattle.sender.specs.declared.phase.Phase.TheVariants as phases
-use Rattle.sender.proofs.Behind.{back_is_behind, behind_by_none, failure_stays_behind, flush_stays_behind, taken_stays_behind}
+use Rattle.sender.proofs.Behind.{behind_by_none, failure_stays_behind, flush_stays_behind, taken_stays_behind}
+use Rattle.sender.proofs.Marking.{named_both}
+use Rattle.sender.proofs.StepBeside.{GoesOnLent, back, goes_beside, may_guest, no_text, places_untaken}
 use Rattle.sender.proofs.ParkedServed.{live_parked_flush_fails, live_parked_is_flushed, live_parked_is_served}
 
 -- Bytes are taken.
@@ -58,36 +60,15 @@ pub taking_stays_behind : TakingStaysBehind
 taking_stays_behind m h out writer digest taken more pages l b held count honest takes =
     record { late = b.late; among = b.among; relates = relates_taken m h out taken more (if_dirty b.late l) digest writer b.relates held count honest takes }
 
--- An event of the guest may come whatever is missing.
-pub may_guest : (pages : List ℕ) (e : Event) → MayCall pages (Guest e)
-may_guest [] e = tt
-may_guest (n ∷ pages) e = tt
-
-places_untaken : (taken : List ℕ) (l : LiveSeen) → HasPlaces l → HasPlaces (untaken taken l)
-places_untaken taken l places = record { sound = places.sound; few = places.few; due_size = places.due_size; dirty_size = places.dirty_size }
-
-no_text : (m : MachineState) (h : History) (e : Event) (reply : Reply) (f : Effect) → text m (then_came h (Guest e) (r.Guest reply) f) ≡ text m h
-unfolding texts
-no_text m h e reply f = append-nil (text m h)
-
--- One call while the RAM is lent.
-record GoesOnLent (m : MachineState) (h : History) (out : SinkState) (taken pages : List ℕ) (l : LiveSeen) (before : Region) (c : LentCall) (mid : LiveParkedSeen) : Type 0 where
-  history : History
-  after : LiveSeen
-  behind : IsBehind m history out pages (untaken (taken ++ bytes_in c) after)
-  came : guest_events history ≡ guest_events h ++ events_in c
-  text_is : text m history ≡ text m h
-  parked : IsLiveParked after before mid
-  places : HasPlaces after
-  memory : after.machine.memory ≡ l.machine.memory
-  phase : after.phase ≡ l.phase
-
 module _ (m : MachineState) (h : History) (out : SinkState) (taken pages : List ℕ) (l : LiveSeen) (p mid : LiveParkedSeen) (before : Region) (b : IsBehind m h out pages (untaken taken l)) (places : HasPlaces l) (mem : IsMemory l.machine.memory) (goes : l.phase ≢ phases.Stopped) (lent : IsLiveParked l before p) where
   nothing_taken : (history : History) (after : LiveSeen) → IsBehind m history out pages (untaken taken after) → IsBehind m history out pages (untaken (taken ++ []) after)
   nothing_taken history after = subst (λ (t : List ℕ). IsBehind m history out pages (untaken t after)) (sym (append-nil taken))
 
-  goes_on : (c : LentCall) → IsLentCall p c mid → GoesOnLent m h out taken pages l before c mid
-  goes_on (an_event e reply) call =
+  stays : (after : LiveSeen) → after.machine.memory ≡ l.machine.memory → IsLiveParked after before mid → length mid.parked.versions ≡ length p.parked.versions
+  stays after memory there = ap length (there.parked.lent.versions_are ∙ ap (λ (x : Memory). x.versions) memory ∙ sym lent.parked.lent.versions_are)
+
+  goes_on : (c : LentCall) → IsLentCall p c mid → IsSeen before (length p.parked.versions) c → GoesOnLent m h out taken pages before c p mid
+  goes_on (an_event e reply) call saw =
       let one : IsDoneLiveLent l before mid (IsServedUncalled l e (r.Guest reply)) = live_parked_is_served l p mid before e (r.Guest reply) places mem lent call in
       let gone = taken_stays_behind m h out taken pages (Guest e) (r.Guest reply) l one.after b places (may_guest pages e) one.done.serves in
       let next : History = then_came h (Guest e) (r.Guest reply) gone.effect in
@@ -99,10 +80,11 @@ module _ (m : MachineState) (h : History) (out : SinkState) (taken pages : List 
         text_is = no_text m h e reply gone.effect;
         parked = one.parked;
         places = one.places;
-        memory = one.memory;
-        phase = one.phase;
+        memory = subst IsMemory (sym one.memory) mem;
+        versions = stays one.after one.memory one.parked;
+        goes = subst (λ (f : Phase). f ≢ phases.Stopped) (sym one.phase) goes;
       }
-  goes_on (a_failed_flush dev pick) call =
+  goes_on (a_failed_flush dev pick) call saw =
       let one : IsDoneLiveLent l before mid (FailsLiveFlush l dev pick) = live_parked_flush_fails l p mid before dev pick places mem lent call in
       let gone = failure_stays_behind m h out pages dev pick (untaken taken l) (untaken taken one.after) b (places_untaken taken l places) goes (record { failed = one.done.failed; rest = ap (untaken taken) one.done.rest }) in
       let next : History = then_came h (Guest (Step dev pick)) (r.Guest DiskFailed) gone.effect in
@@ -114,10 +96,11 @@ module _ (m : MachineState) (h : History) (out : SinkState) (taken pages : List 
         text_is = no_text m h (Step dev pick) DiskFailed gone.effect;
         parked = one.parked;
         places = one.places;
-        memory = one.memory;
-        phase = one.phase;
+        memory = subst IsMemory (sym one.memory) mem;
+        versions = stays one.after one.memory one.parked;
+        goes = subst (λ (f : Phase). f ≢ phases.Stopped) (sym one.phase) goes;
       }
-  goes_on (a_flush dev result) call =
+  goes_on (a_flush dev result) call saw =
       let one : IsDoneLiveLent l before mid (FlushesLiveDisk l dev result) = live_parked_is_flushed l p mid before dev result places lent call in
       record {
         history = h;
@@ -127,10 +110,11 @@ module _ (m : MachineState) (h : History) (out : SinkState) (taken pages : List 
         text_is = refl;
         parked = one.parked;
         places = one.places;
-        memory = one.memory;
-        phase = one.phase;
+        memory = subst IsMemory (sym one.memory) mem;
+        versions = stays one.after one.memory one.parked;
+        goes = subst (λ (f : Phase). f ≢ phases.Stopped) (sym one.phase) goes;
       }
-  goes_on (a_taking bytes) call =
+  goes_on (a_taking bytes) call saw =
       let out_is : p.out ≡ l.out = ap (λ (x : LiveParkedSeen). x.out) lent.rest in
       let digest_is : p.digest ≡ l.digest = ap (λ (x : LiveParkedSeen). x.digest) lent.rest in
       record {
@@ -145,38 +129,26 @@ module _ (m : MachineState) (h : History) (out : SinkState) (taken pages : List 
           rest = ap (λ (x : LiveParkedSeen). record x { parked = mid.parked }) call.rest ∙ ap (λ (x : LiveParkedSeen). record x { parked = mid.parked; digest = mid.digest; out = mid.out }) lent.rest;
         };
         places = record { sound = places.sound; few = places.few; due_size = places.due_size; dirty_size = places.dirty_size };
-        memory = refl;
-        phase = refl;
+        memory = mem;
+        versions = ap (λ (q : ParkedSeen). length q.versions) (ap (λ (x : LiveParkedSeen). x.parked) call.rest);
+        goes = goes;
       }
+  goes_on (a_step base wrote seen dev pick reply effect) call saw = goes_beside m h out taken pages l p mid before b places mem goes lent base wrote seen dev pick reply effect call.0 call.1 saw
 
--- The versions are kept, and so is the base.
-word_on : (before after : Region) (a b : List ℕ) (pages : List ℕ) → b ≡ a → KeepsWord before after (length a) pages → KeepsWord before after (length b) pages
+-- As many versions.
+word_on : (before after : Region) (a b : ℕ) (pages : List ℕ) → b ≡ a → KeepsWord before after a pages → KeepsWord before after b pages
 word_on before after a b pages is word = rw is word
 
-base_is : (l : LiveSeen) (p : LiveParkedSeen) (region : Region) → IsLiveParked l region p → live_base l ≡ parked_base p
-base_is l p region lent = ap (λ (ds : List DeviceSeen). base_of (map (λ (d : DeviceSeen). d.state) ds)) (sym lent.parked.devices_are)
-
--- The RAM is given back.
-back : (m : MachineState) (h : History) (out : SinkState) (taken pages : List ℕ) (l : LiveSeen) (p : LiveParkedSeen) (before after : Region) (written named rest : List ℕ) → IsBehind m h out pages (untaken taken l) → HasPlaces l → IsMemory l.machine.memory → l.phase ≢ phases.Stopped
-    → IsLiveParked l before p → KeepsWord before after (length p.parked.versions) written → AreAmong named written → AreAmong (pages ++ written) (named ++ rest)
-    → BehindGoesOn m h out (page_writes (parked_base p) written after.content) rest (untaken taken (live_back p (given_back after.content (address after) p.parked.versions named) named))
-back m h out taken pages l p before after written named rest b places mem goes lent word few all =
-    let q : LiveParkedSeen = record p { out = record p.out { held = taken ++ p.out.held } } in
-    let there : IsLiveParked (untaken taken l) before q = record { parked = lent.parked; rest = ap (λ (x : LiveParkedSeen). record x { out = record x.out { held = taken ++ x.out.held } }) lent.rest } in
-    let gone = back_is_behind m h out pages (untaken taken l) q before after written named rest b (places_untaken taken l places) mem goes there word few all in
-    subst (λ (base : ℕ). BehindGoesOn m h out (page_writes base written after.content) rest (untaken taken (live_back p (given_back after.content (address after) p.parked.versions named) named))) (base_is l p before lent) gone
-
 pub lent_is_behind : LentIsBehind
-lent_is_behind m h out taken pages l p next before after [] written named rest b places mem goes lent called word few all =
+lent_is_behind m h out taken pages l p next before after [] written named rest b places mem goes lent called saw word few all =
     subst (λ (x : LiveParkedSeen). BehindGoesOn m h out (page_writes (parked_base x) written after.content) rest (untaken (taken ++ []) (live_back x (given_back after.content (address after) x.parked.versions named) named))) (sym called)
     (subst (λ (t : List ℕ). BehindGoesOn m h out (page_writes (parked_base p) written after.content) rest (untaken t (live_back p (given_back after.content (address after) p.parked.versions named) named))) (sym (append-nil taken))
     (back m h out taken pages l p before after written named rest b places mem goes lent word few all))
-lent_is_behind m h out taken pages l p next before after (c ∷ cs) written named rest b places mem goes lent called word few all =
+lent_is_behind m h out taken pages l p next before after (c ∷ cs) written named rest b places mem goes lent called saw word few all =
     let mid = called.0 in
-    let one : GoesOnLent m h out taken pages l before c mid = goes_on m h out taken pages l p mid before b places mem goes lent c called.1 in
-    let versions : mid.parked.versions ≡ p.parked.versions = one.parked.parked.lent.versions_are ∙ ap (λ (x : Memory). x.versions) one.memory ∙ sym lent.parked.lent.versions_are in
-    let more = lent_is_behind m one.history out (taken ++ bytes_in c) pages one.after mid next before after cs written named rest one.behind one.places (subst IsMemory (sym one.memory) mem) (rw one.phase goes) one.parked called.2
-    (word_on before after p.parked.versions mid.parked.versions written versions word) few all in
+    let one : GoesOnLent m h out taken pages before c p mid = goes_on m h out taken pages l p mid before b places mem goes lent c called.1 saw.0 in
+    let more = lent_is_behind m one.history out (taken ++ bytes_in c) (missing_in pages c) one.after mid next (over_with before c) after cs written named rest one.behind one.places one.memory one.goes one.parked called.2
+    (subst (λ (k : ℕ). AreSeen (over_with before c) k cs) (sym one.versions) saw.1) (word_on (over_with_all (over_with before c) cs) after (length p.parked.versions) (length mid.parked.versions) written one.versions word) few all in
     let writes = page_writes (parked_base next) written after.content in
     record {
       history = more.history;
@@ -185,9 +157,14 @@ lent_is_behind m h out taken pages l p next before after (c ∷ cs) written name
       text_is = more.text_is ∙ one.text_is;
     }
 
+or_none : (a b : Bool) → (a ≡ true → b ≡ true) → (a || b) ≡ true → b ≡ true
+or_none true b f is = f refl
+or_none false b f is = is
+
 pub lent_follows : LentFollows
-lent_follows m h out taken l p next before after calls pages rel places mem goes lent called word =
-    let gone = lent_is_behind m h out taken [] l p next before after calls pages pages [] ((behind_by_none m h out (untaken taken l)).1 rel) places mem goes lent called word (λ n is. is) (λ n is. rw (append-nil pages) is) in
+lent_follows m h out taken l p next before after calls pages rel places mem goes lent called saw word all =
+    let gone = lent_is_behind m h out taken [] l p next before after calls pages pages [] ((behind_by_none m h out (untaken taken l)).1 rel) places mem goes lent called saw word (λ n is. is)
+    (λ n is. rw (append-nil pages) (or_none (is_named (missing_among [] calls) n) (is_named pages n) (all n) (sym (named_both n (missing_among [] calls) pages) ∙ is))) in
     record {
       history = gone.history;
       relates = (behind_by_none m gone.history out (untaken (taken ++ bytes_among calls) (live_back next (given_back after.content (address after) next.parked.versions pages) pages))).0 gone.behind;

@@ -28,7 +28,7 @@ use Rattle.sender.specs.declared.event.LiveReply.TheVariants as r
 use Rattle.sender.specs.declared.mig_error.MigError.{MigError}
 use Rattle.sender.specs.declared.phase.Phase.TheVariants as phases
 use Rattle.sender.proofs.Behind.{taken_stays_behind}
-use Rattle.sender.proofs.BehindLent.{may_guest}
+use Rattle.sender.proofs.StepBeside.{may_guest}
 use Rattle.sender.proofs.Fresh.{told}
 use Rattle.sender.proofs.Living.{length-with_items}
 

@@ -109,6 +109,10 @@ ready_still l bytes n pages ready =
       are = ready.are;
     }
 
+pub ready_all : (l : LiveSeen) (bytes pages : List ℕ) → IsReady l bytes pages → IsReady (with_all l bytes pages) bytes []
+ready_all l bytes [] ready = ready
+ready_all l bytes (n ∷ pages) ready = ready_all (with_page l bytes n) bytes pages (ready_still l bytes n pages ready)
+
 all_served : (l : LiveSeen) (bytes pages : List ℕ) → IsReady l bytes pages → AreServed l (page_writes (live_base l) pages bytes) (with_all l bytes pages)
 all_served l bytes [] ready = refl
 all_served l bytes (n ∷ pages) ready = (with_page l bytes n, served l bytes n pages ready, all_served (with_page l bytes n) bytes pages (ready_still l bytes n pages ready))

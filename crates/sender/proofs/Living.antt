@@ -118,7 +118,7 @@ live_begun machine p q due new_due dirty new_dirty firsts at live due_long dirty
     record { sound = live.sound; sets = fit_next (layout_of (state_of machine)) p q due new_due dirty new_dirty firsts firsts at 0 live.sets due_long dirty_long refl round (omega arith) (λ k below. absurd (omega (arith, below))) }
 
 -- The log may be told of every item.
-first_of : (m : MachineState) (firsts : List ℕ) (i : Item) → firsts ≡ firsts_of (layout_of m) → IsItemIn (layout_of m) i → HasFirst firsts i
+pub first_of : (m : MachineState) (firsts : List ℕ) (i : Item) → firsts ≡ firsts_of (layout_of m) → IsItemIn (layout_of m) i → HasFirst firsts i
 first_of m firsts (page n) are within = tt
 first_of m firsts (sector dev n) are within =
     let below = within_length (map length m.disks) dev n within in

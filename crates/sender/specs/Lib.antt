@@ -21,3 +21,4 @@ pub mod Unsynced
 pub mod ParkedCalls
 pub mod Marks
 pub mod Guests
+pub mod Beside

@@ -1,21 +1,28 @@
 -- What is done to a machine that is being migrated while its RAM is lent.
 use Rattle.std.specs.Prelude.{◌≡◌, ◌≢◌, ℕ, ◌++◌, List, [], ◌∷◌, length, Bool, true, false, Result, Ok, Err, MatchOption}
 use Rattle.blk.specs.declared.disk.DiskFault.{DiskFault}
-use Rattle.guestmem.specs.Lent.{given_back}
+use Rattle.guestmem.specs.Lent.{given_back, is_named}
 use Rattle.guestmem.specs.Memory.{IsMemory}
+use Rattle.guestmem.specs.Number.{IsBytes}
+use Rattle.guestmem.specs.Writes.{set_all}
 use Rattle.region.specs.Address.{address}
+use Rattle.region.specs.Lending.{with_content}
 use Rattle.region.specs.declared.region.Region.{Region}
-use Rattle.machine.specs.Parked.{FailsParkedFlush, FlushesParked, IsAppliedParked, makes_flush_parked, parked_states}
+use Rattle.machine.specs.Beside.{IsStepOf}
+use Rattle.machine.specs.Effect.{Effect, items_of}
+use Rattle.machine.specs.Layout.{firsts_of}
+use Rattle.machine.specs.Parked.{FailsParkedFlush, FlushesParked, IsAppliedParked, ParkedSeen, makes_flush_parked, parked_states}
+use Rattle.machine.specs.Seen.{Seen}
 use Rattle.machine.specs.State.{MachineState, base_of}
 use Rattle.machine.specs.declared.event.Event.{Event}
 use Rattle.machine.specs.declared.event.Event.TheVariants.{Step}
 use Rattle.machine.specs.declared.reply.Reply.{Reply}
 use Rattle.wire.specs.Sinks.{SinkState, Takes}
-use Rattle.sender.specs.Calls.{Serves}
+use Rattle.sender.specs.Calls.{Serves, with_items}
 use Rattle.sender.specs.Follows.{Relates}
 use Rattle.sender.specs.History.{History}
 use Rattle.sender.specs.LiveState.{HasPlaces, LiveSeen, refusal_for}
-use Rattle.sender.specs.Parked.{BackGoesOn, IsLiveParked, KeepsWord, LiveParkedSeen, live_back, page_writes}
+use Rattle.sender.specs.Parked.{BackGoesOn, IsLiveParked, KeepsWord, LiveParkedSeen, live_back, page_writes, parked_layout}
 use Rattle.sender.specs.Uncalled.{CallsNone}
 use Rattle.sender.specs.Taking.{untaken}
 use Rattle.sender.specs.Unsynced.{FailsLiveFlush, FlushesLiveDisk}
@@ -95,19 +102,36 @@ abbrev pub LiveParkedFlushFails : Type 0
 LiveParkedFlushFails = (l : LiveSeen) (p next : LiveParkedSeen) (region : Region) (dev pick : ℕ) → HasPlaces l → IsMemory l.machine.memory → IsLiveParked l region p → FailsLiveParked p dev pick next
     → IsDoneLiveLent l region next (FailsLiveFlush l dev pick)
 
+-- A step was made beside the guest, and RAM was as these bytes then: it is the step of the machine with this RAM.
+abbrev pub MakesBeside : ParkedSeen → List ℕ → ℕ → ℕ → Reply → Effect → ParkedSeen → Type 0
+MakesBeside p seen dev pick reply effect next = (m : Seen) → m.devices ≡ p.devices → m.memory.versions ≡ p.versions → m.memory.bytes ≡ seen → IsBytes seen → IsStepOf m dev pick reply effect next
+
+-- Exactly the items that it writes into became dirty, and nothing else changed.
+pub record StepsBeside (p : LiveParkedSeen) (seen : List ℕ) (dev pick : ℕ) (reply : Reply) (effect : Effect) (next : LiveParkedSeen) : Type 0 where
+  pub makes : MakesBeside p.parked seen dev pick reply effect next.parked
+  pub dirty : next.dirty ≡ with_items (firsts_of (parked_layout p.parked)) p.dirty (items_of effect)
+  pub rest : next ≡ record p { parked = next.parked; dirty = next.dirty }
+
 -- A call that was made while the RAM was lent, and not refused: an event that needs no RAM, with its reply; a flush that failed in place of
--- its step; a flush beside all steps; a taking of these bytes.
+-- its step; a flush beside all steps; a taking of these bytes; a step beside the guest, where RAM begins at this base, the guest had written
+-- these pages, and RAM was as these bytes then.
 pub data LentCall : Type 0 where
   an_event : Event → Reply → LentCall
   a_failed_flush : ℕ → ℕ → LentCall
   a_flush : ℕ → Result (Unit {0}) DiskFault → LentCall
   a_taking : List ℕ → LentCall
+  a_step : ℕ → List ℕ → List ℕ → ℕ → ℕ → Reply → Effect → LentCall
+
+-- The address at which its RAM begins.
+abbrev pub parked_base : LiveParkedSeen → ℕ
+parked_base p = base_of (parked_states p.parked)
 
 abbrev pub IsLentCall : LiveParkedSeen → LentCall → LiveParkedSeen → Type 0
 IsLentCall p (an_event e reply) next = ServesParked p e (r.Guest reply) next
 IsLentCall p (a_failed_flush dev pick) next = FailsLiveParked p dev pick next
 IsLentCall p (a_flush dev result) next = FlushesLiveParked p dev result next
 IsLentCall p (a_taking bytes) next = TakesParked p bytes next
+IsLentCall p (a_step base wrote seen dev pick reply effect) next = (base ≡ parked_base p) × StepsBeside p seen dev pick reply effect next
 
 -- Calls, one after another.
 abbrev pub AreLentCalls : LiveParkedSeen → List LentCall → LiveParkedSeen → Type 0
@@ -120,6 +144,7 @@ events_in (an_event e reply) = e ∷ []
 events_in (a_failed_flush dev pick) = Step dev pick ∷ []
 events_in (a_flush dev result) = []
 events_in (a_taking bytes) = []
+events_in (a_step base wrote seen dev pick reply effect) = page_writes base wrote seen ++ Step dev pick ∷ []
 
 abbrev pub bytes_in : LentCall → List ℕ
 bytes_in (a_taking bytes) = bytes
@@ -133,14 +158,38 @@ abbrev pub bytes_among : List LentCall → List ℕ
 bytes_among [] = []
 bytes_among (c ∷ cs) = bytes_in c ++ bytes_among cs
 
--- The address at which its RAM begins.
-abbrev pub parked_base : LiveParkedSeen → ℕ
-parked_base p = base_of (parked_states p.parked)
+-- RAM by the history: as it was lent, and after each step as the step saw it, with what it wrote.
+abbrev pub over_with : Region → LentCall → Region
+over_with region (a_step base wrote seen dev pick reply effect) = with_content region (set_all seen effect.writes)
+over_with region _ = region
+
+abbrev pub over_with_all : Region → List LentCall → Region
+over_with_all region [] = region
+over_with_all region (c ∷ cs) = over_with_all (over_with region c) cs
+
+-- What a step saw of RAM differs from RAM by the history in no other pages than those that the guest had written.
+abbrev pub IsSeen : Region → ℕ → LentCall → Type 0
+IsSeen region count (a_step base wrote seen dev pick reply effect) = KeepsWord region (with_content region seen) count wrote
+IsSeen region count _ = Unit {0}
+
+abbrev pub AreSeen : Region → ℕ → List LentCall → Type 0
+AreSeen region count [] = Unit {0}
+AreSeen region count (c ∷ cs) = IsSeen region count c × AreSeen (over_with region c) count cs
+
+-- The pages that are still to be named after calls: also those that the guest had written before a step.
+abbrev pub missing_in : List ℕ → LentCall → List ℕ
+missing_in pages (a_step base wrote seen dev pick reply effect) = pages ++ wrote
+missing_in pages _ = pages
+
+abbrev pub missing_among : List ℕ → List LentCall → List ℕ
+missing_among pages [] = pages
+missing_among pages (c ∷ cs) = missing_among (missing_in pages c) cs
 
 -- The history goes on by the events of the calls that were made while the RAM was lent, and then by the guest's writes of the pages that are
--- named, in whatever order the guest made them: the events need no RAM, and the writes no device. Bytes may have been taken before, and
--- meanwhile.
+-- named, in whatever order the guest made them. A step is, by the history, the guest's writes of the pages that it had written till then, as
+-- the step saw them, and then the step. So the caller keeps its word where the pages that it names are those whose bytes differ from RAM by
+-- the history, and those that the guest had written before a step. Bytes may have been taken before, and meanwhile.
 abbrev pub LentFollows : Type 0
 LentFollows = (m : MachineState) (h : History) (out : SinkState) (taken : List ℕ) (l : LiveSeen) (p next : LiveParkedSeen) (before after : Region) (calls : List LentCall) (pages : List ℕ) → Relates m h out (untaken taken l) → HasPlaces l → IsMemory l.machine.memory
-    → l.phase ≢ phases.Stopped → IsLiveParked l before p → AreLentCalls p calls next → KeepsWord before after (length p.parked.versions) pages
+    → l.phase ≢ phases.Stopped → IsLiveParked l before p → AreLentCalls p calls next → AreSeen before (length p.parked.versions) calls → KeepsWord (over_with_all before calls) after (length p.parked.versions) pages → ((n : ℕ) → is_named (missing_among [] calls) n ≡ true → is_named pages n ≡ true)
     → BackGoesOn m h out (events_among calls ++ page_writes (parked_base next) pages after.content) (untaken (taken ++ bytes_among calls) (live_back next (given_back after.content (address after) next.parked.versions pages) pages))

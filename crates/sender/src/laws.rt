@@ -1,5 +1,6 @@
 //! Laws over the definitions alone. These functions do nothing: their contracts are the laws.
 
+ghost use Rattle.sender.specs.Beside.{OpenIsBeside, OpenIsLentCall, OverIsBeside, OverIsLentCall, PiecesAreSeen};
 ghost use Rattle.sender.specs.Follows.{CallsFollow};
 ghost use Rattle.sender.specs.HistoryLaws.{AfterIsRun, FreshIsLast, OneHistory, StaleIsNotFresh, StoppedIsStream};
 ghost use Rattle.sender.specs.Logged.{LoggedIsServed};
@@ -133,6 +134,16 @@ pub fn back_is_behind()
 /// So it is where calls were made while the RAM was lent, and bytes taken.
 pub fn lent_is_behind()
     ensures { LentIsBehind }
+{}
+
+/// A step that was made over a window is one beside the guest, where the window has what it reads, with the word or, where that is read last,
+/// without it. RAM by the history with the pieces that were copied into the window is RAM as the step saw it: so a caller need not choose it.
+pub fn steps_over_are_beside()
+    ensures closed { OverIsBeside }
+    ensures ended { OpenIsBeside }
+    ensures call { OverIsLentCall }
+    ensures call_ended { OpenIsLentCall }
+    ensures pieces { PiecesAreSeen }
 {}
 
 /// Each call, made as a caller may, adds to the history what it would add if no page were missing, and the machine is behind by no more

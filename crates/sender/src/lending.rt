@@ -1,5 +1,6 @@
 //! Machines that are being migrated, and whose RAM is lent.
 
+mod beside;
 mod calls;
 
 ghost use Rattle.std.specs.Prelude.{◌≡◌, ◌+◌, ◌*◌, ◌<◌, ◌≤◌, ◌^◌, ◌++◌, [], Some, drop, false, length, min, take};

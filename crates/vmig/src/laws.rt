@@ -1,44 +1,107 @@
 //! The laws of RAM, machines, disks outside, streams and traces: functions that do nothing, whose contracts are the laws.
 
-pub use disk_calls::{
-    answering_is_a_turn, calls_are_met, handing_is_a_turn, lost_disk_makes_nothing_durable,
-    machines_meet_calls, numbers_stay_from, whole_may_go_in_part,
-};
-pub use guestmem::laws::{
-    given_back_is_written, later_in_turn, marked_is_written, refusals_at_zero, rises_in_turn,
-};
-pub use machine::laws::{
-    answers_are_their_parts, any_disk_acts_alike, asked_is_taken, back_is_written, effects_agree,
-    greatest_allow, honest_disks_give_theirs, idle_without_work,
-    lent_call_is_made_after_the_return, limits_stay, malformed_asks_for_reset,
-    malformed_is_contained, mark_is_written, noted_are_these, only_steps_call, parked_flush_fails,
-    parked_is_applied, parked_is_flushed, refusals_change_nothing, refused_changes_nothing,
-    runs_agree, shape_stays, step_keeps_shape, step_stays_sound, step_stays_within, steps_agree,
-    touched_exists, turn_is_steps, unnamed_is_written, untouched_stays, waiting_is_idle,
-    work_gets_on,
-};
-pub use receiver::laws::{
-    faults_stand_early, faults_stay, no_fault_in_a_stream, one_fault, rounds_of_a_stream,
-    saved_is_received,
-};
-pub use rehearsal::laws::{
-    applying_stays_reliable, arrived_is_moved, failing_stays_reliable, first_is_moving,
-    machines_are_reliable, memory_is_reliable, reliable_is_honest, serving_stays_reliable,
-    takings_stay_moving,
-};
-pub use sender::laws::{
-    after_is_run, back_is_behind, behind_by_none_is_not_behind, calls_follow,
-    calls_ignore_what_was_taken, calls_stay_behind, failed_flush_follows_the_history,
-    failed_flush_stays_behind, flush_keeps_the_history, flush_stays_behind, fresh_is_last,
-    honest_disks_tell_contents, lent_follows_the_history, lent_is_behind,
-    live_back_follows_the_history, live_back_is_served, live_parked_flush_fails,
-    live_parked_is_flushed, live_parked_is_served, logged_is_served, marks_catch_up,
-    replies_settle, stale_is_not_fresh, stopped_is_a_stream,
-    taken_failed_flush_follows_the_history, taken_follows_the_history, taken_is_whole,
-    taken_stays_behind, taking_stays_behind, turn_stays_behind, uncalled_is_same,
-};
-pub use traces::laws::{events_are_read_in_one_way, texts_are_read_in_one_way};
-pub use wire::laws::{
-    a_stream_has_one_count_of_rounds, a_stream_has_one_machine, a_stream_has_one_version,
-    each_version_has_a_stream, no_record_begins_another, whole_is_a_stream,
-};
+pub use disk_calls::answering_is_a_turn;
+pub use disk_calls::calls_are_met;
+pub use disk_calls::handing_is_a_turn;
+pub use disk_calls::lost_disk_makes_nothing_durable;
+pub use disk_calls::machines_meet_calls;
+pub use disk_calls::numbers_stay_from;
+pub use disk_calls::whole_may_go_in_part;
+pub use guestmem::laws::given_back_is_written;
+pub use guestmem::laws::later_in_turn;
+pub use guestmem::laws::marked_is_written;
+pub use guestmem::laws::refusals_at_zero;
+pub use guestmem::laws::rises_in_turn;
+pub use machine::laws::answers_are_their_parts;
+pub use machine::laws::any_disk_acts_alike;
+pub use machine::laws::applied_is_local;
+pub use machine::laws::asked_is_taken;
+pub use machine::laws::back_is_written;
+pub use machine::laws::beside_is_step;
+pub use machine::laws::device_steps_are_local;
+pub use machine::laws::effects_agree;
+pub use machine::laws::effects_are_local;
+pub use machine::laws::greatest_allow;
+pub use machine::laws::held_is_beside;
+pub use machine::laws::honest_disks_give_theirs;
+pub use machine::laws::idle_without_work;
+pub use machine::laws::lent_call_is_made_after_the_return;
+pub use machine::laws::limits_stay;
+pub use machine::laws::malformed_asks_for_reset;
+pub use machine::laws::malformed_is_contained;
+pub use machine::laws::mark_is_written;
+pub use machine::laws::noted_are_these;
+pub use machine::laws::only_steps_call;
+pub use machine::laws::parked_flush_fails;
+pub use machine::laws::parked_is_applied;
+pub use machine::laws::parked_is_flushed;
+pub use machine::laws::refusals_change_nothing;
+pub use machine::laws::refused_changes_nothing;
+pub use machine::laws::runs_agree;
+pub use machine::laws::shape_stays;
+pub use machine::laws::step_keeps_shape;
+pub use machine::laws::step_stays_sound;
+pub use machine::laws::step_stays_within;
+pub use machine::laws::steps_agree;
+pub use machine::laws::stores_are_writes;
+pub use machine::laws::touched_exists;
+pub use machine::laws::turn_is_steps;
+pub use machine::laws::unnamed_is_written;
+pub use machine::laws::untouched_stays;
+pub use machine::laws::waiting_is_idle;
+pub use machine::laws::work_gets_on;
+pub use receiver::laws::faults_stand_early;
+pub use receiver::laws::faults_stay;
+pub use receiver::laws::no_fault_in_a_stream;
+pub use receiver::laws::one_fault;
+pub use receiver::laws::rounds_of_a_stream;
+pub use receiver::laws::saved_is_received;
+pub use rehearsal::laws::applying_stays_reliable;
+pub use rehearsal::laws::arrived_is_moved;
+pub use rehearsal::laws::failing_stays_reliable;
+pub use rehearsal::laws::first_is_moving;
+pub use rehearsal::laws::machines_are_reliable;
+pub use rehearsal::laws::memory_is_reliable;
+pub use rehearsal::laws::reliable_is_honest;
+pub use rehearsal::laws::serving_stays_reliable;
+pub use rehearsal::laws::takings_stay_moving;
+pub use sender::laws::after_is_run;
+pub use sender::laws::back_is_behind;
+pub use sender::laws::behind_by_none_is_not_behind;
+pub use sender::laws::calls_follow;
+pub use sender::laws::calls_ignore_what_was_taken;
+pub use sender::laws::calls_stay_behind;
+pub use sender::laws::failed_flush_follows_the_history;
+pub use sender::laws::failed_flush_stays_behind;
+pub use sender::laws::flush_keeps_the_history;
+pub use sender::laws::flush_stays_behind;
+pub use sender::laws::fresh_is_last;
+pub use sender::laws::honest_disks_tell_contents;
+pub use sender::laws::lent_follows_the_history;
+pub use sender::laws::lent_is_behind;
+pub use sender::laws::live_back_follows_the_history;
+pub use sender::laws::live_back_is_served;
+pub use sender::laws::live_parked_flush_fails;
+pub use sender::laws::live_parked_is_flushed;
+pub use sender::laws::live_parked_is_served;
+pub use sender::laws::logged_is_served;
+pub use sender::laws::marks_catch_up;
+pub use sender::laws::replies_settle;
+pub use sender::laws::stale_is_not_fresh;
+pub use sender::laws::steps_over_are_beside;
+pub use sender::laws::stopped_is_a_stream;
+pub use sender::laws::taken_failed_flush_follows_the_history;
+pub use sender::laws::taken_follows_the_history;
+pub use sender::laws::taken_is_whole;
+pub use sender::laws::taken_stays_behind;
+pub use sender::laws::taking_stays_behind;
+pub use sender::laws::turn_stays_behind;
+pub use sender::laws::uncalled_is_same;
+pub use traces::laws::events_are_read_in_one_way;
+pub use traces::laws::texts_are_read_in_one_way;
+pub use wire::laws::a_stream_has_one_count_of_rounds;
+pub use wire::laws::a_stream_has_one_machine;
+pub use wire::laws::a_stream_has_one_version;
+pub use wire::laws::each_version_has_a_stream;
+pub use wire::laws::no_record_begins_another;
+pub use wire::laws::whole_is_a_stream;

@@ -3,6 +3,7 @@
 //! What the rings keep of descriptors is emptied: a page that was written and not named keeps its version, so a kept descriptor
 //! could be wrong, and what a ring answers would be no function of RAM.
 
+mod beside;
 mod calls;
 
 ghost use Rattle.std.specs.Prelude.{◌≡◌, ◌*◌, ◌<◌, ◌≤◌, length, map, None, Some, IfOk, IfErr, slice_get};

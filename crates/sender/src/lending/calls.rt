@@ -20,7 +20,7 @@ use wire::Digesting;
 
 impl<D: Disk, W: Digesting> LiveParked<D, W> {
     /// Whether the guest still runs: a stop that closed the stream has paused it.
-    fn running(&self) -> Result<(), MigError>
+    pub(super) fn running(&self) -> Result<(), MigError>
         ensures open { OnOk result (self.now.phase ≢ Phase.Stopped) }
         ensures closed { IfErr result (λ e. (e ≡ MigError.AlreadyStopped) × (self.now.phase ≡ Phase.Stopped)) }
     {

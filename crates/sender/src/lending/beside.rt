@@ -1,0 +1,116 @@
+//! Steps of a machine that is being migrated and whose RAM is lent, each over a window, while the guest runs (`Parked::step_over`).
+//!
+//! In the history such a step is the guest's writes of the pages that it had written till then, as the step saw them, and then the step. A
+//! page of which the step only reads does not become dirty: where its bytes are not those of the history, the guest wrote it, and the return
+//! names it.
+
+ghost use Rattle.std.specs.Prelude.{◌≡◌, ◌*◌, IfOk, None, length};
+ghost use Rattle.region.specs.Address.{address};
+ghost use Rattle.guestmem.specs.declared.limits.TheConstants.{PAGE_SIZE};
+ghost use Rattle.machine.specs.Beside.{KnowsReads, window_memory};
+ghost use Rattle.machine.specs.Parked.{back_with};
+ghost use Rattle.machine.specs.Seen.{state_of};
+ghost use Rattle.machine.specs.Stepped.{reply_in};
+ghost use Rattle.sender.specs.Beside.{IsLiveMadeOver, TriesOver, live_ended};
+
+use crate::lending::LiveParked;
+use crate::mig_error::MigError;
+use guestmem::NoMemory;
+use machine::{Disk, Piece, Stepped};
+use region::Region;
+use wire::Digesting;
+
+impl<D: Disk, W: Digesting> LiveParked<D, W> {
+    /// The first piece of RAM that the step of this pick lacks, where these pieces are held (`Parked::lacks`). No phase refuses it.
+    pub fn lacks(
+        self,
+        window: Region,
+        dev: u8,
+        pick: u8,
+        held: &[Piece],
+    ) -> (Result<Option<Piece>, NoMemory>, Region, LiveParked<D, W>)
+        requires size { length window.content ≡ PAGE_SIZE * length self.parked.versions }
+        ensures known { IfOk result.0 (λ lacking. lacking ≡ None → KnowsReads held.now (state_of (back_with self.parked (window_memory self.parked window))) dev pick) }
+        ensures content { result.1.content ≡ window.content }
+        ensures place { address result.1 ≡ address window }
+        ensures machine { result.2 ≡ self }
+    {
+        let LiveParked {
+            parked,
+            writer,
+            phase,
+            due,
+            at,
+            dirty,
+        } = self;
+        let (lacking, window, parked) = parked.lacks(window, dev, pick, held);
+        let same = LiveParked {
+            parked,
+            writer,
+            phase,
+            due,
+            at,
+            dirty,
+        };
+        (lacking, window, same)
+    }
+
+    /// Makes a step over a window, as `Parked::step_over` does. Exactly the items that the step writes into become dirty: a page of which it
+    /// only reads does not. After a stop that closed the stream it is refused.
+    #[tactic(auto, using(crate::proofs::Over::over_refused, crate::proofs::Over::over_made))]
+    pub fn step_over(
+        self,
+        window: Region,
+        dev: u8,
+        pick: u8,
+        sent: &mut Vec<u8>,
+    ) -> (Result<Stepped, MigError>, Region, LiveParked<D, W>)
+        requires size { length window.content ≡ PAGE_SIZE * length self.parked.versions }
+        ensures { TriesOver self window dev pick result.0 sent.new.items result.1 result.2 }
+    {
+        if let Err(error) = self.running() {
+            return (Err(error), window, self);
+        }
+        let (stepped, window, next) = self.made_over(window, dev, pick, sent);
+        (Ok(stepped), window, next)
+    }
+
+    /// The same in a phase in which the guest runs.
+    fn made_over(
+        self,
+        window: Region,
+        dev: u8,
+        pick: u8,
+        sent: &mut Vec<u8>,
+    ) -> (Stepped, Region, LiveParked<D, W>)
+        requires size { length window.content ≡ PAGE_SIZE * length self.parked.versions }
+        ensures { IsLiveMadeOver self window dev pick (reply_in result.0 sent.new.items) result.1 result.2 }
+    {
+        let LiveParked {
+            parked,
+            writer,
+            phase,
+            due,
+            at,
+            mut dirty,
+        } = self;
+        let (stepped, window, parked) = parked.step_over(window, dev, pick, sent, &mut dirty);
+        let next = LiveParked {
+            parked,
+            writer,
+            phase,
+            due,
+            at,
+            dirty,
+        };
+        (stepped, window, next)
+    }
+
+    /// Ends an open step of a device (`Parked::end`): raises its used-buffer interrupt, if the driver's word asks for that. No item becomes
+    /// dirty.
+    pub fn end(&mut self, dev: u8, is_due: bool)
+        ensures { self.new ≡ live_ended is_due dev self.old }
+    {
+        self.parked.end(dev, is_due);
+    }
+}
