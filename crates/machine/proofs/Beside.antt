@@ -19,7 +19,8 @@ use Rattle.blk.specs.Sectors.{AreWhole, Sector}
 use Rattle.chains.specs.Footprint.{AgreeOn}
 use Rattle.chains.specs.declared.lacking.Piece.{Piece}
 use Rattle.chains.specs.declared.next.Next.{Next}
-use Rattle.machine.specs.Applied.{IsApplied, IsAppliedLogged, as_given, bad_on}
+use Rattle.machine.specs.Applied.{IsApplied, IsAppliedLogged, as_given}
+use Rattle.machine.specs.BadSectors.{bad_on}
 use Rattle.machine.specs.Beside.{AppliedIsLocal, AppliedWordIsLast, BesideIsStep, EffectsAreLocal, HeldIsBeside, IsLoggedOver, IsStepOf, OpenIsStep, ended, KnowsReads, KnowsWord, window_memory, IsWritten, QuietIsOpen, WordIsLast, WrittenIsThere, written_with, publishing_of, interrupted, interrupting, raised_in, seen_raised, with_interrupt, with_memory, with_ram}
 use Rattle.machine.specs.DeviceStep.{DeviceAnswer, device_step}
 use Rattle.machine.specs.Effect.{Effect, Replacement, applied, items_of, replaced_in, sets_on}
