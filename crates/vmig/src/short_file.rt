@@ -16,7 +16,7 @@ use crate::fault::Fault;
 use crate::feeding::{Front, read_front, receive_rest};
 use crate::output::open_file;
 use guestmem::NoMemory;
-use machine::{Disk, DiskFault, Shape};
+use machine::{Disk, DiskFault, Machine, Shape};
 use receiver::Receiver;
 use std::alloc::Global;
 use std::fs;
@@ -83,10 +83,11 @@ pub fn refuse_short<'a, R: Files + AllocGlobal>(
     let front = read_front(alloc, &mut file, name)?;
     match header_of(alloc, program_limits(outside), &front.piece[..front.count])? {
         Some(header) if needs_more(&header, len) => {
-            refuse_by_fault(alloc, &mut file, name, front, header, outside)
+            receive_forgetfully(alloc, &mut file, name, front, header, outside)?;
         }
-        _ => Ok(()),
+        _ => {}
     }
+    Ok(())
 }
 
 /// How many bytes the file of this name has, where it is a plain one.
@@ -108,15 +109,15 @@ fn needs_more(header: &Header, len: u64) -> bool {
     items > len / ITEM_MIN
 }
 
-/// Refuses a stream by its first fault, found over disks that keep nothing. The file has what follows the front.
-fn refuse_by_fault<'a, F: Read>(
+/// Receives a stream over disks that keep nothing: its first fault is told as over others. The file has what follows the front.
+fn receive_forgetfully<'a, F: Read>(
     alloc: Global,
     file: &mut F,
     name: &'a str,
     front: Front,
     header: Header,
     outside: bool,
-) -> Result<(), Fault<'a>>
+) -> Result<(Machine<Forgetful>, u32), Fault<'a>>
     requires within { front.count ≤ length front.piece.items }
     requires begins { Begins (take front.count front.piece.items) (said header) (drop header.len (take front.count front.piece.items)) }
     requires limits { AreWithin (program_limits outside) header.pages header.shapes.items }
@@ -124,8 +125,7 @@ fn refuse_by_fault<'a, F: Read>(
 {
     let disks = forgetful_disks(alloc, header.shapes.as_slice())?;
     let receiver = Receiver::with_terms(alloc, disks, None, program_terms(outside));
-    receive_rest(file, name, front, receiver)?;
-    Ok(())
+    receive_rest(file, name, front, receiver)
 }
 
 /// Disks that keep nothing, for devices of these shapes.
