@@ -186,3 +186,9 @@ none_read held m ds dev pick h =
 pub if_known : {E : Type 0} (P Q : Type 0) (result : Result (Option Piece) E) → (P → Q) → IfOk result (λ lacking. lacking ≡ None → P) → IfOk result (λ lacking. lacking ≡ None → Q)
 if_known P Q (Ok lacking) f known = λ none. f (known none)
 if_known P Q (Err error) f known = known
+
+pub advanced_blocks : (d : DeviceState) (held : List Piece) (ram : List ℕ) (pick : ℕ) (block : blocks.Block) → d.kind ≡ Block block → looked_at d pick ≡ None → Knows held ram (advance_pieces d.registers.ram_base (slice_get block.requests (pick - 1))) → KnowsDevice held d ram pick
+advanced_blocks d held ram pick block is none known = advanced_known d held ram pick none (rw is known)
+
+pub advanced_outside : (d : DeviceState) (held : List Piece) (ram : List ℕ) (pick : ℕ) (block : blocks.Block) → d.kind ≡ Outside block → looked_at d pick ≡ None → Knows held ram (advance_pieces d.registers.ram_base (slice_get block.requests (pick - 1))) → KnowsDevice held d ram pick
+advanced_outside d held ram pick block is none known = advanced_known d held ram pick none (rw is known)

@@ -7,4 +7,4 @@ pub invariant_of-self : goal.invariant_of-self
 invariant_of-self g c =
     let i = c.self.inside in
     rw c.end.ensures
-    (sets_stay i.parked _ i.phase i.due i.dirty.set i.dirty.firsts.items i.at c.self.invariant (ended_versions c.args.is_due c.args.dev i.parked) (ended_sectors c.args.is_due c.args.dev i.parked))
+    (sets_stay i.parked _ i.phase i.due i.dirty.set i.dirty.firsts.items i.at c.self.invariant (ended_versions _ c.args.dev i.parked) (ended_sectors _ c.args.dev i.parked))

@@ -15,7 +15,7 @@ pub invariant_of-next : goal.invariant_of-next
 invariant_of-next g c =
     let i = c.self.inside in
     let size : length c.args.window.content ≡ 4096 * length i.parked.versions = c.requires.size ∙ ap (λ (v : LiveParkedSeen). 4096 * length v.parked.versions) (sym c.self.view_is) in
-    fit_over i.parked _ c.args.window _ c.args.dev c.args.pick _ i.phase i.due i.dirty _ i.at c.self.invariant c.step_over-stepped.ensures size
+    fit_over i.parked _ c.args.window _ c.args.dev _ _ i.phase i.due i.dirty _ i.at c.self.invariant c.step_over-stepped.ensures size
 
 pub returns : goal.returns
 returns g c =

@@ -1,4 +1,4 @@
-use Rattle.std.proofs.Common.{arith, refl}
+use Rattle.std.proofs.Common.{◌≡◌, arith, refl, true}
 use Rattle.std.proofs.lemmas.List.{length-set}
 use Rattle.machine.proofs.At.{IsAt}
 use Rattle.machine.proofs.Beside.{ended_past, ended_there, raised_held}
@@ -22,4 +22,5 @@ pub returns : goal.returns
 returns g c =
     let i = c.self.inside in
     let at : IsAt i.devices.items c.args.dev c.index_mut.result.now = record { below = omega arith; is = c.index_mut.ensures.value } in
-    rw (← c.self.view_is) (ended_there i.ram i.devices.items c.args.dev c.index_mut.result.now c.raise_used.new.self at c.raise_used.ensures)
+    let on : c.args.is_due ≡ true = c.if-not-is_due.false in
+    rw (← c.self.view_is, on) (ended_there i.ram i.devices.items c.args.dev c.index_mut.result.now c.raise_used.new.self at c.raise_used.ensures)

@@ -1,0 +1,27 @@
+use Rattle.std.proofs.Common.{length, sym}
+use Rattle.machine.proofs.DiskAnswers.{requests_sound}
+use Rattle.machine.proofs.Lacking.{advanced_blocks, advanced_outside, block_sound}
+use Rattle.machine.proofs.Stepping.{held_device}
+use Rattle.machine.proofs.state.DeviceState.lacks_advanced.Goals as goal
+
+pub lacks-requires : goal.lacks-requires
+lacks-requires c =
+    let i = c.self.inside in
+    rw c.ram_base-base.ensures (record { sound = block_sound (length c.args.ram.now.bytes) (held_device i.kind i.registers i.positions) c.in-Block.block c.in-Block.is (rw (← c.self.view_is) at c.requires.sound) })
+
+pub lacks-requires-in-Outside : goal.lacks-requires-in-Outside
+lacks-requires-in-Outside c =
+    let i = c.self.inside in
+    rw c.ram_base-base.ensures (record { sound = requests_sound (length c.args.ram.now.bytes) (held_device i.kind i.registers i.positions) c.in-Outside.block c.in-Outside.is (rw (← c.self.view_is) at c.requires.sound) })
+
+pub returns-in-Block : goal.returns-in-Block
+returns-in-Block c = λ none.
+    let i = c.self.inside in
+    let d = held_device i.kind i.registers i.positions in
+    rw (← c.self.view_is) (advanced_blocks d c.args.held.now c.args.ram.now.bytes c.args.pick c.in-Block.block c.in-Block.is (rw (← c.self.view_is) at c.requires.unlooked) (rw c.ram_base-base.ensures at (c.lacks.ensures none)))
+
+pub returns-in-Outside : goal.returns-in-Outside
+returns-in-Outside c = λ none.
+    let i = c.self.inside in
+    let d = held_device i.kind i.registers i.positions in
+    rw (← c.self.view_is) (advanced_outside d c.args.held.now c.args.ram.now.bytes c.args.pick c.in-Outside.block c.in-Outside.is (rw (← c.self.view_is) at c.requires.unlooked) (rw c.ram_base-base.ensures at (c.lacks-in-Outside.ensures none)))
