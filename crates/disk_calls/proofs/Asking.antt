@@ -165,7 +165,7 @@ get_last (z ∷ xs) y (suc k) x h =
       | inr here ↦ inr (ap suc here.0, here.1)
     ]
 
-get_within : {A : Type 0} (xs ys : List A) (k : ℕ) → k < length xs → slice_get (xs ++ ys) k ≡ slice_get xs k
+pub get_within : {A : Type 0} (xs ys : List A) (k : ℕ) → k < length xs → slice_get (xs ++ ys) k ≡ slice_get xs k
 get_within [] ys k below = absurd (omega (arith, below))
 get_within (x ∷ xs) ys zero below = refl
 get_within (x ∷ xs) ys (suc k) below = get_within xs ys k (omega (arith, below))
@@ -176,14 +176,14 @@ get_taken [] (suc n) k below = refl
 get_taken (x ∷ xs) (suc n) zero below = refl
 get_taken (x ∷ xs) (suc n) (suc k) below = get_taken xs n k (omega (arith, below))
 
-get_before : {A : Type 0} (xs : List A) (i k : ℕ) → k < i → slice_get (remove xs i) k ≡ slice_get xs k
+pub get_before : {A : Type 0} (xs : List A) (i k : ℕ) → k < i → slice_get (remove xs i) k ≡ slice_get xs k
 get_before [] zero k below = absurd (omega (arith, below))
 get_before [] (suc i) k below = refl
 get_before (x ∷ xs) zero k below = absurd (omega (arith, below))
 get_before (x ∷ xs) (suc i) zero below = refl
 get_before (x ∷ xs) (suc i) (suc k) below = get_before xs i k (omega (arith, below))
 
-get_behind : {A : Type 0} (xs : List A) (i k : ℕ) → i ≤ k → slice_get (remove xs i) k ≡ slice_get xs (suc k)
+pub get_behind : {A : Type 0} (xs : List A) (i k : ℕ) → i ≤ k → slice_get (remove xs i) k ≡ slice_get xs (suc k)
 get_behind [] zero k from = refl
 get_behind [] (suc i) k from = refl
 get_behind (x ∷ xs) zero k from = refl

@@ -111,10 +111,10 @@ elsewhere : (ds : List DeviceState) (n dev : ℕ) (r : Option Replacement) → I
 elsewhere ds n dev None for other = refl
 elsewhere ds n dev (Some r) for other = get_other ds r.number r.device dev (λ e. other (e ∙ for))
 
-other_same : (m after : MachineState) (e : events.Event) (o : Outcome) (r : Reply_) (n dev : ℕ) (h : IsStep m e o r after) → IsFor n (answer m e o h.has.seen).effect.replaced → dev ≢ n → slice_get after.devices dev ≡ slice_get m.devices dev
+pub other_same : (m after : MachineState) (e : events.Event) (o : Outcome) (r : Reply_) (n dev : ℕ) (h : IsStep m e o r after) → IsFor n (answer m e o h.has.seen).effect.replaced → dev ≢ n → slice_get after.devices dev ≡ slice_get m.devices dev
 other_same m after e o r n dev h for other = ap (λ (ds : List DeviceState). slice_get ds dev) (devices_after m after e o r h) ∙ elsewhere m.devices n dev (answer m e o h.has.seen).effect.replaced for other
 
-for_set : (n : ℕ) (found : Option DeviceState) (off width value : ℕ) → IsFor n (write_register n found off width value).effect.replaced
+pub for_set : (n : ℕ) (found : Option DeviceState) (off width value : ℕ) → IsFor n (write_register n found off width value).effect.replaced
 for_set n None off width value = tt
 for_set n (Some d) off width value = refl
 
@@ -141,7 +141,7 @@ for_drop_by : (n : ℕ) (d : DeviceState) (told : Result (Unit {0}) Refusal) →
 for_drop_by n d (Ok done) = refl
 for_drop_by n d (Err refusal) = tt
 
-for_drop : (n : ℕ) (found : Option DeviceState) → IsFor n (drop_input n found).effect.replaced
+pub for_drop : (n : ℕ) (found : Option DeviceState) → IsFor n (drop_input n found).effect.replaced
 for_drop n None = tt
 for_drop n (Some d) = for_drop_by n d (drop_of d.kind)
 
