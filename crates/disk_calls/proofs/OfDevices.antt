@@ -25,12 +25,16 @@ use Rattle.machine.specs.declared.kind.Kind as kinds
 use Rattle.machine.specs.declared.kind.Kind.TheVariants as kind
 use Rattle.machine.specs.declared.reply.Reply.{Reply}
 use Rattle.machine.specs.declared.reply.Reply.TheVariants.{DiskFailed, Idle}
-use Rattle.disk_calls.specs.Calls.{AllCalls, IsAt, IsHandedOut, without}
+use Rattle.disk_calls.specs.Calls.{AllCalls, CallsState, IsAt, IsHandedOut, without}
+use Rattle.disk_calls.specs.Desk.{Desk, IsKept, outs_of}
 use Rattle.disk_calls.specs.Handing.{asker}
-use Rattle.disk_calls.specs.Machines.{Answers, GoesTo, Happening, Happens, Hands, IsNoAnswer, KeepsRequests, MakeAll, Rests, asked_of}
+use Rattle.disk_calls.specs.Machines.{Answers, GoesTo, Happening, Happens, Hands, IsDesk, IsNoAnswer, KeepsRequests, MakeAll, Rests, asked_of}
 use Rattle.disk_calls.specs.declared.calls.Handed.{Handed}
 use Rattle.disk_calls.specs.declared.out.Out.{Out}
-use Rattle.disk_calls.proofs.Happenings.{for_drop, for_set, other_same}
+use Rattle.disk_calls.proofs.Asking.{ran_kept}
+use Rattle.disk_calls.proofs.Happenings.{all_turns, for_drop, for_hand, for_set, other_same, same_desk, with_calls, without_other}
+use Rattle.disk_calls.proofs.Numbers.{the_same}
+use Rattle.disk_calls.proofs.Turns.{placed_at}
 
 -- A machine of which only the devices are known.
 abbrev pub with_devices : List DeviceState → MachineState
@@ -180,3 +184,36 @@ pub all_happen : (m mid after : MachineState) (calls between then : AllCalls) (f
 all_happen m mid after calls between then [] back first second =
     subst (λ (x : MachineState). MakeAll x calls back after then) first.0 (subst (λ (c : AllCalls). MakeAll mid c back after then) first.1 second)
 all_happen m mid after calls between then (h ∷ front) back first second = (first.0, first.1, first.2, all_happen first.0 mid after first.1 between then front back first.3 second)
+
+-- What is kept of a device's desk stays so, whatever happens.
+pub record StaysKept (after : MachineState) (then : AllCalls) (dev size : ℕ) : Type 0 where
+  pub desk : Desk
+  pub is : IsDesk after then dev size desk
+  pub kept : IsKept size desk
+
+pub stays_kept : (m after : MachineState) (calls then : AllCalls) (hs : List Happening) (dev size : ℕ) (d : Desk) → 1 ≤ size → IsDesk m calls dev size d → IsKept size d → MakeAll m calls hs after then → StaysKept after then dev size
+stays_kept m after calls then hs dev size d some desk kept all =
+    let reached = all_turns size 0 m after calls then hs dev d desk all in
+    record { desk = reached.next; is = reached.is; kept = ran_kept size 0 d reached.turns reached.next some reached.ran kept }
+
+-- The answer of a call of another device leaves it as it is.
+answered_other : (found : Option ℕ) (old new : List DeviceState) (n dev : ℕ) (given : DiskAnswer) → GoesFor old n given found new → dev ≢ n → slice_get new dev ≡ slice_get old dev
+answered_other None old new n dev given goes other = ap (λ (ds : List DeviceState). slice_get ds dev) goes
+answered_other (Some k) old new n dev given goes other =
+    ap (λ (ds : List DeviceState). slice_get ds dev) (sym goes.new_is)
+    ∙ other_same goes.before goes.after (event.Disk n (k + 1) given) goes.outcome goes.reply n dev goes.step (for_hand n (slice_get goes.before.devices n) (k + 1) given) other
+    ∙ ap (λ (ds : List DeviceState). slice_get ds dev) goes.old_is
+
+pub other_desk : (old new : List DeviceState) (calls then : AllCalls) (n i dev size : ℕ) (found : Option ℕ) (given : DiskAnswer) (d : Desk) → IsDesk (with_devices old) calls dev size d → dev ≢ n → GoesFor old n given found new → then ≡ without calls n i
+    → IsDesk (with_devices new) then dev size d
+other_desk old new calls then n i dev size found given d desk other goes gone =
+    let devices : slice_get then.devices dev ≡ slice_get calls.devices dev = ap (λ (c : AllCalls). slice_get c.devices dev) gone ∙ without_other calls n i dev (slice_get calls.devices n) other in
+    with_calls (with_devices new) calls then dev size d (same_desk (with_devices old) (with_devices new) calls dev size d desk (answered_other found old new n dev given goes other)) devices
+
+-- A call of its own that is out has a sector at least.
+pub some_out : (m : MachineState) (calls : AllCalls) (dev size i : ℕ) (d : Desk) (out : Out) → IsDesk m calls dev size d → IsKept size d → IsAt calls.devices dev i out → 1 ≤ out.call.count
+some_out m calls dev size i d out desk kept at =
+    let same : at.device ≡ desk.own = the_same calls.devices dev at.device desk.own at.there desk.calls_there in
+    let is : slice_get (outs_of d.placed) i ≡ Some out = ap (λ (list : List Out). slice_get list i) (sym desk.outs_are) ∙ ap (λ (s : CallsState). slice_get s.outs i) (sym same) ∙ at.is in
+    let p = placed_at d.placed i out is in
+    subst (λ (o : Out). 1 ≤ o.call.count) p.2 (kept.asked i p.0 p.1).some
