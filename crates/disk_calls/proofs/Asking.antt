@@ -17,7 +17,7 @@ use Rattle.blk.specs.declared.request.Verdict.{Verdict}
 use Rattle.blk.specs.declared.request.Request.{Request}
 use Rattle.disk_calls.specs.Overlap.{first_block, is_flush, last_block, overlap}
 use Rattle.disk_calls.specs.Handing.{asker, begins_as, call_at, code_of, cut, handed_out, left_overlaps, may_hand_out}
-use Rattle.disk_calls.specs.Desk.{CallsAreMet, Desk, Drop, End, Goes, Hand, IsAsked, IsKept, Lose, Pass, Placed, Ran, Reply, Take, Turn, moved_up, outs_of, reply_to}
+use Rattle.disk_calls.specs.Desk.{AreMet, CallsAreMet, Desk, Drop, End, Goes, Hand, IsAsked, IsKept, Lose, Pass, Placed, Ran, Reply, Take, Turn, moved_up, outs_of, reply_to}
 use Rattle.disk_calls.specs.declared.device_calls.TheConstants.{CALLS_MAX}
 use Rattle.disk_calls.specs.declared.out.Out.{Out}
 
