@@ -11,6 +11,8 @@ mod ByParked
 mod ByState
 mod CallLaws
 mod CallTurns
+mod CallsMet
+mod HostSteps
 mod Failing
 mod Filling
 mod HandedCalls
