@@ -1,5 +1,5 @@
 -- Over all that a host does: each call of it is what happens to the desk of a device.
-use Rattle.std.proofs.Common.{◌≡◌, ◌≢◌, ◌≤◌, ◌<◌, ◌⊎◌, ℕ, zero, suc, ◌+◌, ◌*◌, ◌/◌, ◌%◌, ◌++◌, ◌∙◌, ◌&&◌, ◌||◌, not, min, Bool, true, false, ltb, leb, eqb, List, [], ◌∷◌, length, map, get_or, inl, inr, refl, sym, ap, subst, arith}
+use Rattle.std.proofs.Common.{◌≡◌, ◌≢◌, ◌≤◌, ◌<◌, ◌⊎◌, ℕ, zero, suc, ◌+◌, ◌-◌, ◌*◌, ◌^◌, ◌/◌, ◌%◌, ◌++◌, ◌∙◌, ◌&&◌, ◌||◌, not, min, Bool, true, false, ltb, leb, eqb, List, [], ◌∷◌, length, map, get_or, inl, inr, refl, sym, ap, subst, arith}
 use Rattle.std.proofs.lemmas.Bool.{and_from, and_parts, cases_lt, eq-eqb, eqb-true, le-leb, lt-ltb, ltb-false, ltb-true, not-true, or_parts, true≢false}
 use Rattle.std.proofs.lemmas.List.{length-map}
 use Rattle.std.proofs.lemmas.Option.{slice_get_within}
@@ -32,6 +32,7 @@ use Rattle.machine.specs.declared.work.Work.{Work}
 use Rattle.sender.specs.LiveState.{LiveSeen, refusal_for}
 use Rattle.sender.specs.Parked.{LiveParkedSeen}
 use Rattle.sender.specs.declared.event.LiveEvent.TheVariants.{Guest}
+use Rattle.c_machine.specs.Status.{lent, too_small}
 use Rattle.c_handle.specs.CallsMet.{CallsStayOut, Does, DoAll, HostCall, HostCallsAreMet, IsAnotherEvent, IsDeskIn, IsNoAnswerTo, NoneAnswers, a_failure, a_handing, a_loss, a_ram_write, a_register_write, a_reset, a_step, a_turn, an_answer, an_event, another, machine_of}
 use Rattle.c_handle.specs.DiskCalls.{HandsFrom, HandsUnless, HasHandedNone, IsOut, MeetsParked, MeetsStill, TakesAnswer, answers_call, asker_of, counted_as, counts_in, done_as, done_with, fits_done, handing_refusal, is_part, most_for, puts_bytes}
 use Rattle.c_handle.specs.Dropping.{WritesIf, drops_in, drops_out}
@@ -43,6 +44,7 @@ use Rattle.c_handle.specs.Outside.{AnswersIf, AnswersKept, HandsKept, HasAnswere
 use Rattle.c_handle.specs.Resetting.{AreDone, HasPages, IsDone, ResetsKept, drops_any, drops_below, has_input, made_in, refusal_with, resets_from, shapes_in, state_refusal, stop_refusal}
 use Rattle.c_handle.specs.Turns.{AreMade, EndsTurn, IsAsBefore, IsEnded, IsStep, IsUsedUp, Once, TurnsKept, counted, turn_refusal}
 use Rattle.c_handle.specs.declared.outside.Call.{Call}
+use Rattle.c_handle.specs.declared.serving.TheConstants.{NO_BYTE}
 use Rattle.c_handle.specs.declared.turning.Outcome.{Outcome}
 use Rattle.c_handle.specs.declared.turning.Outcome.TheVariants as outcomes
 use Rattle.c_handle.specs.declared.turning.Turn.{Turn}
@@ -112,7 +114,7 @@ keeps_in (Lent (MovingLent l)) calls dev off width value none goes = λ drops. n
 wrote : (drops : Bool) (k : KeptSeen) (next : State) (dev off width value status byte before : ℕ) → HasPages k.state → drops_out k dev off width value ≡ drops → WritesIf drops k.state dev off width value status byte before next → Comes k (as_state k next)
 wrote true k next dev off width value status byte before pages is w = stays k (as_state k next) pages w.1 refl
 wrote false k next dev off width value status byte before pages is w =
-    comes_by k (as_state k next) (RegWrite dev off width value) pages tt (keeps_in k.state k.calls dev off width value is) refl (did_tell k.state next (RegWrite dev off width value) status w.told 256 pages w.tells)
+    comes_by k (as_state k next) (RegWrite dev off width value) pages tt (keeps_in k.state k.calls dev off width value is) refl (did_tell k.state next (RegWrite dev off width value) status w.told NO_BYTE pages w.tells)
 
 -- Another event drops none, and answers none.
 plain_of : (e : Event) → IsAnotherEvent e → IsNoAnswer e
@@ -190,10 +192,8 @@ drop_elsewhere : (s next : State) (n : ℕ) → Did s (Drop n) next → AreElsew
 drop_elsewhere s next n (inl same) dev other = ap (λ (x : State). slice_get (devices_of x) dev) same
 drop_elsewhere s next n (inr d) dev other = dropped_elsewhere (devices_of s) (devices_of next) n dev d.2 other
 
-safe_after : (s next : State) (calls : AllCalls) (n : ℕ) → AreElsewhere s next n → IsSafe s calls n → IsSafe next calls (n + 1)
-safe_after s next calls n same safe dev below drops =
-    let there = same dev (λ e. omega (arith, below, e)) in
-    safe dev (omega (arith, below)) (ap (λ (found : Option DeviceState). machines.drops_in found 112 4 0) (sym there) ∙ drops)
+safe_later : (s : State) (calls : AllCalls) (n : ℕ) → IsSafe s calls n → IsSafe s calls (n + 1)
+safe_later s calls n safe dev below drops = safe dev (omega (arith, below)) drops
 
 safe_still : (s next : State) (calls : AllCalls) (n : ℕ) → AreElsewhere s next n → IsSafe s calls (n + 1) → IsSafe next calls (n + 1)
 safe_still s next calls n same safe dev below drops =
@@ -215,7 +215,7 @@ reset_comes k [] n next s pages safe done = stays (as_state k s) (as_state k nex
 reset_comes k (shape ∷ shapes) n next s pages safe done =
     let did = did_tell s done.0 (RegWrite n 112 4 0) 0 done.1.number 0 pages done.1.tells in
     let first = comes_by (as_state k s) (as_state k done.0) (RegWrite n 112 4 0) pages tt (λ goes. safe n (omega arith)) refl did in
-    let safe_now = safe_after s done.0 k.calls n (wrote_elsewhere s done.0 n did) safe in
+    let safe_now = safe_still s done.0 k.calls n (wrote_elsewhere s done.0 n did) (safe_later s k.calls n safe) in
     then_comes (as_state k s) (as_state k done.0) (as_state k next) first
     (drop_comes (has_input shape) k n done.0 next (resets_from (n + 1) shapes) first.pages safe_now (reset_comes k shapes (n + 1) next) done.2)
 
@@ -261,7 +261,7 @@ resets None k status next is pages r =
 abbrev Handing : List DeviceState → AllCalls → AllCalls → Type 0
 Handing devices calls after = (after ≡ calls) ⊎ ((most : ℕ) × (handed : Handed) × (1 ≤ most) × IsHandedOut most calls (map asking_requests devices) handed after)
 
-room_by : (short : Bool) (size : ℕ) → nat_lt size 512 ≡ short → ◌≡◌ {A = Option ℕ} (if short then Some 21 else None) None → 512 ≤ size
+room_by : (short : Bool) (size : ℕ) → nat_lt size 512 ≡ short → ◌≡◌ {A = Option ℕ} (if short then Some too_small else None) None → 512 ≤ size
 room_by true size is none = absurd cc
 room_by false size is none = ltb-false size 512 is
 
@@ -273,8 +273,10 @@ handing_unless : (o stopped : Option ℕ) (m : MachineState) (calls after : AllC
     → Unless o (HasHandedNone calls status call old_call buf new_buf after) (HandsFrom m calls status call old_call buf new_buf after) → Handing m.devices calls after
 handing_unless (Some reason) stopped m calls after status call old_call buf new_buf is h = inl h.calls_same
 handing_unless None stopped m calls after status call old_call buf new_buf is (inl h) =
-    let size : 1 ≤ length buf / 512 = omega (arith, room_for stopped (length buf) is) in
-    inr (most_for buf, h.handed, omega (arith, size), h.next)
+    let room : 512 ≤ length buf = room_for stopped (length buf) is in
+    let size : 1 ≤ length buf / 512 = omega (arith, room) in
+    let some : 1 ≤ min (length buf / 512) (2 ^ 32 - 1) = omega (arith, size) in
+    inr (most_for buf, h.handed, some, h.next)
 handing_unless None stopped m calls after status call old_call buf new_buf is (inr h) = inl h.1.calls_same
 
 handing : (s : State) (calls after : AllCalls) (status : ℕ) (call old_call : Call) (buf new_buf : List ℕ) → HandsKept s calls status call old_call buf new_buf after → Handing (devices_of s) calls after
@@ -346,7 +348,7 @@ record HasMet (k : KeptSeen) (number : ℕ) (fits : DiskCall → Bool) (answer :
 abbrev MetOr : KeptSeen → ℕ → (DiskCall → Bool) → (DiskCall → DiskAnswer) → State → AllCalls → Type 0
 MetOr k number fits answer next calls = ((next ≡ k.state) × (calls ≡ k.calls)) ⊎ HasMet k number fits answer next calls
 
-fits_by : (puts fits : Bool) → ◌≡◌ {A = Option ℕ} (if puts then Some 23 else misfit fits) None → fits ≡ true
+fits_by : (puts fits : Bool) → ◌≡◌ {A = Option ℕ} (if puts then Some lent else misfit fits) None → fits ≡ true
 fits_by true fits none = absurd cc
 fits_by false true none = refl
 fits_by false false none = absurd cc

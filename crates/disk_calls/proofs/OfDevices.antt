@@ -1,6 +1,5 @@
 -- What happens to a machine, told of its devices alone: RAM and disks may change beside it.
-use Rattle.std.proofs.Common.{◌≡◌, ◌≢◌, ℕ, ◌+◌, ◌-◌, ◌≤◌, ◌∙◌, ◌&&◌, Bool, true, false, ltb, List, [], ◌∷◌, ◌++◌, map, get_or, Option, Some, None, slice_get, refl, sym, ap, subst}
-use Rattle.std.specs.Prelude.{if◌then◌else◌}
+use Rattle.std.proofs.Common.{◌≡◌, ◌≢◌, ℕ, ◌+◌, ◌-◌, ◌≤◌, ◌∙◌, ◌&&◌, Bool, true, false, cond, ltb, List, [], ◌∷◌, ◌++◌, map, get_or, Option, Some, None, slice_get, refl, sym, ap, subst}
 use Rattle.mmio.specs.Status.{is_running}
 use Rattle.blk.specs.Block.{with_requests}
 use Rattle.blk.specs.Outside as outside
@@ -124,7 +123,7 @@ hand_happens old calls then most handed some out = (with_devices old, then, (som
 -- Whatever a disk outside answers, its event has the outcome of one that asked for nothing more.
 abbrev told_if : Bool → Bool → DeviceState → Block → Answer → Answering → DeviceAnswer
 told_if may taken d block given a =
-    if may then (if taken then record { reply = reply_to_disk given; writes = a.writes; sets = []; device = record d { kind = kind.Outside (with_requests block a.requests) } } else unmoved d Idle) else unmoved d Idle
+    cond may (cond taken (record { reply = reply_to_disk given; writes = a.writes; sets = []; device = record d { kind = kind.Outside (with_requests block a.requests) } }) (unmoved d Idle)) (unmoved d Idle)
 
 fine_given : (given : Answer) → outcome_of (reply_to_disk given) ≡ fine
 fine_given (outside.Gave bytes) = refl
