@@ -19,7 +19,8 @@ use Rattle.disk_calls.specs.declared.calls.Place.{Place}
 use Rattle.disk_calls.specs.declared.out.Out.{Out}
 use Rattle.machine.specs.Dropping as machines
 use Rattle.machine.specs.Outside.{answer_of, asking_requests}
-use Rattle.machine.specs.Parked.{ParkedSeen, parked_states}
+use Rattle.guestmem.specs.Page.{page_of}
+use Rattle.machine.specs.Parked.{ParkedSeen, page_address, parked_states}
 use Rattle.machine.specs.Seen.{Seen, state_of}
 use Rattle.machine.specs.State.{DeviceState, MachineState}
 use Rattle.machine.specs.declared.event.DiskAnswer.{DiskAnswer}
@@ -32,13 +33,14 @@ use Rattle.machine.specs.declared.work.Work.{Work}
 use Rattle.sender.specs.LiveState.{LiveSeen, refusal_for}
 use Rattle.sender.specs.Parked.{LiveParkedSeen}
 use Rattle.sender.specs.declared.event.LiveEvent.TheVariants.{Guest}
-use Rattle.c_machine.specs.Status.{lent, too_small}
-use Rattle.c_handle.specs.CallsMet.{CallsStayOut, Does, DoAll, HostCall, HostCallsAreMet, IsAnotherEvent, IsDeskIn, IsNoAnswerTo, NoneAnswers, a_failure, a_handing, a_loss, a_ram_write, a_register_write, a_reset, a_step, a_turn, an_answer, an_event, another, machine_of}
+use Rattle.c_machine.specs.Named.{named_pages, needs_list}
+use Rattle.c_machine.specs.Status.{lent, no_memory, too_small}
+use Rattle.c_handle.specs.CallsMet.{CallsStayOut, Does, DoAll, HostCall, HostCallsAreMet, IsAnotherEvent, IsDeskIn, IsNoAnswerTo, NoneAnswers, a_failure, a_handing, a_loss, a_push, a_ram_write, a_register_write, a_reset, a_step, a_turn, an_answer, an_event, another, machine_of}
 use Rattle.c_handle.specs.DiskCalls.{HandsFrom, HandsUnless, HasHandedNone, IsOut, MeetsParked, MeetsStill, TakesAnswer, answers_call, asker_of, counted_as, counts_in, done_as, done_with, fits_done, handing_refusal, is_part, most_for, puts_bytes}
 use Rattle.c_handle.specs.Dropping.{WritesIf, drops_in, drops_out}
 use Rattle.c_handle.specs.Durable.{HasLost, loss_refusal, owed_lost}
 use Rattle.c_handle.specs.Kept.{KeptSeen, LoanSeen, StillLent, MovingLent, State, Still, Moving, Arriving, Lent, is_lost}
-use Rattle.c_handle.specs.Mirror.{is_closed}
+use Rattle.c_handle.specs.Mirror.{ArePushed, HasPushed, is_closed, machine_in, memory_in, push_refusal}
 use Rattle.c_handle.specs.OnHandle.{Refuses, Unless}
 use Rattle.c_handle.specs.Outside.{AnswersIf, AnswersKept, HandsKept, HasAnswered, HasNotAnswered, Meets, MeetsLent, MeetsLiveParked, MeetsMoving, ServesAnswer, counted_answer, devices_of, is_lent, misfit, unfit}
 use Rattle.c_handle.specs.Resetting.{AreDone, HasPages, IsDone, ResetsKept, drops_any, drops_below, has_input, made_in, refusal_with, resets_from, shapes_in, state_refusal, stop_refusal}
@@ -144,6 +146,24 @@ told k next e status number before pages other did = comes_by k (as_state k next
 
 logged : (k : KeptSeen) (next : State) (log : Option (List Bool)) (e : Event) → HasPages k.state → IsAnotherEvent e → Did k.state e next → Comes k (as_logged k next log)
 logged k next log e pages other did = comes_by k (as_logged k next log) e pages (plain_of e other) (λ goes. keeps_of (machine_of k.state) k.calls e other) refl did
+
+-- Pages are handed in, one after another.
+pushed_comes : (pages : List ℕ) (k : KeptSeen) (s next : State) (log new_log : Option (List Bool)) (ram seen new_seen : List ℕ) → HasPages s → ArePushed s log pages ram seen new_seen next new_log → Comes (as_state k s) (as_state k next)
+pushed_comes [] k s next log new_log ram seen new_seen room p = stays (as_state k s) (as_state k next) room p.0 refl
+pushed_comes (n ∷ pages) k s next log new_log ram seen new_seen room p =
+    let e = events.MemWrite (page_address (machine_in s) n) (page_of ram n) in
+    let first = comes_by (as_state k s) (as_state k p.0) e room tt (λ goes. tt) refl (did_write s p.0 log p.1 (page_address (machine_in s) n) (page_of ram n) 0 p.3.written) in
+    then_comes (as_state k s) (as_state k p.0) (as_state k next) first (pushed_comes pages k p.0 next p.1 new_log ram p.2 new_seen first.pages p.4)
+
+push_comes : (o : Option ℕ) (k : KeptSeen) (next : State) (log new_log : Option (List Bool)) (pages ram : List ℕ) (needs : Bool) (status : ℕ) (seen new_seen : List ℕ) → HasPages k.state
+    → Unless o (λ reason. Refuses status new_seen seen reason × (next ≡ k.state) × (new_log ≡ log)) (HasPushed k.state log pages ram status seen new_seen next new_log ⊎ ((needs ≡ true) × (Refuses status new_seen seen no_memory × (next ≡ k.state) × (new_log ≡ log))))
+    → Comes k (as_state k next)
+push_comes (Some reason) k next log new_log pages ram needs status seen new_seen room h = stays k (as_state k next) room h.1 refl
+push_comes None k next log new_log pages ram needs status seen new_seen room (inl h) = pushed_comes pages k k.state next log new_log ram seen new_seen room h.pushed
+push_comes None k next log new_log pages ram needs status seen new_seen room (inr h) = stays k (as_state k next) room h.1.1 refl
+
+with_log : (k : KeptSeen) (next : State) (log : Option (List Bool)) → Comes k (as_state k next) → Comes k (as_logged k next log)
+with_log k next log c = record { happenings = c.happenings; made = c.made; pages = c.pages }
 
 -- A turn is its steps.
 step_comes : (k next : KeptSeen) (t : Turn) (w : Work) (status number : ℕ) (buf new_buf : List ℕ) → HasPages k.state → IsStep k t w status number buf new_buf next → Comes k next
@@ -451,6 +471,10 @@ module _ (k next : KeptSeen) (dev size : ℕ) (d : Desk) (some : 1 ≤ size) (pa
       to_next (as_state k on.next) on.is_next (wrote (drops_out k n off width value) k on.next n off width value h.0 h.1 h.2 pages refl on.done)
   does (an_event e) h = let on = h.4 in to_next (as_state k on.next) on.is_next (told k on.next e h.0 h.1 h.2 pages h.3 (did_tell k.state on.next e h.0 h.1 h.2 pages on.done))
   does (a_ram_write addr bytes) h = let on = h.1 in to_next (as_logged k on.next on.log) on.is_next (logged k on.next on.log (events.MemWrite addr bytes) pages tt (did_write k.state on.next k.written on.log addr bytes h.0 on.done))
+  does a_push h =
+      let on = h.5 in
+      let named = named_pages h.0 (length (memory_in k.state).versions) in
+      to_next (as_logged k on.next on.log) on.is_next (with_log k on.next on.log (push_comes (push_refusal k.state h.0 (length h.1) (length h.3)) k on.next k.written on.log named h.1 (needs_list h.0) h.2 h.3 h.4 pages on.done))
   does (a_step n pick) h =
       let on = h.5 in
       to_next (as_logged k on.next on.log) on.is_next (logged k on.next on.log (Step n pick) pages tt (did_step (owed_lost k n pick) k.state on.next k.written on.log n pick h.0 h.1 h.2 h.3 h.4 on.done))
@@ -471,7 +495,7 @@ module _ (k next : KeptSeen) (dev size : ℕ) (d : Desk) (some : 1 ≤ size) (pa
       let on = h.1 in
       let same = lost_same (loss_refusal k.state n) k on.next n h.0 on.loses in
       to_next on.next on.is_next (stays k on.next pages same.0 same.1)
-  does another h = so_by k next dev size d some desk kept (record { happenings = Rests ∷ []; made = rest_happens (devices_of k.state) (devices_of next.state) k.calls next.calls h.0 h.1; pages = h.2 })
+  does another h = so_by k next dev size d some desk kept (record { happenings = Rests ∷ []; made = rest_happens (devices_of k.state) (devices_of next.state) k.calls next.calls h.0.0 h.0.1; pages = h.1 })
 
 all_stay : (cs : List HostCall) (k next : KeptSeen) (dev size : ℕ) (d : Desk) → 1 ≤ size → HasPages k.state → IsDeskIn k dev size d → IsKept size d → DoAll k cs next → StaysSo next dev size
 all_stay [] k next dev size d some pages desk kept done = subst (λ (x : KeptSeen). StaysSo x dev size) (sym done) (record { desk = record { desk = d; is = desk; kept = kept }; pages = pages })
@@ -516,6 +540,7 @@ still_out : (c : HostCall) (k next : KeptSeen) (dev i : ℕ) (out : Out) → IsA
 still_out (a_register_write n off width value) k next dev i out at none h = still_same k.calls next.calls dev i out (calls_same k next (as_state k h.3.next) h.3.is_next refl) at
 still_out (an_event e) k next dev i out at none h = still_same k.calls next.calls dev i out (calls_same k next (as_state k h.4.next) h.4.is_next refl) at
 still_out (a_ram_write addr bytes) k next dev i out at none h = still_same k.calls next.calls dev i out (calls_same k next (as_logged k h.1.next h.1.log) h.1.is_next refl) at
+still_out a_push k next dev i out at none h = still_same k.calls next.calls dev i out (calls_same k next (as_logged k h.5.next h.5.log) h.5.is_next refl) at
 still_out (a_step n pick) k next dev i out at none h = still_same k.calls next.calls dev i out (calls_same k next (as_logged k h.5.next h.5.log) h.5.is_next refl) at
 still_out a_turn k next dev i out at none h = still_same k.calls next.calls dev i out (calls_same k next (as_logged k h.5.next h.5.log) h.5.is_next refl) at
 still_out a_reset k next dev i out at none h = still_same k.calls next.calls dev i out (calls_same k next (as_state k h.1.next) h.1.is_next refl) at
@@ -531,7 +556,7 @@ still_out (a_failure number) k next dev i out at none h =
 still_out (a_loss n) k next dev i out at none h =
     let on = h.1 in
     still_same k.calls next.calls dev i out (calls_same k next on.next on.is_next (lost_same (loss_refusal k.state n) k on.next n h.0 on.loses).1) at
-still_out another k next dev i out at none h = still_same k.calls next.calls dev i out h.1 at
+still_out another k next dev i out at none h = still_same k.calls next.calls dev i out h.0.1 at
 
 pub calls_stay_out : CallsStayOut
 calls_stay_out k next [] dev i out at none done = still_same k.calls next.calls dev i out (ap (λ (x : KeptSeen). x.calls) done) at

@@ -28,6 +28,7 @@ mod Mirrored
 mod Mirroring
 mod NextCalls
 mod Options
+mod OtherCalls
 mod Outs
 mod Owing
 mod PageAddresses

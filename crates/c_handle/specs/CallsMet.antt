@@ -6,14 +6,23 @@ use Rattle.disk_calls.specs.Calls.{AllCalls, IsAt}
 use Rattle.disk_calls.specs.Desk.{AreMet, Desk}
 use Rattle.disk_calls.specs.Machines.{IsDesk}
 use Rattle.disk_calls.specs.declared.out.Out.{Out}
+use Rattle.region.specs.declared.slot.Slot.{Slot}
 use Rattle.machine.specs.State.{MachineState}
 use Rattle.machine.specs.declared.event.Event.{Event}
 use Rattle.machine.specs.declared.event.Event.TheVariants.{RegWrite, Disk}
+use Rattle.c_machine.specs.declared.pages.Pages.{Pages}
 use Rattle.c_handle.specs.Dropping.{WroteReg}
 use Rattle.c_handle.specs.Durable.{Failed}
+use Rattle.c_handle.specs.HandedOut.{HandedOut}
 use Rattle.c_handle.specs.Kept.{KeptSeen, State}
+use Rattle.c_handle.specs.Late.{Marked}
+use Rattle.c_handle.specs.Lent.{GivesBack, Lends}
+use Rattle.c_handle.specs.Migrated.{Aborted, Begun, EndedRound, HasBeenStopped, SentSome, Taken}
+use Rattle.c_handle.specs.Mirror.{Pushed}
+use Rattle.c_handle.specs.Moving.{Saved}
 use Rattle.c_handle.specs.Outside.{Done, FailsCall, HandsCall, devices_of}
 use Rattle.c_handle.specs.Resetting.{HasPages, Resets}
+use Rattle.c_handle.specs.Sectors.{SectorRead}
 use Rattle.c_handle.specs.Stepped.{Stepped}
 use Rattle.c_handle.specs.Told.{Told, Written}
 use Rattle.c_handle.specs.Turns.{Worked}
@@ -34,8 +43,10 @@ pub data HostCall : Type 0 where
   a_register_write : ℕ → ℕ → ℕ → ℕ → HostCall
   -- another event: a register is read, bytes are put in or dropped, a console is resized
   an_event : Event → HostCall
-  -- RAM is written
+  -- RAM is written: bytes, from an address on
   a_ram_write : ℕ → List ℕ → HostCall
+  -- or whole pages are
+  a_push : HostCall
   -- a device does a piece of its work, the one of this pick; its disk may be lost
   a_step : ℕ → ℕ → HostCall
   -- all devices do theirs, one piece after another
@@ -50,7 +61,7 @@ pub data HostCall : Type 0 where
   a_failure : ℕ → HostCall
   -- the disk of this device is lost
   a_loss : ℕ → HostCall
-  -- any other call, as one that migrates the machine, lends its RAM, takes it back or reads a sector: it changes no device, and no call that is out
+  -- another call: it changes no device, and no call that is out
   another : HostCall
 
 -- A write of a register, and an answer of a disk, have calls of their own.
@@ -59,12 +70,17 @@ IsAnotherEvent (RegWrite dev off width value) = ⊥
 IsAnotherEvent (Disk dev pick given) = ⊥
 IsAnotherEvent e = Unit {0}
 
+-- The devices are as they were, and so are the calls that are out.
+abbrev pub KeepsDevices : KeptSeen → KeptSeen → Type 0
+KeepsDevices k next = (devices_of next.state ≡ devices_of k.state) × (next.calls ≡ k.calls)
+
 -- What the call does to a handle, with some status, and whatever else C gets: that is what its export promises. Of another call no more is asked than
--- that devices and calls are as they were, and that RAM which is lent has pages.
+-- what it keeps, and that RAM which is lent has pages.
 abbrev pub Does : KeptSeen → HostCall → KeptSeen → Type 0
 Does k (a_register_write dev off width value) next = (status : ℕ) × (byte : ℕ) × (before : ℕ) × WroteReg (Some k) dev off width value status byte before (Some next)
 Does k (an_event e) next = (status : ℕ) × (number : ℕ) × (before : ℕ) × IsAnotherEvent e × Told (Some k) e status number before (Some next)
 Does k (a_ram_write addr bytes) next = (status : ℕ) × Written (Some k) addr bytes status (Some next)
+Does k a_push next = (pages : Pages) × (ram : List ℕ) × (status : ℕ) × (seen : List ℕ) × (new_seen : List ℕ) × Pushed (Some k) pages ram status seen new_seen (Some next)
 Does k (a_step dev pick) next = (status : ℕ) × (number : ℕ) × (before : ℕ) × (buf : List ℕ) × (new_buf : List ℕ) × Stepped (Some k) dev pick status number before buf new_buf (Some next)
 Does k a_turn next = (t : Turn) × (status : ℕ) × (buf : List ℕ) × (new_buf : List ℕ) × (after : Turn) × Worked (Some k) t status buf new_buf after (Some next)
 Does k a_reset next = (status : ℕ) × Resets (Some k) status (Some next)
@@ -72,7 +88,7 @@ Does k a_handing next = (status : ℕ) × (call : Call) × (old_call : Call) × 
 Does k (an_answer number count bytes) next = (status : ℕ) × Done (Some k) number count bytes status (Some next)
 Does k (a_failure number) next = (status : ℕ) × FailsCall (Some k) number status (Some next)
 Does k (a_loss dev) next = (status : ℕ) × Failed (Some k) dev status (Some next)
-Does k another next = (devices_of next.state ≡ devices_of k.state) × (next.calls ≡ k.calls) × HasPages next.state
+Does k another next = KeepsDevices k next × HasPages next.state
 
 -- Calls, one after another.
 abbrev pub DoAll : KeptSeen → List HostCall → KeptSeen → Type 0
@@ -99,3 +115,37 @@ NoneAnswers number (c ∷ cs) = IsNoAnswerTo number c × NoneAnswers number cs
 -- A call that is out stays so, at its place or an earlier one, whatever the host calls, until it is answered.
 abbrev pub CallsStayOut : Type 0
 CallsStayOut = (k next : KeptSeen) (cs : List HostCall) (dev i : ℕ) (out : Out) → IsAt k.calls.devices dev i out → NoneAnswers out.number cs → DoAll k cs next → (j : ℕ) × (j ≤ i) × IsAt next.calls.devices dev j out
+
+-- The other calls, by what their exports promise: those that migrate a machine, lend its RAM and take it back, name pages or hand them out, and read the
+-- machine. A call that is not here changes nothing, or is made before there is a machine.
+pub data OtherCall : Type 0 where
+  a_begin : OtherCall
+  a_send : OtherCall
+  an_end_of_round : OtherCall
+  a_stop : OtherCall
+  an_abort : OtherCall
+  a_taking : OtherCall
+  a_loan : OtherCall
+  a_return : OtherCall
+  a_mark : OtherCall
+  a_list_of_pages : OtherCall
+  a_sector_read : OtherCall
+  a_save : OtherCall
+
+abbrev pub DoesOther : KeptSeen → OtherCall → KeptSeen → Type 0
+DoesOther k a_begin next = (status : ℕ) × Begun (Some k) status (Some next)
+DoesOther k a_send next = (most : ℕ) × (status : ℕ) × SentSome (Some k) most status (Some next)
+DoesOther k an_end_of_round next = (status : ℕ) × EndedRound (Some k) status (Some next)
+DoesOther k a_stop next = (status : ℕ) × (pages : ℕ) × (old_pages : ℕ) × (sectors : ℕ) × (old_sectors : ℕ) × HasBeenStopped (Some k) status pages old_pages sectors old_sectors (Some next)
+DoesOther k an_abort next = (status : ℕ) × Aborted (Some k) status (Some next)
+DoesOther k a_taking next = (status : ℕ) × (got : ℕ) × (old_got : ℕ) × (buf : List ℕ) × (new_buf : List ℕ) × Taken (Some k) status got old_got buf new_buf (Some next)
+DoesOther k a_loan next = (ram : Slot) × (status : ℕ) × (new_ram : Slot) × Lends (Some k) ram status new_ram (Some next)
+DoesOther k a_return next = (ram : Slot) × (pages : Pages) × (status : ℕ) × (new_ram : Slot) × GivesBack (Some k) ram pages status new_ram (Some next)
+DoesOther k a_mark next = (pages : Pages) × (status : ℕ) × Marked (Some k) pages status (Some next)
+DoesOther k a_list_of_pages next = (status : ℕ) × (out : List ℕ) × (new_out : List ℕ) × (count : ℕ) × (old_count : ℕ) × HandedOut (Some k) status out new_out count old_count (Some next)
+DoesOther k a_sector_read next = (dev : ℕ) × (n : ℕ) × (status : ℕ) × (buf : List ℕ) × (new_buf : List ℕ) × SectorRead (Some k) dev n status buf new_buf (Some next)
+DoesOther k a_save next = (status : ℕ) × (len : ℕ) × (old_len : ℕ) × (buf : List ℕ) × (new_buf : List ℕ) × Saved (Some k) status len old_len buf new_buf (Some next)
+
+-- Each of them is another call, as the law above takes it.
+abbrev pub OthersKeepDevices : Type 0
+OthersKeepDevices = (k next : KeptSeen) (c : OtherCall) → DoesOther k c next → KeepsDevices k next

@@ -2,7 +2,7 @@
 
 ghost use Rattle.c_handle.specs.ArrivedLogs.{ArrivedHasPlaces};
 ghost use Rattle.c_handle.specs.CallLaws.{AnswersStayFrom, FirstCallsAreFrom, ForeignIsNotOut, HandsStayFrom, LostAnswersFail, NextCallIsHandedOut, StopFindsNoneOut, StoppedHandsNone, UnusedIsNotOut};
-ghost use Rattle.c_handle.specs.CallsMet.{CallsStayOut, HostCallsAreMet};
+ghost use Rattle.c_handle.specs.CallsMet.{CallsStayOut, HostCallsAreMet, OthersKeepDevices};
 ghost use Rattle.c_handle.specs.Durable.{FailedIsLost, FailedMirrors, FailedStaysPlain, RefusedFailsNothing};
 ghost use Rattle.c_handle.specs.Mirror.{AppliedMirrors, PulledMirrors, PushedMirrors, UnseenMirrors};
 ghost use Rattle.c_machine.specs.Plain.{PlainStays, RefusedChangesNothing};
@@ -70,6 +70,11 @@ pub fn refused_answers_nothing()
 pub fn calls_are_met()
     ensures met { HostCallsAreMet }
     ensures out { CallsStayOut }
+{}
+
+/// Each call that migrates a machine, lends its RAM or takes it back, names pages or hands them out, or reads it, changes no device, and no call that is out.
+pub fn other_calls_keep_devices()
+    ensures { OthersKeepDevices }
 {}
 
 /// Calls of a machine have numbers from the one on that its host asked for, whatever is handed out and answered.
