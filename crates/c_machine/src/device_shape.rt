@@ -14,6 +14,9 @@ pub(crate) const FRAME_END: u32 = 65_536;
 /// The most bytes of a frame of a network device without an MTU.
 const USUAL_FRAME: u32 = 1_514;
 
+/// The fewest bytes of the longest frame of a network device with an MTU, which is 1,500 then.
+const LONG_FRAME: u32 = 1_518;
+
 /// The kind of a block device whose disk is outside: the number that the stream has for its shape.
 const BLOCK_OUTSIDE: u8 = 130;
 
@@ -150,7 +153,7 @@ impl DeviceShape {
         match self.kind {
             1 => {
                 is_usual_frame(self.frame)
-                    || self.frame > USUAL_FRAME && self.frame <= limits.frame as u32
+                    || self.frame >= LONG_FRAME && self.frame <= limits.frame as u32
             }
             2 => self.sectors != 0 && self.sectors <= limits.sectors as u64,
             BLOCK_OUTSIDE => {

@@ -17,7 +17,7 @@ use Rattle.vmig.specs.Output.{FailsOnFile, Silently}
 use Rattle.vmig.specs.declared.fault.Fault.{Fault}
 
 -- The disks fit the header, whatever comes after the front.
-begins_on : (front more : List ℕ) (opening : Opening) (rest : List ℕ) → Begins front opening rest → Begins (front ++ more) opening (rest ++ more)
+pub begins_on : (front more : List ℕ) (opening : Opening) (rest : List ℕ) → Begins front opening rest → Begins (front ++ more) opening (rest ++ more)
 begins_on front more opening rest b = record {
   good = b.good;
   whole = ap (λ (x : List ℕ). x ++ more) b.whole ∙ append_assoc (header opening) rest more;

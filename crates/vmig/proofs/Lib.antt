@@ -7,6 +7,7 @@ mod ComparingReplies
 mod ComparingSteady
 mod ComparingVerdict
 mod Heading
+mod ForgetfulDisks
 mod HonestDisks
 mod Likeness
 mod MemoryDisks

@@ -54,7 +54,7 @@ onto_sizes : (size : Option ℕ) (xs ys : List ℕ) → with_size size xs ++ ys 
 onto_sizes None xs ys = refl
 onto_sizes (Some n) xs ys = refl
 
-sizes-append : (shapes more : List Shape) → disk_sizes (shapes ++ more) ≡ disk_sizes shapes ++ disk_sizes more
+pub sizes-append : (shapes more : List Shape) → disk_sizes (shapes ++ more) ≡ disk_sizes shapes ++ disk_sizes more
 sizes-append [] more = refl
 sizes-append (shape ∷ shapes) more = ap (with_size (disk_size_of shape)) (sizes-append shapes more) ∙ sym (onto_sizes (disk_size_of shape) (disk_sizes shapes) (disk_sizes more))
 

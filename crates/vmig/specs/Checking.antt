@@ -1,5 +1,6 @@
 -- What `check` does: a stream is received over disks in memory, and one line says what machine it is of.
-use Rattle.std.specs.Prelude.{◌≡◌, ◌⊎◌, ◌/◌, ℕ, Bool, List, [], length, map, replicate}
+use Rattle.std.specs.Prelude.{◌≡◌, ◌⊎◌, ◌/◌, ℕ, Bool, true, false, List, [], length, map, replicate}
+use Rattle.blk.specs.Disk.{DiskState}
 use Rattle.guestmem.specs.declared.limits.TheConstants.{PAGE_SIZE}
 use Rattle.machine.specs.Shapes.{disk_sizes}
 use Rattle.machine.specs.State.{MachineState, base_of}
@@ -18,6 +19,10 @@ use Rattle.vmig.specs.declared.fault.Fault.TheVariants.{NoMemory}
 -- Disks of zeros, one for each of these devices that has a disk.
 abbrev pub zero_disks : List Shape → List (List (List ℕ))
 zero_disks shapes = map (λ size. replicate size (replicate 512 0)) (disk_sizes shapes)
+
+-- A disk of this many sectors that keeps nothing: it never fails, and a read gives zeros.
+abbrev pub forgetful_state : ℕ → DiskState
+forgetful_state count = record { sectors = replicate count (replicate 512 0); failures = 0; honest = false; steady = true; is_flushed = true }
 
 -- The bytes are the stream of a machine whose RAM begins at the address 0, whose disks may be outside or not, and this is its line.
 pub record IsStreamLine (outside : Bool) (bytes line : List ℕ) : Type 0 where

@@ -1,6 +1,7 @@
 //! The command `check`: a stream is received over disks in memory.
 //!
-//! The disks have the sizes that the header gives, so a check asks for as much memory as they have.
+//! The disks have the sizes that the header gives, so a check asks for as much memory as they have, where the file is long enough to say
+//! what they hold.
 
 ghost use Rattle.std.specs.Prelude.{◌≡◌, ◌≤◌, ◌∷◌, ◌++◌, [], drop, IfOk, IfErr, IfSome, MatchOption, OnOk, OnErr, length};
 ghost use Rattle.std.specs.Io.KnownBytes.{Appends};
@@ -16,6 +17,7 @@ use crate::allowing::{program_limits, program_terms};
 use crate::fault::Fault;
 use crate::feeding::{Front, read_front, receive_rest};
 use crate::output::{flush, open_file};
+use crate::short_file::refuse_short;
 use guestmem::{NoMemory, PAGE_SIZE};
 use machine::{Limits, Machine, MemDisk, Shape};
 use receiver::{Receiver, receive_with};
@@ -52,6 +54,7 @@ fn receive_file<'a, R: Files + AllocGlobal>(
     ensures received { IfOk result (λ x. IsStreamMachine outside (state_of x.0) x.1) }
     ensures failed { IfErr result (TellsOfChecked outside name.entry.now) }
 {
+    refuse_short(rt, name, outside)?;
     let alloc = rt.alloc();
     let mut file = open_file(rt, name)?;
     let front = read_front(alloc, &mut file, name)?;
@@ -82,7 +85,7 @@ fn receive_in_memory<'a, F: Read>(
 
 /// The header at the beginning of the bytes. `None` if they begin with no header of a machine within these limits.
 #[tactic(auto, using(crate::proofs::Heading::none_at_fault, crate::proofs::Heading::none_in_part))]
-fn header_of(alloc: Global, limits: Limits, bytes: &[u8]) -> Result<Option<Header>, NoMemory>
+pub fn header_of(alloc: Global, limits: Limits, bytes: &[u8]) -> Result<Option<Header>, NoMemory>
     ensures found { IfOk result (λ found. MatchOption found (BeginsNot limits bytes.now) (λ h. (h.len ≤ length bytes.now) × Begins bytes.now (said h) (drop h.len bytes.now))) }
     ensures within { IfOk result (λ found. IfSome found (λ h. AreWithin limits h.pages h.shapes.items)) }
 {

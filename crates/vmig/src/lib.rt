@@ -40,6 +40,7 @@ mod output;
 mod playing;
 mod program;
 mod resuming;
+mod short_file;
 mod words;
 
 pub use blk::DiskCall;
