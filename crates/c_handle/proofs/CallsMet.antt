@@ -22,6 +22,7 @@ use Rattle.machine.specs.Outside.{answer_of, asking_requests}
 use Rattle.guestmem.specs.Page.{page_of}
 use Rattle.machine.specs.Parked.{ParkedSeen, page_address, parked_states}
 use Rattle.machine.specs.Seen.{Seen, state_of}
+use Rattle.machine.specs.Shapes.{made_as}
 use Rattle.machine.specs.State.{DeviceState, MachineState}
 use Rattle.machine.specs.declared.event.DiskAnswer.{DiskAnswer}
 use Rattle.machine.specs.declared.event.DiskAnswer.TheVariants as answers_
@@ -261,7 +262,7 @@ there_by (Some d) drops = (d, refl)
 safe_at_first : (k : KeptSeen) → state_refusal k.state ≡ None → drops_any k ≡ false → IsSafe k.state k.calls 0
 safe_at_first k goes none dev from drops =
     let d = there_by (slice_get (devices_of k.state) dev) drops in
-    let count : length (shapes_in k.state) ≡ length (devices_of k.state) = ap length (shapes_are k.state) ∙ length-map _ (devices_of k.state) in
+    let count : length (shapes_in k.state) ≡ length (devices_of k.state) = ap length (shapes_are k.state) ∙ length-map (devices_of k.state) (λ (d : DeviceState). made_as d.kind) in
     let below : dev < length (shapes_in k.state) = omega (arith, count, slice_get_within (devices_of k.state) dev d.0 d.1) in
     keeps_in k.state k.calls dev 112 4 0 (none_below (length (shapes_in k.state)) k none dev below) goes drops
 
