@@ -11,6 +11,8 @@ mod ByParked
 mod ByState
 mod CallLaws
 mod CallTurns
+mod CallsMet
+mod HostSteps
 mod Failing
 mod Filling
 mod HandedCalls
@@ -26,6 +28,7 @@ mod Mirrored
 mod Mirroring
 mod NextCalls
 mod Options
+mod OtherCalls
 mod Outs
 mod Owing
 mod PageAddresses

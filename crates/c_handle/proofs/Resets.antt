@@ -84,7 +84,7 @@ pub shape_moving_lent : (k : State) (l : LiveParkedSeen) (dev : ℕ) (d : Device
 shape_moving_lent k l dev d told is there made = ap (λ (x : State). slice_get (shapes_in x) dev) is ∙ shape_at (parked_states l.parked) dev d told there made
 
 -- A machine that was not stopped refuses no event.
-going_for : (p : Phase) (e : Event) → stop_refusal p ≡ None → refusal_for p (Guest e) ≡ None
+pub going_for : (p : Phase) (e : Event) → stop_refusal p ≡ None → refusal_for p (Guest e) ≡ None
 going_for phases.Fresh e going = refl
 going_for (phases.Open k) e going = refl
 going_for phases.Stopped e going = absurd cc
@@ -120,7 +120,7 @@ live_done None l next e (live.Mig x) status none going fine told does = absurd d
 parked_shapes : (p next : ParkedSeen) (e : Event) (reply : Reply) → 1 ≤ length p.versions → length p.versions ≤ 4294967295 → IsAppliedParked p e reply next → made_in (parked_states next) ≡ made_in (parked_states p)
 parked_shapes p next e reply some few applied = (applied_at p next e reply some few applied).shape.devices
 
-same_pages : (p next : ParkedSeen) → next.versions ≡ p.versions → (1 ≤ length p.versions) × (length p.versions ≤ 4294967295) → (1 ≤ length next.versions) × (length next.versions ≤ 4294967295)
+pub same_pages : (p next : ParkedSeen) → next.versions ≡ p.versions → (1 ≤ length p.versions) × (length p.versions ≤ 4294967295) → (1 ≤ length next.versions) × (length next.versions ≤ 4294967295)
 same_pages p next same pages = subst (λ (v : List ℕ). (1 ≤ length v) × (length v ≤ 4294967295)) (sym same) pages
 
 parked_done : (o : Option MigError) (l next : LiveParkedSeen) (e : Event) (reply : LiveReply) (status : ℕ) → o ≡ None → stop_refusal l.phase ≡ None → HasPages (Lent (MovingLent l)) → IsFine (Lent (MovingLent l)) e → status ≡ live_status reply

@@ -6,6 +6,7 @@ pub mod ArrivedLogs
 pub mod Arriving
 pub mod Awaited
 pub mod CallLaws
+pub mod CallsMet
 pub mod CallsOut
 pub mod Described
 pub mod DiskCalls

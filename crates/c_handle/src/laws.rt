@@ -2,6 +2,7 @@
 
 ghost use Rattle.c_handle.specs.ArrivedLogs.{ArrivedHasPlaces};
 ghost use Rattle.c_handle.specs.CallLaws.{AnswersStayFrom, FirstCallsAreFrom, ForeignIsNotOut, HandsStayFrom, LostAnswersFail, NextCallIsHandedOut, StopFindsNoneOut, StoppedHandsNone, UnusedIsNotOut};
+ghost use Rattle.c_handle.specs.CallsMet.{CallsStayOut, HostCallsAreMet, OthersKeepDevices};
 ghost use Rattle.c_handle.specs.Durable.{FailedIsLost, FailedMirrors, FailedStaysPlain, RefusedFailsNothing};
 ghost use Rattle.c_handle.specs.Mirror.{AppliedMirrors, PulledMirrors, PushedMirrors, UnseenMirrors};
 ghost use Rattle.c_machine.specs.Plain.{PlainStays, RefusedChangesNothing};
@@ -62,6 +63,18 @@ pub fn refused_hands_nothing()
 /// An answer of a disk outside that is refused changes nothing: the call is still out.
 pub fn refused_answers_nothing()
     ensures { RefusedAnswersNothing }
+{}
+
+/// Over all that a host does with a handle, no two calls of a device that are out overlap; each is asked by one request; and its answer meets that
+/// one. A call that is out stays so until it is answered.
+pub fn calls_are_met()
+    ensures met { HostCallsAreMet }
+    ensures out { CallsStayOut }
+{}
+
+/// Each call that migrates a machine, lends its RAM or takes it back, names pages or hands them out, or reads it, changes no device, and no call that is out.
+pub fn other_calls_keep_devices()
+    ensures { OthersKeepDevices }
 {}
 
 /// Calls of a machine have numbers from the one on that its host asked for, whatever is handed out and answered.

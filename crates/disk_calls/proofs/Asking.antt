@@ -17,7 +17,7 @@ use Rattle.blk.specs.declared.request.Verdict.{Verdict}
 use Rattle.blk.specs.declared.request.Request.{Request}
 use Rattle.disk_calls.specs.Overlap.{first_block, is_flush, last_block, overlap}
 use Rattle.disk_calls.specs.Handing.{asker, begins_as, call_at, code_of, cut, handed_out, left_overlaps, may_hand_out}
-use Rattle.disk_calls.specs.Desk.{CallsAreMet, Desk, Drop, End, Goes, Hand, IsAsked, IsKept, Lose, Pass, Placed, Ran, Reply, Take, Turn, moved_up, outs_of, reply_to}
+use Rattle.disk_calls.specs.Desk.{AreMet, CallsAreMet, Desk, Drop, End, Goes, Hand, IsAsked, IsKept, Lose, Pass, Placed, Ran, Reply, Take, Turn, moved_up, outs_of, reply_to}
 use Rattle.disk_calls.specs.declared.device_calls.TheConstants.{CALLS_MAX}
 use Rattle.disk_calls.specs.declared.out.Out.{Out}
 
@@ -165,7 +165,7 @@ get_last (z ∷ xs) y (suc k) x h =
       | inr here ↦ inr (ap suc here.0, here.1)
     ]
 
-get_within : {A : Type 0} (xs ys : List A) (k : ℕ) → k < length xs → slice_get (xs ++ ys) k ≡ slice_get xs k
+pub get_within : {A : Type 0} (xs ys : List A) (k : ℕ) → k < length xs → slice_get (xs ++ ys) k ≡ slice_get xs k
 get_within [] ys k below = absurd (omega (arith, below))
 get_within (x ∷ xs) ys zero below = refl
 get_within (x ∷ xs) ys (suc k) below = get_within xs ys k (omega (arith, below))
@@ -176,14 +176,14 @@ get_taken [] (suc n) k below = refl
 get_taken (x ∷ xs) (suc n) zero below = refl
 get_taken (x ∷ xs) (suc n) (suc k) below = get_taken xs n k (omega (arith, below))
 
-get_before : {A : Type 0} (xs : List A) (i k : ℕ) → k < i → slice_get (remove xs i) k ≡ slice_get xs k
+pub get_before : {A : Type 0} (xs : List A) (i k : ℕ) → k < i → slice_get (remove xs i) k ≡ slice_get xs k
 get_before [] zero k below = absurd (omega (arith, below))
 get_before [] (suc i) k below = refl
 get_before (x ∷ xs) zero k below = absurd (omega (arith, below))
 get_before (x ∷ xs) (suc i) zero below = refl
 get_before (x ∷ xs) (suc i) (suc k) below = get_before xs i k (omega (arith, below))
 
-get_behind : {A : Type 0} (xs : List A) (i k : ℕ) → i ≤ k → slice_get (remove xs i) k ≡ slice_get xs (suc k)
+pub get_behind : {A : Type 0} (xs : List A) (i k : ℕ) → i ≤ k → slice_get (remove xs i) k ≡ slice_get xs (suc k)
 get_behind [] zero k from = refl
 get_behind [] (suc i) k from = refl
 get_behind (x ∷ xs) zero k from = refl
@@ -580,18 +580,22 @@ goes_kept size base d new (Reply i answer) some goes h = kept_replied size base 
 goes_kept size base d new (Lose i) some goes h = rw goes (kept_lost size d i h)
 goes_kept size base d new Drop some goes h = rw goes.1 (record { asked = λ i p is. absurd (nothing d.placed i p goes.0 is); apart = h.apart })
 
-ran_kept : (size base : ℕ) (d : Desk) (turns : List Turn) (new : Desk) → 1 ≤ size → Ran size base d turns new → IsKept size d → IsKept size new
+pub ran_kept : (size base : ℕ) (d : Desk) (turns : List Turn) (new : Desk) → 1 ≤ size → Ran size base d turns new → IsKept size d → IsKept size new
 ran_kept size base d [] new some ran h = rw ran h
 ran_kept size base d (turn ∷ turns) new some ran h = ran_kept size base ran.0 turns new some ran.2 (goes_kept size base d ran.0 turn some ran.1 h)
 
+-- It holds while no call is out, and gives what the law says.
+pub begun_kept : (size : ℕ) (requests : List Request) → IsKept size (record { requests = requests; placed = [] })
+begun_kept size requests = record { asked = λ i p is. absurd (nothing [] i p refl is); apart = λ i j p q is_p is_q two. absurd (nothing [] i p refl is_p) }
+
+pub kept_met : (size : ℕ) (d : Desk) → 1 ≤ size → IsKept size d → AreMet size d
+kept_met size d some h = record {
+  apart = λ i j p q is_p is_q two.
+      let apart = h.apart i j p q is_p is_q two in
+      (apart, two_askers size d.requests p q some (h.asked i p is_p) (h.asked j q is_q) apart);
+  asker_is = λ i p is. asker_is size d.requests p some (h.asked i p is);
+  meets = λ i p answer is to. answer_meets size d.requests p answer (h.asked i p is) to;
+}
+
 pub calls_are_met : CallsAreMet
-calls_are_met size base requests turns d some ran =
-    let begun : IsKept size (record { requests = requests; placed = [] }) = record { asked = λ i p is. absurd (nothing [] i p refl is); apart = λ i j p q is_p is_q two. absurd (nothing [] i p refl is_p) } in
-    let h = ran_kept size base (record { requests = requests; placed = [] }) turns d some ran begun in
-    record {
-      apart = λ i j p q is_p is_q two.
-          let apart = h.apart i j p q is_p is_q two in
-          (apart, two_askers size d.requests p q some (h.asked i p is_p) (h.asked j q is_q) apart);
-      asker_is = λ i p is. asker_is size d.requests p some (h.asked i p is);
-      meets = λ i p answer is to. answer_meets size d.requests p answer (h.asked i p is) to;
-    }
+calls_are_met size base requests turns d some ran = kept_met size d some (ran_kept size base (record { requests = requests; placed = [] }) turns d some ran (begun_kept size requests))

@@ -55,11 +55,11 @@ use Rattle.disk_calls.proofs.Turns.{outs_pushed, outs_removed, placed_at}
 use Rattle.disk_calls.proofs.Within.{asked_at}
 
 -- Where the desk of a device goes: by some turns, to the desk that it is then.
-record Reaches (size base : ℕ) (d : Desk) (after : MachineState) (then : AllCalls) (dev : ℕ) : Type 0 where
-  turns : List Turn
-  next : Desk
-  ran : Ran size base d turns next
-  is : IsDesk after then dev size next
+pub record Reaches (size base : ℕ) (d : Desk) (after : MachineState) (then : AllCalls) (dev : ℕ) : Type 0 where
+  pub turns : List Turn
+  pub next : Desk
+  pub ran : Ran size base d turns next
+  pub is : IsDesk after then dev size next
 
 stays : (size base : ℕ) (d : Desk) (after : MachineState) (then : AllCalls) (dev : ℕ) → IsDesk after then dev size d → Reaches size base d after then dev
 stays size base d after then dev h = record { turns = []; next = d; ran = refl; is = h }
@@ -68,7 +68,7 @@ turned : (size base : ℕ) (d : Desk) (after : MachineState) (then : AllCalls) (
 turned size base d after then dev turn next goes h = record { turns = turn ∷ []; next = next; ran = (next, goes, refl); is = h }
 
 -- The desk of the same device, where the machine has changed.
-same_desk : (m after : MachineState) (calls : AllCalls) (dev size : ℕ) (d : Desk) → IsDesk m calls dev size d → slice_get after.devices dev ≡ slice_get m.devices dev → IsDesk after calls dev size d
+pub same_desk : (m after : MachineState) (calls : AllCalls) (dev size : ℕ) (d : Desk) → IsDesk m calls dev size d → slice_get after.devices dev ≡ slice_get m.devices dev → IsDesk after calls dev size d
 same_desk m after calls dev size d h same = record {
   device = h.device;
   there = same ∙ h.there;
@@ -111,10 +111,10 @@ elsewhere : (ds : List DeviceState) (n dev : ℕ) (r : Option Replacement) → I
 elsewhere ds n dev None for other = refl
 elsewhere ds n dev (Some r) for other = get_other ds r.number r.device dev (λ e. other (e ∙ for))
 
-other_same : (m after : MachineState) (e : events.Event) (o : Outcome) (r : Reply_) (n dev : ℕ) (h : IsStep m e o r after) → IsFor n (answer m e o h.has.seen).effect.replaced → dev ≢ n → slice_get after.devices dev ≡ slice_get m.devices dev
+pub other_same : (m after : MachineState) (e : events.Event) (o : Outcome) (r : Reply_) (n dev : ℕ) (h : IsStep m e o r after) → IsFor n (answer m e o h.has.seen).effect.replaced → dev ≢ n → slice_get after.devices dev ≡ slice_get m.devices dev
 other_same m after e o r n dev h for other = ap (λ (ds : List DeviceState). slice_get ds dev) (devices_after m after e o r h) ∙ elsewhere m.devices n dev (answer m e o h.has.seen).effect.replaced for other
 
-for_set : (n : ℕ) (found : Option DeviceState) (off width value : ℕ) → IsFor n (write_register n found off width value).effect.replaced
+pub for_set : (n : ℕ) (found : Option DeviceState) (off width value : ℕ) → IsFor n (write_register n found off width value).effect.replaced
 for_set n None off width value = tt
 for_set n (Some d) off width value = refl
 
@@ -141,7 +141,7 @@ for_drop_by : (n : ℕ) (d : DeviceState) (told : Result (Unit {0}) Refusal) →
 for_drop_by n d (Ok done) = refl
 for_drop_by n d (Err refusal) = tt
 
-for_drop : (n : ℕ) (found : Option DeviceState) → IsFor n (drop_input n found).effect.replaced
+pub for_drop : (n : ℕ) (found : Option DeviceState) → IsFor n (drop_input n found).effect.replaced
 for_drop n None = tt
 for_drop n (Some d) = for_drop_by n d (drop_of d.kind)
 
@@ -153,7 +153,7 @@ for_hand_by : (n : ℕ) (told : Result DeviceAnswer Refusal) → IsFor n (answer
 for_hand_by n (Ok s) = refl
 for_hand_by n (Err refusal) = tt
 
-for_hand : (n : ℕ) (found : Option DeviceState) (pick : ℕ) (given : DiskAnswer) → IsFor n (hand_in n found pick given).effect.replaced
+pub for_hand : (n : ℕ) (found : Option DeviceState) (pick : ℕ) (given : DiskAnswer) → IsFor n (hand_in n found pick given).effect.replaced
 for_hand n None pick given = tt
 for_hand n (Some d) pick given = for_hand_by n (disk_answered d d.kind pick (answer_of given))
 
@@ -391,7 +391,7 @@ module _ (size base : ℕ) (m after : MachineState) (calls : AllCalls) (dev : �
   event_turns (event.Disk n pick given) o r plain keeps_ h = absurd plain
 
 -- The calls of a device, where those of another have changed.
-with_calls : (m : MachineState) (calls then : AllCalls) (dev size : ℕ) (d : Desk) → IsDesk m calls dev size d → slice_get then.devices dev ≡ slice_get calls.devices dev → IsDesk m then dev size d
+pub with_calls : (m : MachineState) (calls then : AllCalls) (dev size : ℕ) (d : Desk) → IsDesk m calls dev size d → slice_get then.devices dev ≡ slice_get calls.devices dev → IsDesk m then dev size d
 with_calls m calls then dev size d h same = record {
   device = h.device;
   there = h.there;
@@ -404,7 +404,7 @@ with_calls m calls then dev size d h same = record {
   outs_are = h.outs_are;
 }
 
-without_other : (calls : AllCalls) (n i dev : ℕ) (found : Option CallsState) → dev ≢ n → slice_get (without_at calls n i found).devices dev ≡ slice_get calls.devices dev
+pub without_other : (calls : AllCalls) (n i dev : ℕ) (found : Option CallsState) → dev ≢ n → slice_get (without_at calls n i found).devices dev ≡ slice_get calls.devices dev
 without_other calls n i dev None other = refl
 without_other calls n i dev (Some s) other = get_other calls.devices n (record s { outs = remove s.outs i }) dev other
 
@@ -572,7 +572,7 @@ ran_append : (size base : ℕ) (d : Desk) (front back : List Turn) (mid new : De
 ran_append size base d [] back mid new first second = subst (λ (x : Desk). Ran size base x back new) first second
 ran_append size base d (turn ∷ front) back mid new first second = (first.0, first.1, ran_append size base first.0 front back mid new first.2 second)
 
-all_turns : (size base : ℕ) (m after : MachineState) (calls then : AllCalls) (hs : List Happening) (dev : ℕ) (d : Desk) → IsDesk m calls dev size d → MakeAll m calls hs after then → Reaches size base d after then dev
+pub all_turns : (size base : ℕ) (m after : MachineState) (calls then : AllCalls) (hs : List Happening) (dev : ℕ) (d : Desk) → IsDesk m calls dev size d → MakeAll m calls hs after then → Reaches size base d after then dev
 all_turns size base m after calls then [] dev d desk h =
     let same : IsDesk after calls dev size d = same_desk m after calls dev size d desk (ap (λ (k : MachineState). slice_get k.devices dev) h.0) in
     stays size base d after then dev (with_calls after calls then dev size d same (ap (λ (c : AllCalls). slice_get c.devices dev) h.1))

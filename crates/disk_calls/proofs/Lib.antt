@@ -6,4 +6,6 @@ pub mod OldestCalls
 pub mod Turns
 pub mod Within
 pub mod Happenings
+pub mod OfDevices
+pub mod Staying
 mod LostDisks
