@@ -2,6 +2,7 @@
 use Rattle.std.proofs.Common.{◌≡◌, ◌≤◌, ◌<◌, ◌⊎◌, ℕ, ◌==◌, nat_lt, if◌then◌else◌, Bool, true, false, List, [], ◌∷◌, ◌++◌, length, map, inl, inr, refl, sym, ap, subst, ◌∙◌, arith, append-nil, append_assoc, true≢false}
 use Rattle.std.proofs.lemmas.Bool.{eqb-true}
 use Rattle.std.proofs.lemmas.List.{map-append}
+use Rattle.std.specs.List.{find}
 use Rattle.std.specs.Prelude.{Option, Some, None, IfSome, ◌&&◌, ◌||◌, not, slice_get, slice_index_or}
 use Rattle.blk.specs.declared.durable.SyncOwed.{SyncOwed}
 use Rattle.blk.specs.declared.durable.SyncOwed.TheVariants.{Nothing, Flush, EndOfWrite}
@@ -16,7 +17,6 @@ use Rattle.machine.specs.declared.event.Event.TheVariants.{Step}
 use Rattle.machine.specs.declared.reply.Reply.{Reply}
 use Rattle.machine.specs.declared.reply.Reply.TheVariants.{DiskFailed}
 use Rattle.machine.specs.declared.work.Work.{Work}
-use Rattle.machine.proofs.NextWork.{found_has}
 use Rattle.wire.specs.Stream.{texts}
 use Rattle.sender.specs.Calls.{Guests, Serves}
 use Rattle.sender.specs.History.{History, guest_events, text, then_came}
@@ -105,6 +105,14 @@ no_end_by false o has can owes = absurd cc
 no_end_of : (lost : Bool) (found : Option DeviceState) (pick : ℕ) → device_can_work lost found pick ≡ true → (if lost then owed_for found pick else Nothing) ≡ EndOfWrite → ⊥
 no_end_of lost None pick can owes = true≢false (sym can)
 no_end_of lost (Some d) pick can owes = no_end_by lost (owed d pick) _ can owes
+
+has_head : (p : Work → Bool) (w : Work) (rest : Option Work) (t : Bool) → p w ≡ t → IfSome rest (λ v. p v ≡ true) → IfSome (if t then Some w else rest) (λ v. p v ≡ true)
+has_head p w rest true h k = h
+has_head p w rest false h k = k
+
+found_has : (p : Work → Bool) (ws : List Work) → IfSome (find p ws) (λ w. p w ≡ true)
+found_has p [] = tt
+found_has p (w ∷ ws) = has_head p w (find p ws) (p w) refl (found_has p ws)
 
 can_found : (lost : List Bool) (devices : List DeviceState) (last : Work) (found : Option Work) (status dev pick : ℕ) → next_work_with_lost devices lost last ≡ found → NamesWork lost devices found status dev last.dev pick last.pick → status ≡ 78
     → device_can_work (slice_index_or lost dev false) (slice_get devices dev) pick ≡ true
