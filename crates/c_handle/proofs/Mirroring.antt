@@ -66,7 +66,7 @@ pushed_still m next log new_log n addr bytes ram seen new_seen answer sound ther
     }
 
 -- The same of a machine that is sent, and was not stopped.
-going_for : (p : Phase) (e : Event) → is_closed p ≡ false → refusal_for p (Guest e) ≡ None
+pub going_for : (p : Phase) (e : Event) → is_closed p ≡ false → refusal_for p (Guest e) ≡ None
 going_for phases.Fresh e going = refl
 going_for (phases.Open k) e going = refl
 going_for phases.Stopped e going = absurd (true≢false going)

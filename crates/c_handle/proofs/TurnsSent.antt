@@ -29,7 +29,6 @@ use Rattle.sender.specs.declared.mig_error.MigError.{MigError}
 use Rattle.sender.specs.declared.phase.Phase.TheVariants as phases
 use Rattle.sender.proofs.BehindLent.{may_guest}
 use Rattle.sender.proofs.Fresh.{told}
-use Rattle.sender.proofs.Living.{guest_free}
 use Rattle.c_handle.specs.Durable.{FailsKept, FailsUnless, failed_status, owed_for, owed_in, owed_lost}
 use Rattle.c_handle.specs.Kept.{KeptSeen, State, Still, Moving, Arriving, Lent, is_lost}
 use Rattle.c_handle.specs.Mirror.{is_closed}
@@ -42,6 +41,7 @@ use Rattle.c_handle.specs.declared.turning.Turn.{Turn}
 use Rattle.c_handle.specs.declared.turning.Outcome.{Outcome}
 use Rattle.c_handle.specs.declared.turning.Outcome.TheVariants as outcomes
 use Rattle.c_handle.proofs.Failing.{failed_flushes_stay_sent}
+use Rattle.c_handle.proofs.Mirroring.{going_for}
 use Rattle.c_handle.proofs.PageLogs.{logged_is_served}
 use Rattle.c_handle.proofs.Sent.{calls_stay_sent}
 use Rattle.c_handle.proofs.TurnSteps.{Runs, all_run, did_step, runs_on, runs_unless}
@@ -60,7 +60,7 @@ not_stopped l goes stopped = true≢false (sym (ap is_closed stopped) ∙ goes)
 served_by : (l live : LiveSeen) (dev pick : ℕ) (reply : LiveReply) → HasPlaces l → is_closed l.phase ≡ false → Serves l (Guest (Step dev pick)) reply live
     → ((refusal_for l.phase (Guest (Step dev pick)) ≡ None) × Guests l (Step dev pick) reply live) ⊎ ((x : MigError) × (refusal_for l.phase (Guest (Step dev pick)) ≡ Some x) × ((reply ≡ r.Mig x) × (live ≡ l))) → DoneLive l dev pick live
 served_by l live dev pick reply places goes serves (inr refused) =
-    let none : (◌≡◌ {A = Option MigError} None (Some refused.0)) = sym (guest_free l.phase (Step dev pick) (not_stopped l goes)) ∙ refused.1 in absurd cc
+    let none : (◌≡◌ {A = Option MigError} None (Some refused.0)) = sym (going_for l.phase (Step dev pick) goes) ∙ refused.1 in absurd cc
 served_by l live dev pick (r.Guest reply) places goes serves (inl done) = inl (reply, places, serves)
 served_by l live dev pick (r.Begun round) places goes serves (inl done) = absurd done.1
 served_by l live dev pick (r.Copied item) places goes serves (inl done) = absurd done.1
@@ -135,17 +135,17 @@ no_end k t w l is goes named owes =
 -- A step of a turn, by what it owes, and by the state that it leaves.
 done_in : (o : SyncOwed) (k next : KeptSeen) (l : LiveSeen) (w : Work) (s : State) (status number before : ℕ) (buf new_buf : List ℕ) → k.state ≡ Moving l → next.state ≡ s → is_closed l.phase ≡ false → next ≡ record k { state = next.state; written = next.written }
     → StepsOwing o (Moving l) k.written w.dev w.pick status number before buf new_buf s next.written → (o ≡ EndOfWrite → ⊥) → Done k w status buf new_buf next l
-done_in Nothing k next l w (Moving live) status number before buf new_buf is next_is goes rest s no =
-    stepped_done k next l live w status number before buf new_buf is next_is rest (is_closed l.phase) (nat_lt (length buf) (most_sent_by l.machine w.dev w.pick)) refl s
-done_in Flush k next l w (Moving live) status number before buf new_buf is next_is goes rest s no =
-    failed_done k next l live w status number before buf new_buf is next_is rest (is_closed l.phase) refl s.status_is s.fails
-done_in EndOfWrite k next l w s status number before buf new_buf is next_is goes rest owing no = absurd (no refl)
-done_in Nothing k next l w (Still m) status number before buf new_buf is next_is goes rest s no = absurd s
-done_in Nothing k next l w (Arriving r) status number before buf new_buf is next_is goes rest s no = absurd s
-done_in Nothing k next l w (Lent x) status number before buf new_buf is next_is goes rest s no = absurd s
-done_in Flush k next l w (Still m) status number before buf new_buf is next_is goes rest s no = absurd s.fails
-done_in Flush k next l w (Arriving r) status number before buf new_buf is next_is goes rest s no = absurd s.fails
-done_in Flush k next l w (Lent x) status number before buf new_buf is next_is goes rest s no = absurd s.fails
+done_in Nothing k next l w (Moving there) status number before buf new_buf is next_is goes rest s none =
+    stepped_done k next l there w status number before buf new_buf is next_is rest (is_closed l.phase) (nat_lt (length buf) (most_sent_by l.machine w.dev w.pick)) refl s
+done_in Flush k next l w (Moving there) status number before buf new_buf is next_is goes rest s none =
+    failed_done k next l there w status number before buf new_buf is next_is rest (is_closed l.phase) refl s.status_is s.fails
+done_in EndOfWrite k next l w s status number before buf new_buf is next_is goes rest owing none = absurd (none refl)
+done_in Nothing k next l w (Still m) status number before buf new_buf is next_is goes rest owing none = absurd owing
+done_in Nothing k next l w (Arriving a) status number before buf new_buf is next_is goes rest owing none = absurd owing
+done_in Nothing k next l w (Lent x) status number before buf new_buf is next_is goes rest owing none = absurd owing
+done_in Flush k next l w (Still m) status number before buf new_buf is next_is goes rest owing none = absurd owing.fails
+done_in Flush k next l w (Arriving a) status number before buf new_buf is next_is goes rest owing none = absurd owing.fails
+done_in Flush k next l w (Lent x) status number before buf new_buf is next_is goes rest owing none = absurd owing.fails
 
 step_done : (k next : KeptSeen) (t : Turn) (w : Work) (l : LiveSeen) (status number : ℕ) (buf new_buf : List ℕ) → k.state ≡ Moving l → Runs k.state → IsStep k t w status number buf new_buf next → Done k w status buf new_buf next l
 step_done k next t w l status number buf new_buf is runs s =
