@@ -1,19 +1,19 @@
 -- Over all that a host does: each call of it is what happens to the desk of a device.
-use Rattle.std.proofs.Common.{◌≡◌, ◌≢◌, ◌≤◌, ◌<◌, ◌⊎◌, ℕ, zero, suc, ◌+◌, ◌-◌, ◌*◌, ◌^◌, ◌/◌, ◌%◌, ◌++◌, ◌∙◌, ◌&&◌, ◌||◌, not, min, Bool, true, false, ltb, leb, eqb, List, [], ◌∷◌, length, map, get_or, inl, inr, refl, sym, ap, subst, arith}
+use Rattle.std.proofs.Common.{◌≡◌, ◌≢◌, ◌≤◌, ◌<◌, ◌⊎◌, ℕ, zero, suc, ◌+◌, ◌-◌, ◌*◌, ◌^◌, ◌/◌, ◌%◌, ◌++◌, ◌∙◌, ◌&&◌, not, min, Bool, true, false, ltb, leb, eqb, List, [], ◌∷◌, length, map, inl, inr, refl, sym, ap, subst, arith}
 use Rattle.std.proofs.lemmas.Bool.{and_from, and_parts, cases_lt, eq-eqb, eqb-true, le-leb, lt-ltb, ltb-false, ltb-true, not-true, or_parts, true≢false}
 use Rattle.std.proofs.lemmas.List.{length-map}
 use Rattle.std.proofs.lemmas.Option.{slice_get_within}
-use Rattle.std.specs.Prelude.{MatchOption, Option, Some, None, if◌then◌else◌, nat_lt, slice_get}
+use Rattle.std.specs.Prelude.{Option, Some, None, if◌then◌else◌, nat_lt, slice_get}
 use Rattle.blk.specs.Outside.{answers}
 use Rattle.blk.specs.declared.outside.DiskCall.{DiskCall}
 use Rattle.blk.specs.declared.outside.What.{What}
 use Rattle.blk.specs.declared.outside.What.TheVariants as to
 use Rattle.disk_calls.proofs.Asking.{begun_kept, is_same, kept_met}
-use Rattle.disk_calls.proofs.OfDevices.{GoesFor, IsStepOf, StaysKept, all_happen, answer_happens, applied_step, asker_in, dropped_elsewhere, hand_happens, other_desk, rest_happens, some_out, stays_kept, step_happens, with_devices, written_elsewhere}
+use Rattle.disk_calls.proofs.OfDevices.{GoesFor, IsStepOf, StaysKept, all_happen, answer_happens, applied_step, asker_in, dropped_elsewhere, hand_happens, other_desk, rest_happens, some_out, stays_kept, step_happens, written_elsewhere}
 use Rattle.disk_calls.proofs.Staying.{IsStillAt, one_at, stays_handed, stays_removed}
 use Rattle.disk_calls.specs.Calls.{AllCalls, IsAt, IsHandedOut, is_out_of, without}
 use Rattle.disk_calls.specs.Desk.{Desk, IsKept}
-use Rattle.disk_calls.specs.Machines.{Answers, Happening, Happens, Hands, IsDesk, IsNoAnswer, KeepsRequests, MakeAll, Rests, asked_of}
+use Rattle.disk_calls.specs.Machines.{Answers, Happening, Happens, Hands, IsNoAnswer, KeepsRequests, MakeAll, Rests}
 use Rattle.disk_calls.specs.declared.calls.Handed.{Handed}
 use Rattle.disk_calls.specs.declared.calls.Place.{Place}
 use Rattle.disk_calls.specs.declared.out.Out.{Out}
@@ -36,16 +36,16 @@ use Rattle.sender.specs.Parked.{LiveParkedSeen}
 use Rattle.sender.specs.declared.event.LiveEvent.TheVariants.{Guest}
 use Rattle.c_machine.specs.Named.{named_pages, needs_list}
 use Rattle.c_machine.specs.Status.{lent, no_memory, too_small}
-use Rattle.c_handle.specs.CallsMet.{CallsStayOut, Does, DoAll, HostCall, HostCallsAreMet, IsAnotherEvent, IsDeskIn, IsNoAnswerTo, NoneAnswers, a_failure, a_handing, a_loss, a_push, a_ram_write, a_register_write, a_reset, a_step, a_turn, an_answer, an_event, another, machine_of}
-use Rattle.c_handle.specs.DiskCalls.{HandsFrom, HandsUnless, HasHandedNone, IsOut, MeetsParked, MeetsStill, TakesAnswer, answers_call, asker_of, counted_as, counts_in, done_as, done_with, fits_done, handing_refusal, is_part, most_for, puts_bytes}
+use Rattle.c_handle.specs.CallsMet.{CallsStayOut, Does, DoAll, HostCall, HostCallsAreMet, IsAnotherEvent, IsDeskIn, IsNoAnswerTo, a_failure, a_handing, a_loss, a_push, a_ram_write, a_register_write, a_reset, a_step, a_turn, an_answer, an_event, another, machine_of}
+use Rattle.c_handle.specs.DiskCalls.{HandsFrom, HasHandedNone, IsOut, MeetsParked, MeetsStill, TakesAnswer, answers_call, asker_of, counted_as, counts_in, done_as, done_with, fits_done, handing_refusal, is_part, most_for, puts_bytes}
 use Rattle.c_handle.specs.Dropping.{WritesIf, drops_in, drops_out}
 use Rattle.c_handle.specs.Durable.{HasLost, loss_refusal, owed_lost}
-use Rattle.c_handle.specs.Kept.{KeptSeen, LoanSeen, StillLent, MovingLent, State, Still, Moving, Arriving, Lent, is_lost}
+use Rattle.c_handle.specs.Kept.{KeptSeen, StillLent, MovingLent, State, Still, Moving, Arriving, Lent, is_lost}
 use Rattle.c_handle.specs.Mirror.{ArePushed, HasPushed, is_closed, machine_in, memory_in, push_refusal}
 use Rattle.c_handle.specs.OnHandle.{Refuses, Unless}
-use Rattle.c_handle.specs.Outside.{AnswersIf, AnswersKept, HandsKept, HasAnswered, HasNotAnswered, Meets, MeetsLent, MeetsLiveParked, MeetsMoving, ServesAnswer, counted_answer, devices_of, is_lent, misfit, unfit}
-use Rattle.c_handle.specs.Resetting.{AreDone, HasPages, IsDone, ResetsKept, drops_any, drops_below, has_input, made_in, refusal_with, resets_from, shapes_in, state_refusal, stop_refusal}
-use Rattle.c_handle.specs.Turns.{AreMade, EndsTurn, IsAsBefore, IsEnded, IsStep, IsUsedUp, Once, TurnsKept, counted, turn_refusal}
+use Rattle.c_handle.specs.Outside.{AnswersIf, AnswersKept, HandsKept, HasAnswered, HasNotAnswered, Meets, MeetsLiveParked, MeetsMoving, ServesAnswer, counted_answer, devices_of, is_lent, misfit, unfit}
+use Rattle.c_handle.specs.Resetting.{AreDone, HasPages, drops_any, drops_below, has_input, made_in, refusal_with, resets_from, shapes_in, state_refusal, stop_refusal}
+use Rattle.c_handle.specs.Turns.{AreMade, EndsTurn, IsAsBefore, IsEnded, IsStep, IsUsedUp, Once, counted, turn_refusal}
 use Rattle.c_handle.specs.declared.outside.Call.{Call}
 use Rattle.c_handle.specs.declared.serving.TheConstants.{NO_BYTE}
 use Rattle.c_handle.specs.declared.turning.Outcome.{Outcome}

@@ -1,10 +1,8 @@
 -- Calls of C that change no device, and no call of a disk outside.
-use Rattle.std.proofs.Common.{◌≡◌, ◌⊎◌, ℕ, zero, suc, ◌∙◌, Bool, true, false, nat_lt, List, length, map, inl, inr, refl, sym, ap}
+use Rattle.std.proofs.Common.{◌≡◌, ◌⊎◌, ℕ, zero, suc, ◌∙◌, Bool, true, false, nat_lt, List, length, map, inl, inr, refl, ap}
 use Rattle.std.specs.Prelude.{MatchOption, Option, Some, None}
 use Rattle.machine.specs.Seen.{DeviceSeen, Seen, state_of}
-use Rattle.machine.specs.State.{DeviceState, MachineState}
-use Rattle.region.specs.Slot.{region_of}
-use Rattle.region.specs.declared.region.Region.{Region}
+use Rattle.machine.specs.State.{MachineState}
 use Rattle.region.specs.declared.slot.Slot.{Slot}
 use Rattle.sender.specs.Calls.{AfterBegin, AfterCopy, AfterRound, AfterStop}
 use Rattle.sender.specs.LiveState.{LiveSeen, now, refusal_for}
@@ -16,9 +14,8 @@ use Rattle.sender.specs.declared.mig_error.MigError.{MigError}
 use Rattle.sender.specs.declared.mig_error.MigError.TheVariants as errors
 use Rattle.wire.specs.Stream.{whole}
 use Rattle.c_machine.specs.Named.{named_pages, needs_list}
-use Rattle.c_machine.specs.declared.pages.Pages.{Pages}
-use Rattle.c_handle.specs.CallsMet.{DoesOther, KeepsDevices, OtherCall, OthersKeepDevices, a_begin, a_list_of_pages, a_loan, a_mark, a_return, a_save, a_sector_read, a_send, a_stop, a_taking, an_abort, an_end_of_round}
-use Rattle.c_handle.specs.Kept.{KeptSeen, LoanSeen, StillLent, MovingLent, State, Still, Moving, Arriving, Lent}
+use Rattle.c_handle.specs.CallsMet.{KeepsDevices, OthersKeepDevices, a_begin, a_list_of_pages, a_loan, a_mark, a_return, a_save, a_sector_read, a_send, a_stop, a_taking, an_abort, an_end_of_round}
+use Rattle.c_handle.specs.Kept.{KeptSeen, StillLent, MovingLent, State, Still, Moving, Arriving, Lent}
 use Rattle.c_handle.specs.Late.{HasMarked, IsMarked, mark_refusal}
 use Rattle.c_handle.specs.Lent.{HasComeBack, IsBack, IsLoan, IsUnlent, LendsIfOver, back_refusal_of, lend_refusal_of, lent_pages}
 use Rattle.c_handle.specs.Migrated.{AbortsKept, BeginsKept, EndsKept, GoesOn, SendsIf, SendsKept, SendsUpTo, StopsKept, StopsUnless, TakesKept, is_none_due, send_refusal}

@@ -2,7 +2,7 @@
 -- until it is answered.
 use Rattle.std.specs.Prelude.{◌≡◌, ◌≢◌, ℕ, ◌≤◌, List, [], ◌∷◌, Some}
 use Rattle.blk.specs.declared.request.Request.{Request}
-use Rattle.disk_calls.specs.Calls.{AllCalls, IsAt}
+use Rattle.disk_calls.specs.Calls.{IsAt}
 use Rattle.disk_calls.specs.Desk.{AreMet, Desk}
 use Rattle.disk_calls.specs.Machines.{IsDesk}
 use Rattle.disk_calls.specs.declared.out.Out.{Out}
