@@ -124,7 +124,7 @@ abbrev pub CallsStayOut : Type 0
 CallsStayOut = (k next : KeptSeen) (cs : List HostCall) (dev i : ℕ) (out : Out) → IsAt k.calls.devices dev i out → NoneAnswers out.number cs → DoAll k cs next → (j : ℕ) × (j ≤ i) × IsAt next.calls.devices dev j out
 
 -- The other calls, by what their exports promise: those that migrate a machine, lend its RAM and take it back, name pages or hand them out, and read the
--- machine. A call that is not here changes nothing, or is made before there is a machine.
+-- machine. What is left of the calls changes nothing, brings a machine into a handle, or takes the handle away.
 pub data OtherCall : Type 0 where
   a_begin : OtherCall
   a_send : OtherCall
