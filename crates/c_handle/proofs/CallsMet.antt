@@ -1,22 +1,23 @@
 -- Over all that a host does: each call of it is what happens to the desk of a device.
-use Rattle.std.proofs.Common.{◌≡◌, ◌≢◌, ◌≤◌, ◌<◌, ◌⊎◌, ℕ, zero, suc, ◌+◌, ◌-◌, ◌*◌, ◌^◌, ◌/◌, ◌%◌, ◌++◌, ◌∙◌, ◌&&◌, ◌||◌, not, min, Bool, true, false, ltb, leb, eqb, List, [], ◌∷◌, length, map, get_or, inl, inr, refl, sym, ap, subst, arith}
+use Rattle.std.proofs.Common.{◌≡◌, ◌≢◌, ◌≤◌, ◌<◌, ◌⊎◌, ℕ, zero, suc, ◌+◌, ◌-◌, ◌*◌, ◌^◌, ◌/◌, ◌%◌, ◌++◌, ◌∙◌, ◌&&◌, not, min, Bool, true, false, ltb, leb, eqb, List, [], ◌∷◌, length, map, inl, inr, refl, sym, ap, subst, arith}
 use Rattle.std.proofs.lemmas.Bool.{and_from, and_parts, cases_lt, eq-eqb, eqb-true, le-leb, lt-ltb, ltb-false, ltb-true, not-true, or_parts, true≢false}
 use Rattle.std.proofs.lemmas.List.{length-map}
 use Rattle.std.proofs.lemmas.Option.{slice_get_within}
-use Rattle.std.specs.Prelude.{MatchOption, Option, Some, None, if◌then◌else◌, nat_lt, slice_get}
+use Rattle.std.specs.Prelude.{Option, Some, None, if◌then◌else◌, nat_lt, slice_get}
 use Rattle.blk.specs.Outside.{answers}
 use Rattle.blk.specs.declared.outside.DiskCall.{DiskCall}
 use Rattle.blk.specs.declared.outside.What.{What}
 use Rattle.blk.specs.declared.outside.What.TheVariants as to
 use Rattle.disk_calls.proofs.Asking.{begun_kept, is_same, kept_met}
-use Rattle.disk_calls.proofs.OfDevices.{GoesFor, IsStepOf, StaysKept, all_happen, answer_happens, applied_step, asker_in, dropped_elsewhere, hand_happens, other_desk, rest_happens, some_out, stays_kept, step_happens, with_devices, written_elsewhere}
+use Rattle.disk_calls.proofs.OfDevices.{GoesFor, IsStepOf, StaysKept, all_happen, answer_happens, applied_step, asker_in, dropped_elsewhere, hand_happens, other_desk, rest_happens, some_out, stays_kept, step_happens, written_elsewhere}
 use Rattle.disk_calls.proofs.Staying.{IsStillAt, one_at, stays_handed, stays_removed}
 use Rattle.disk_calls.specs.Calls.{AllCalls, IsAt, IsHandedOut, is_out_of, without}
 use Rattle.disk_calls.specs.Desk.{Desk, IsKept}
-use Rattle.disk_calls.specs.Machines.{Answers, Happening, Happens, Hands, IsDesk, IsNoAnswer, KeepsRequests, MakeAll, Rests, asked_of}
+use Rattle.disk_calls.specs.Machines.{Answers, Happening, Happens, Hands, IsNoAnswer, KeepsRequests, MakeAll, Rests}
 use Rattle.disk_calls.specs.declared.calls.Handed.{Handed}
 use Rattle.disk_calls.specs.declared.calls.Place.{Place}
 use Rattle.disk_calls.specs.declared.out.Out.{Out}
+use Rattle.machine.specs.Applied.{IsApplied}
 use Rattle.machine.specs.Dropping as machines
 use Rattle.machine.specs.Outside.{answer_of, asking_requests}
 use Rattle.guestmem.specs.Page.{page_of}
@@ -29,6 +30,7 @@ use Rattle.machine.specs.declared.event.DiskAnswer.TheVariants as answers_
 use Rattle.machine.specs.declared.event.Event.{Event}
 use Rattle.machine.specs.declared.event.Event.TheVariants as events
 use Rattle.machine.specs.declared.event.Event.TheVariants.{Disk, Drop, RegWrite, Step}
+use Rattle.machine.specs.declared.reply.Reply.{Reply}
 use Rattle.machine.specs.declared.shape.Shape.{Shape}
 use Rattle.machine.specs.declared.work.Work.{Work}
 use Rattle.sender.specs.LiveState.{LiveSeen, refusal_for}
@@ -36,22 +38,22 @@ use Rattle.sender.specs.Parked.{LiveParkedSeen}
 use Rattle.sender.specs.declared.event.LiveEvent.TheVariants.{Guest}
 use Rattle.c_machine.specs.Named.{named_pages, needs_list}
 use Rattle.c_machine.specs.Status.{lent, no_memory, too_small}
-use Rattle.c_handle.specs.CallsMet.{CallsStayOut, Does, DoAll, HostCall, HostCallsAreMet, IsAnotherEvent, IsDeskIn, IsNoAnswerTo, NoneAnswers, a_failure, a_handing, a_loss, a_push, a_ram_write, a_register_write, a_reset, a_step, a_turn, an_answer, an_event, another, machine_of}
-use Rattle.c_handle.specs.DiskCalls.{HandsFrom, HandsUnless, HasHandedNone, IsOut, MeetsParked, MeetsStill, TakesAnswer, answers_call, asker_of, counted_as, counts_in, done_as, done_with, fits_done, handing_refusal, is_part, most_for, puts_bytes}
+use Rattle.c_handle.specs.CallsMet.{CallsStayOut, Does, DoAll, HasRam, HostCall, HostCallsAreMet, IsAnotherEvent, IsDeskIn, IsNoAnswerTo, a_failure, a_handing, a_loss, a_push, a_ram_write, a_register_write, a_reset, a_step, a_turn, an_answer, an_event, another, machine_of}
+use Rattle.c_handle.specs.DiskCalls.{HandsFrom, HasHandedNone, IsOut, MeetsParked, MeetsStill, TakesAnswer, answers_call, asker_of, counted_as, counts_in, done_as, done_with, fits_done, handing_refusal, is_part, most_for, puts_bytes}
 use Rattle.c_handle.specs.Dropping.{WritesIf, drops_in, drops_out}
 use Rattle.c_handle.specs.Durable.{HasLost, loss_refusal, owed_lost}
-use Rattle.c_handle.specs.Kept.{KeptSeen, LoanSeen, StillLent, MovingLent, State, Still, Moving, Arriving, Lent, is_lost}
+use Rattle.c_handle.specs.Kept.{KeptSeen, StillLent, MovingLent, State, Still, Moving, Arriving, Lent, is_lost}
 use Rattle.c_handle.specs.Mirror.{ArePushed, HasPushed, is_closed, machine_in, memory_in, push_refusal}
 use Rattle.c_handle.specs.OnHandle.{Refuses, Unless}
-use Rattle.c_handle.specs.Outside.{AnswersIf, AnswersKept, HandsKept, HasAnswered, HasNotAnswered, Meets, MeetsLent, MeetsLiveParked, MeetsMoving, ServesAnswer, counted_answer, devices_of, is_lent, misfit, unfit}
-use Rattle.c_handle.specs.Resetting.{AreDone, HasPages, IsDone, ResetsKept, drops_any, drops_below, has_input, made_in, refusal_with, resets_from, shapes_in, state_refusal, stop_refusal}
-use Rattle.c_handle.specs.Turns.{AreMade, EndsTurn, IsAsBefore, IsEnded, IsStep, IsUsedUp, Once, TurnsKept, counted, turn_refusal}
+use Rattle.c_handle.specs.Outside.{AnswersIf, AnswersKept, HandsKept, HasAnswered, HasNotAnswered, Meets, MeetsLiveParked, MeetsMoving, ServesAnswer, counted_answer, devices_of, is_lent, misfit, unfit}
+use Rattle.c_handle.specs.Resetting.{AreDone, drops_any, drops_below, has_input, made_in, refusal_with, resets_from, shapes_in, state_refusal, stop_refusal}
+use Rattle.c_handle.specs.Turns.{AreMade, EndsTurn, IsAsBefore, IsEnded, IsStep, IsUsedUp, Once, counted, turn_refusal}
 use Rattle.c_handle.specs.declared.outside.Call.{Call}
 use Rattle.c_handle.specs.declared.serving.TheConstants.{NO_BYTE}
 use Rattle.c_handle.specs.declared.turning.Outcome.{Outcome}
 use Rattle.c_handle.specs.declared.turning.Outcome.TheVariants as outcomes
 use Rattle.c_handle.specs.declared.turning.Turn.{Turn}
-use Rattle.c_handle.proofs.HostSteps.{Did, did_step, did_tell, did_write, guest_step, parked_guest_step, parked_step}
+use Rattle.c_handle.proofs.HostSteps.{Did, applied_ram, did_step, did_tell, did_write, guest_step, parked_guest_step, parked_step}
 use Rattle.c_handle.proofs.PageLogs.{logged_is_served}
 use Rattle.c_handle.proofs.Resets.{going_for, same_pages}
 
@@ -59,16 +61,16 @@ use Rattle.c_handle.proofs.Resets.{going_for, same_pages}
 record Comes (k next : KeptSeen) : Type 0 where
   happenings : List Happening
   made : MakeAll (machine_of k.state) k.calls happenings (machine_of next.state) next.calls
-  pages : HasPages next.state
+  pages : HasRam next.state
 
-stays : (k next : KeptSeen) → HasPages k.state → next.state ≡ k.state → next.calls ≡ k.calls → Comes k next
+stays : (k next : KeptSeen) → HasRam k.state → next.state ≡ k.state → next.calls ≡ k.calls → Comes k next
 stays k next pages same calls = record {
   happenings = Rests ∷ [];
   made = rest_happens (devices_of k.state) (devices_of next.state) k.calls next.calls (ap devices_of same) calls;
-  pages = subst HasPages (sym same) pages;
+  pages = subst HasRam (sym same) pages;
 }
 
-comes_by : (k next : KeptSeen) (e : Event) → HasPages k.state → IsNoAnswer e → (state_refusal k.state ≡ None → KeepsRequests (machine_of k.state) k.calls e) → next.calls ≡ k.calls → Did k.state e next.state → Comes k next
+comes_by : (k next : KeptSeen) (e : Event) → HasRam k.state → IsNoAnswer e → (state_refusal k.state ≡ None → KeepsRequests (machine_of k.state) k.calls e) → next.calls ≡ k.calls → Did k.state e next.state → Comes k next
 comes_by k next e pages plain keeps calls (inl same) = stays k next pages same calls
 comes_by k next e pages plain keeps calls (inr d) = record {
   happenings = Rests ∷ Happens e ∷ Rests ∷ [];
@@ -114,7 +116,7 @@ keeps_in (Arriving r) calls dev off width value none goes = absurd cc
 keeps_in (Lent (StillLent p)) calls dev off width value none goes = λ drops. not_both (is_out_of calls dev) (machines.drops_in (slice_get (parked_states p) dev) off width value) none drops
 keeps_in (Lent (MovingLent l)) calls dev off width value none goes = λ drops. not_all (is_out_of calls dev) (is_closed l.phase) (machines.drops_in (slice_get (parked_states l.parked) dev) off width value) none (goes_of (is_closed l.phase) _ goes) drops
 
-wrote : (drops : Bool) (k : KeptSeen) (next : State) (dev off width value status byte before : ℕ) → HasPages k.state → drops_out k dev off width value ≡ drops → WritesIf drops k.state dev off width value status byte before next → Comes k (as_state k next)
+wrote : (drops : Bool) (k : KeptSeen) (next : State) (dev off width value status byte before : ℕ) → HasRam k.state → drops_out k dev off width value ≡ drops → WritesIf drops k.state dev off width value status byte before next → Comes k (as_state k next)
 wrote true k next dev off width value status byte before pages is w = stays k (as_state k next) pages w.1 refl
 wrote false k next dev off width value status byte before pages is w =
     comes_by k (as_state k next) (RegWrite dev off width value) pages tt (keeps_in k.state k.calls dev off width value is) refl (did_tell k.state next (RegWrite dev off width value) status w.told NO_BYTE pages w.tells)
@@ -142,21 +144,21 @@ keeps_of m calls (events.Resize dev cols rows) other = tt
 keeps_of m calls (events.Drop dev) other = tt
 keeps_of m calls (events.Disk dev pick given) other = absurd other
 
-told : (k : KeptSeen) (next : State) (e : Event) (status number before : ℕ) → HasPages k.state → IsAnotherEvent e → Did k.state e next → Comes k (as_state k next)
+told : (k : KeptSeen) (next : State) (e : Event) (status number before : ℕ) → HasRam k.state → IsAnotherEvent e → Did k.state e next → Comes k (as_state k next)
 told k next e status number before pages other did = comes_by k (as_state k next) e pages (plain_of e other) (λ goes. keeps_of (machine_of k.state) k.calls e other) refl did
 
-logged : (k : KeptSeen) (next : State) (log : Option (List Bool)) (e : Event) → HasPages k.state → IsAnotherEvent e → Did k.state e next → Comes k (as_logged k next log)
+logged : (k : KeptSeen) (next : State) (log : Option (List Bool)) (e : Event) → HasRam k.state → IsAnotherEvent e → Did k.state e next → Comes k (as_logged k next log)
 logged k next log e pages other did = comes_by k (as_logged k next log) e pages (plain_of e other) (λ goes. keeps_of (machine_of k.state) k.calls e other) refl did
 
 -- Pages are handed in, one after another.
-pushed_comes : (pages : List ℕ) (k : KeptSeen) (s next : State) (log new_log : Option (List Bool)) (ram seen new_seen : List ℕ) → HasPages s → ArePushed s log pages ram seen new_seen next new_log → Comes (as_state k s) (as_state k next)
+pushed_comes : (pages : List ℕ) (k : KeptSeen) (s next : State) (log new_log : Option (List Bool)) (ram seen new_seen : List ℕ) → HasRam s → ArePushed s log pages ram seen new_seen next new_log → Comes (as_state k s) (as_state k next)
 pushed_comes [] k s next log new_log ram seen new_seen room p = stays (as_state k s) (as_state k next) room p.0 refl
 pushed_comes (n ∷ pages) k s next log new_log ram seen new_seen room p =
     let e = events.MemWrite (page_address (machine_in s) n) (page_of ram n) in
-    let first = comes_by (as_state k s) (as_state k p.0) e room tt (λ goes. tt) refl (did_write s p.0 log p.1 (page_address (machine_in s) n) (page_of ram n) 0 p.3.written) in
+    let first = comes_by (as_state k s) (as_state k p.0) e room tt (λ goes. tt) refl (did_write s p.0 log p.1 (page_address (machine_in s) n) (page_of ram n) 0 room p.3.written) in
     then_comes (as_state k s) (as_state k p.0) (as_state k next) first (pushed_comes pages k p.0 next p.1 new_log ram p.2 new_seen first.pages p.4)
 
-push_comes : (o : Option ℕ) (k : KeptSeen) (next : State) (log new_log : Option (List Bool)) (pages ram : List ℕ) (needs : Bool) (status : ℕ) (seen new_seen : List ℕ) → HasPages k.state
+push_comes : (o : Option ℕ) (k : KeptSeen) (next : State) (log new_log : Option (List Bool)) (pages ram : List ℕ) (needs : Bool) (status : ℕ) (seen new_seen : List ℕ) → HasRam k.state
     → Unless o (λ reason. Refuses status new_seen seen reason × (next ≡ k.state) × (new_log ≡ log)) (HasPushed k.state log pages ram status seen new_seen next new_log ⊎ ((needs ≡ true) × (Refuses status new_seen seen no_memory × (next ≡ k.state) × (new_log ≡ log))))
     → Comes k (as_state k next)
 push_comes (Some reason) k next log new_log pages ram needs status seen new_seen room h = stays k (as_state k next) room h.1 refl
@@ -167,31 +169,31 @@ with_log : (k : KeptSeen) (next : State) (log : Option (List Bool)) → Comes k 
 with_log k next log c = record { happenings = c.happenings; made = c.made; pages = c.pages }
 
 -- A turn is its steps.
-step_comes : (k next : KeptSeen) (t : Turn) (w : Work) (status number : ℕ) (buf new_buf : List ℕ) → HasPages k.state → IsStep k t w status number buf new_buf next → Comes k next
+step_comes : (k next : KeptSeen) (t : Turn) (w : Work) (status number : ℕ) (buf new_buf : List ℕ) → HasRam k.state → IsStep k t w status number buf new_buf next → Comes k next
 step_comes k next t w status number buf new_buf pages s =
-    comes_by k next (Step w.dev w.pick) pages tt (λ goes. tt) (ap (λ (x : KeptSeen). x.calls) s.rest) (did_step (owed_lost k w.dev w.pick) k.state next.state k.written next.written w.dev w.pick status number t.len buf new_buf s.made)
+    comes_by k next (Step w.dev w.pick) pages tt (λ goes. tt) (ap (λ (x : KeptSeen). x.calls) s.rest) (did_step (owed_lost k w.dev w.pick) k.state next.state k.written next.written w.dev w.pick status number t.len buf new_buf pages s.made)
 
-same_comes : (k next : KeptSeen) (buf new_buf : List ℕ) → HasPages k.state → IsAsBefore k buf new_buf next → Comes k next
+same_comes : (k next : KeptSeen) (buf new_buf : List ℕ) → HasRam k.state → IsAsBefore k buf new_buf next → Comes k next
 same_comes k next buf new_buf pages same = stays k next pages (ap (λ (x : KeptSeen). x.state) same.0) (ap (λ (x : KeptSeen). x.calls) same.0)
 
-made_comes : (k mid : KeptSeen) (t at : Turn) (ws : List Work) (buf mid_buf : List ℕ) → HasPages k.state → AreMade k t ws buf mid_buf mid at → Comes k mid
+made_comes : (k mid : KeptSeen) (t at : Turn) (ws : List Work) (buf mid_buf : List ℕ) → HasRam k.state → AreMade k t ws buf mid_buf mid at → Comes k mid
 made_comes k mid t at [] buf mid_buf pages made = stays k mid pages (ap (λ (x : KeptSeen). x.state) made.0) (ap (λ (x : KeptSeen). x.calls) made.0)
 made_comes k mid t at (w ∷ ws) buf mid_buf pages made =
     let first = step_comes k made.0 t w made.2.status made.2.number buf made.1 pages made.2.step in
     then_comes k made.0 mid first (made_comes made.0 mid (counted t w) at ws made.1 mid_buf first.pages made.3)
 
-once_comes : (o : Outcome) (k next : KeptSeen) (t after : Turn) (buf new_buf : List ℕ) → HasPages k.state → Once k t o buf new_buf next after → Comes k next
+once_comes : (o : Outcome) (k next : KeptSeen) (t after : Turn) (buf new_buf : List ℕ) → HasRam k.state → Once k t o buf new_buf next after → Comes k next
 once_comes outcomes.Made k next t after buf new_buf pages once = step_comes k next t once.0 once.1.status once.1.number buf new_buf pages once.1.step
 once_comes (outcomes.NoneNamed reason) k next t after buf new_buf pages once = same_comes k next buf new_buf pages once.4
 once_comes outcomes.PassedOver k next t after buf new_buf pages once = same_comes k next buf new_buf pages once.2
 once_comes (outcomes.Refused reason) k next t after buf new_buf pages once = step_comes k next t once.0 reason once.1 buf new_buf pages once.2
 once_comes (outcomes.Answered reason) k next t after buf new_buf pages once = step_comes k next t once.0 reason once.1 buf new_buf pages once.2
 
-ended_comes : (count : ℕ) (k next : KeptSeen) (t after : Turn) (status : ℕ) (buf new_buf : List ℕ) → HasPages k.state → IsUsedUp k t status buf new_buf next after ⊎ IsEnded count k t status buf new_buf next after → Comes k next
+ended_comes : (count : ℕ) (k next : KeptSeen) (t after : Turn) (status : ℕ) (buf new_buf : List ℕ) → HasRam k.state → IsUsedUp k t status buf new_buf next after ⊎ IsEnded count k t status buf new_buf next after → Comes k next
 ended_comes count k next t after status buf new_buf pages (inl u) = same_comes k next buf new_buf pages u.same
 ended_comes count k next t after status buf new_buf pages (inr e) = once_comes e.outcome k next t after buf new_buf pages e.once
 
-turn_comes : (o : Option ℕ) (k next : KeptSeen) (t after : Turn) (status : ℕ) (buf new_buf : List ℕ) → HasPages k.state → Unless o (λ reason. (status ≡ reason) × IsAsBefore k buf new_buf next × (after ≡ t)) (EndsTurn k t status buf new_buf next after)
+turn_comes : (o : Option ℕ) (k next : KeptSeen) (t after : Turn) (status : ℕ) (buf new_buf : List ℕ) → HasRam k.state → Unless o (λ reason. (status ≡ reason) × IsAsBefore k buf new_buf next × (after ≡ t)) (EndsTurn k t status buf new_buf next after)
     → Comes k next
 turn_comes (Some reason) k next t after status buf new_buf pages turn = same_comes k next buf new_buf pages turn.1
 turn_comes None k next t after status buf new_buf pages turn =
@@ -222,9 +224,9 @@ safe_still s next calls n same safe dev below drops =
     safe dev below (ap (λ (found : Option DeviceState). machines.drops_in found 112 4 0) (sym there) ∙ drops)
 
 abbrev ComesAfter : KeptSeen → ℕ → List Event → State → Type 0
-ComesAfter k n es next = (s : State) → HasPages s → IsSafe s k.calls n → AreDone s es next → Comes (as_state k s) (as_state k next)
+ComesAfter k n es next = (s : State) → HasRam s → IsSafe s k.calls n → AreDone s es next → Comes (as_state k s) (as_state k next)
 
-drop_comes : (some : Bool) (k : KeptSeen) (n : ℕ) (s next : State) (es : List Event) → HasPages s → IsSafe s k.calls (n + 1) → ComesAfter k (n + 1) es next → AreDone s ((if some then Drop n ∷ [] else []) ++ es) next → Comes (as_state k s) (as_state k next)
+drop_comes : (some : Bool) (k : KeptSeen) (n : ℕ) (s next : State) (es : List Event) → HasRam s → IsSafe s k.calls (n + 1) → ComesAfter k (n + 1) es next → AreDone s ((if some then Drop n ∷ [] else []) ++ es) next → Comes (as_state k s) (as_state k next)
 drop_comes false k n s next es pages safe rest done = rest s pages safe done
 drop_comes true k n s next es pages safe rest done =
     let did = did_tell s done.0 (Drop n) 0 done.1.number 0 pages done.1.tells in
@@ -271,7 +273,7 @@ not_refused (Some reason) drops is = absurd cc
 not_refused None true is = absurd cc
 not_refused None false is = (refl, refl)
 
-resets : (o : Option ℕ) (k : KeptSeen) (status : ℕ) (next : State) → refusal_with (state_refusal k.state) (drops_any k) ≡ o → HasPages k.state
+resets : (o : Option ℕ) (k : KeptSeen) (status : ℕ) (next : State) → refusal_with (state_refusal k.state) (drops_any k) ≡ o → HasRam k.state
     → Unless o (λ reason. (status ≡ reason) × (next ≡ k.state)) ((status ≡ 0) × AreDone k.state (resets_from 0 (shapes_in k.state)) next) → Comes k (as_state k next)
 resets (Some reason) k status next is pages r = stays k (as_state k next) pages r.1 refl
 resets None k status next is pages r =
@@ -309,48 +311,52 @@ handing (Lent x) calls after status call old_call buf new_buf h = inl h.calls_sa
 abbrev as_calls : KeptSeen → AllCalls → KeptSeen
 as_calls k calls = record k { calls = calls }
 
-hand_comes : (k : KeptSeen) (after : AllCalls) → HasPages k.state → Handing (devices_of k.state) k.calls after → Comes k (as_calls k after)
+hand_comes : (k : KeptSeen) (after : AllCalls) → HasRam k.state → Handing (devices_of k.state) k.calls after → Comes k (as_calls k after)
 hand_comes k after pages (inl same) = stays k (as_calls k after) pages refl same
 hand_comes k after pages (inr h) = record { happenings = Hands h.0 h.1 ∷ []; made = hand_happens (devices_of k.state) k.calls after h.0 h.1 h.2 h.3; pages = pages }
 
 -- A call is answered: its answer goes to the request that asked.
-still_step : (given : DiskAnswer) (m next : Seen) (log new_log : Option (List Bool)) (dev pick : ℕ) → TakesAnswer given m log dev pick next new_log → IsStepOf (state_of m).devices (Disk dev pick given) (state_of next).devices
-still_step (answers_.Gave bytes) m next log new_log dev pick t = applied_step m next (Disk dev pick (answers_.Gave bytes)) t.0 t.1.is_applied
-still_step (answers_.Did count) m next log new_log dev pick t = applied_step m next (Disk dev pick (answers_.Did count)) t.0 t.1
-still_step answers_.Failed m next log new_log dev pick t = applied_step m next (Disk dev pick answers_.Failed) t.0 t.1
+still_applied : (given : DiskAnswer) (m next : Seen) (log new_log : Option (List Bool)) (dev pick : ℕ) → TakesAnswer given m log dev pick next new_log → (reply : Reply) × IsApplied m (Disk dev pick given) reply next
+still_applied (answers_.Gave bytes) m next log new_log dev pick t = (t.0, t.1.is_applied)
+still_applied (answers_.Did count) m next log new_log dev pick t = (t.0, t.1)
+still_applied answers_.Failed m next log new_log dev pick t = (t.0, t.1)
 
-met_still : (found : Option ℕ) (given : DiskAnswer) (m next : Seen) (log new_log : Option (List Bool)) (dev : ℕ) → MeetsStill found given m log dev next new_log → GoesFor (state_of m).devices dev given found (state_of next).devices
-met_still None given m next log new_log dev h = ap (λ (x : Seen). (state_of x).devices) h.0
-met_still (Some k) given m next log new_log dev h = still_step given m next log new_log dev (k + 1) h
+met_still : (found : Option ℕ) (given : DiskAnswer) (m next : Seen) (log new_log : Option (List Bool)) (dev : ℕ) → HasRam (Still m) → MeetsStill found given m log dev next new_log → GoesFor (state_of m).devices dev given found (state_of next).devices × HasRam (Still next)
+met_still None given m next log new_log dev pages h = (ap (λ (x : Seen). (state_of x).devices) h.0, subst (λ (x : Seen). HasRam (Still x)) (sym h.0) pages)
+met_still (Some k) given m next log new_log dev pages h =
+    let e = Disk dev (k + 1) given in
+    let one = still_applied given m next log new_log dev (k + 1) h in
+    (applied_step m next e one.0 one.1, applied_ram m next e one.0 pages one.1)
 
-moving_step : (given : DiskAnswer) (l next : LiveSeen) (log new_log : Option (List Bool)) (dev pick : ℕ) → stop_refusal l.phase ≡ None → ServesAnswer given l log dev pick next new_log → IsStepOf (state_of l.machine).devices (Disk dev pick given) (state_of next.machine).devices
-moving_step (answers_.Gave bytes) l next log new_log dev pick goes t =
+moving_step : (given : DiskAnswer) (l next : LiveSeen) (log new_log : Option (List Bool)) (dev pick : ℕ) → stop_refusal l.phase ≡ None → HasRam (Moving l) → ServesAnswer given l log dev pick next new_log
+    → HasRam (Moving next) × IsStepOf (state_of l.machine).devices (Disk dev pick given) (state_of next.machine).devices
+moving_step (answers_.Gave bytes) l next log new_log dev pick goes pages t =
     let e = Disk dev pick (answers_.Gave bytes) in
-    guest_step (refusal_for l.phase (Guest e)) l next e t.0 (going_for l.phase e goes) (logged_is_served l next log new_log e t.0 t.2)
-moving_step (answers_.Did count) l next log new_log dev pick goes t = let e = Disk dev pick (answers_.Did count) in guest_step (refusal_for l.phase (Guest e)) l next e t.0 (going_for l.phase e goes) t.2
-moving_step answers_.Failed l next log new_log dev pick goes t = let e = Disk dev pick answers_.Failed in guest_step (refusal_for l.phase (Guest e)) l next e t.0 (going_for l.phase e goes) t.2
+    guest_step (refusal_for l.phase (Guest e)) l next e t.0 (going_for l.phase e goes) pages (logged_is_served l next log new_log e t.0 t.2)
+moving_step (answers_.Did count) l next log new_log dev pick goes pages t = let e = Disk dev pick (answers_.Did count) in guest_step (refusal_for l.phase (Guest e)) l next e t.0 (going_for l.phase e goes) pages t.2
+moving_step answers_.Failed l next log new_log dev pick goes pages t = let e = Disk dev pick answers_.Failed in guest_step (refusal_for l.phase (Guest e)) l next e t.0 (going_for l.phase e goes) pages t.2
 
-met_moving : (found : Option ℕ) (given : DiskAnswer) (l next : LiveSeen) (log new_log : Option (List Bool)) (dev : ℕ) → stop_refusal l.phase ≡ None → MeetsMoving found given l log dev next new_log
-    → GoesFor (state_of l.machine).devices dev given found (state_of next.machine).devices
-met_moving None given l next log new_log dev goes h = ap (λ (x : LiveSeen). (state_of x.machine).devices) h.0
-met_moving (Some k) given l next log new_log dev goes h = moving_step given l next log new_log dev (k + 1) goes h
+met_moving : (found : Option ℕ) (given : DiskAnswer) (l next : LiveSeen) (log new_log : Option (List Bool)) (dev : ℕ) → stop_refusal l.phase ≡ None → HasRam (Moving l) → MeetsMoving found given l log dev next new_log
+    → GoesFor (state_of l.machine).devices dev given found (state_of next.machine).devices × HasRam (Moving next)
+met_moving None given l next log new_log dev goes pages h = (ap (λ (x : LiveSeen). (state_of x.machine).devices) h.0, subst (λ (x : LiveSeen). HasRam (Moving x)) (sym h.0) pages)
+met_moving (Some k) given l next log new_log dev goes pages h = let both = moving_step given l next log new_log dev (k + 1) goes pages h in (both.1, both.0)
 
-met_parked : (found : Option ℕ) (given : DiskAnswer) (p next : ParkedSeen) (dev : ℕ) → HasPages (Lent (StillLent p)) → MeetsParked found given p dev next → GoesFor (parked_states p) dev given found (parked_states next) × HasPages (Lent (StillLent next))
-met_parked None given p next dev pages h = (ap parked_states h, subst (λ (x : ParkedSeen). HasPages (Lent (StillLent x))) (sym h) pages)
+met_parked : (found : Option ℕ) (given : DiskAnswer) (p next : ParkedSeen) (dev : ℕ) → HasRam (Lent (StillLent p)) → MeetsParked found given p dev next → GoesFor (parked_states p) dev given found (parked_states next) × HasRam (Lent (StillLent next))
+met_parked None given p next dev pages h = (ap parked_states h, subst (λ (x : ParkedSeen). HasRam (Lent (StillLent x))) (sym h) pages)
 met_parked (Some k) given p next dev pages h = (parked_step p next (Disk dev (k + 1) given) h.0 pages h.1, same_pages p next h.1.versions pages)
 
-met_live_parked : (found : Option ℕ) (given : DiskAnswer) (l next : LiveParkedSeen) (dev : ℕ) → stop_refusal l.phase ≡ None → HasPages (Lent (MovingLent l)) → MeetsLiveParked found given l dev next
-    → GoesFor (parked_states l.parked) dev given found (parked_states next.parked) × HasPages (Lent (MovingLent next))
-met_live_parked None given l next dev goes pages h = (ap (λ (x : LiveParkedSeen). parked_states x.parked) h, subst (λ (x : LiveParkedSeen). HasPages (Lent (MovingLent x))) (sym h) pages)
+met_live_parked : (found : Option ℕ) (given : DiskAnswer) (l next : LiveParkedSeen) (dev : ℕ) → stop_refusal l.phase ≡ None → HasRam (Lent (MovingLent l)) → MeetsLiveParked found given l dev next
+    → GoesFor (parked_states l.parked) dev given found (parked_states next.parked) × HasRam (Lent (MovingLent next))
+met_live_parked None given l next dev goes pages h = (ap (λ (x : LiveParkedSeen). parked_states x.parked) h, subst (λ (x : LiveParkedSeen). HasRam (Lent (MovingLent x))) (sym h) pages)
 met_live_parked (Some k) given l next dev goes pages h =
     let e = Disk dev (k + 1) given in
     let both = parked_guest_step (refusal_for l.phase (Guest e)) l next e h.0 (going_for l.phase e goes) pages h.1 in
     (both.1, both.0)
 
-met_in : (place : Place) (given : DiskAnswer) (s next : State) (log new_log : Option (List Bool)) → HasPages s → state_refusal s ≡ None → Meets place given s log next new_log
-    → GoesFor (devices_of s) place.dev given (asker_in (devices_of s) place.dev place.call) (devices_of next) × HasPages next
-met_in place given (Still m) (Still next) log new_log pages goes h = (met_still (asker_of (state_of m) place) given m next log new_log place.dev h, tt)
-met_in place given (Moving l) (Moving next) log new_log pages goes h = (met_moving (asker_of (state_of l.machine) place) given l next log new_log place.dev goes h, tt)
+met_in : (place : Place) (given : DiskAnswer) (s next : State) (log new_log : Option (List Bool)) → HasRam s → state_refusal s ≡ None → Meets place given s log next new_log
+    → GoesFor (devices_of s) place.dev given (asker_in (devices_of s) place.dev place.call) (devices_of next) × HasRam next
+met_in place given (Still m) (Still next) log new_log pages goes h = met_still (asker_of (state_of m) place) given m next log new_log place.dev pages h
+met_in place given (Moving l) (Moving next) log new_log pages goes h = met_moving (asker_of (state_of l.machine) place) given l next log new_log place.dev goes pages h
 met_in place given (Lent (StillLent p)) (Lent (StillLent next)) log new_log pages goes h = met_parked (asker_in (parked_states p) place.dev place.call) given p next place.dev pages h.0
 met_in place given (Lent (MovingLent l)) (Lent (MovingLent next)) log new_log pages goes h = met_live_parked (asker_in (parked_states l.parked) place.dev place.call) given l next place.dev goes pages h.0
 met_in place given (Lent (StillLent p)) (Lent (MovingLent next)) log new_log pages goes h = absurd h.0
@@ -364,7 +370,7 @@ record HasMet (k : KeptSeen) (number : ℕ) (fits : DiskCall → Bool) (answer :
   fit : fits place.call ≡ true
   goes : GoesFor (devices_of k.state) place.dev (counted_answer k place (answer place.call)) (asker_in (devices_of k.state) place.dev place.call) (devices_of next)
   gone : calls ≡ without k.calls place.dev place.i
-  pages : HasPages next
+  pages : HasRam next
 
 abbrev MetOr : KeptSeen → ℕ → (DiskCall → Bool) → (DiskCall → DiskAnswer) → State → AllCalls → Type 0
 MetOr k number fits answer next calls = ((next ≡ k.state) × (calls ≡ k.calls)) ⊎ HasMet k number fits answer next calls
@@ -374,21 +380,21 @@ fits_by true fits none = absurd cc
 fits_by false true none = refl
 fits_by false false none = absurd cc
 
-met_at : (o : Option ℕ) (k : KeptSeen) (number : ℕ) (fits : DiskCall → Bool) (answer : DiskCall → DiskAnswer) (place : Place) (status : ℕ) (next : State) (log : Option (List Bool)) (calls : AllCalls) → HasPages k.state → state_refusal k.state ≡ None → IsOut k.calls number place
+met_at : (o : Option ℕ) (k : KeptSeen) (number : ℕ) (fits : DiskCall → Bool) (answer : DiskCall → DiskAnswer) (place : Place) (status : ℕ) (next : State) (log : Option (List Bool)) (calls : AllCalls) → HasRam k.state → state_refusal k.state ≡ None → IsOut k.calls number place
     → unfit k.state (answer place.call) (fits place.call) ≡ o → Unless o (HasNotAnswered k status next log calls) (HasAnswered k place (answer place.call) status next log calls) → MetOr k number fits answer next calls
 met_at (Some reason) k number fits answer place status next log calls pages goes out is h = inl (h.state_same, h.calls_same)
 met_at None k number fits answer place status next log calls pages goes out is h =
     let met = met_in place (counted_answer k place (answer place.call)) k.state next k.written log pages goes h.meets in
     inr (record { place = place; is_out = out; fit = fits_by (is_lent k.state && puts_bytes (answer place.call)) (fits place.call) is; goes = met.0; gone = h.calls_are; pages = met.1 })
 
-met_if : (o : Option ℕ) (k : KeptSeen) (number : ℕ) (fits : DiskCall → Bool) (answer : DiskCall → DiskAnswer) (status : ℕ) (next : State) (log : Option (List Bool)) (calls : AllCalls) → HasPages k.state → state_refusal k.state ≡ o
+met_if : (o : Option ℕ) (k : KeptSeen) (number : ℕ) (fits : DiskCall → Bool) (answer : DiskCall → DiskAnswer) (status : ℕ) (next : State) (log : Option (List Bool)) (calls : AllCalls) → HasRam k.state → state_refusal k.state ≡ o
     → Unless o (HasNotAnswered k status next log calls) (AnswersIf k number fits answer status next log calls) → MetOr k number fits answer next calls
 met_if (Some reason) k number fits answer status next log calls pages is h = inl (h.state_same, h.calls_same)
 met_if None k number fits answer status next log calls pages is (inl h) =
     met_at (unfit k.state (answer h.place.call) (fits h.place.call)) k number fits answer h.place status next log calls pages is h.is_out refl h.answered
 met_if None k number fits answer status next log calls pages is (inr h) = inl (h.1.state_same, h.1.calls_same)
 
-met : (k : KeptSeen) (number : ℕ) (fits : DiskCall → Bool) (answer : DiskCall → DiskAnswer) (status : ℕ) (next : State) (log : Option (List Bool)) (calls : AllCalls) → HasPages k.state → AnswersKept k number fits answer status next log calls → MetOr k number fits answer next calls
+met : (k : KeptSeen) (number : ℕ) (fits : DiskCall → Bool) (answer : DiskCall → DiskAnswer) (status : ℕ) (next : State) (log : Option (List Bool)) (calls : AllCalls) → HasRam k.state → AnswersKept k number fits answer status next log calls → MetOr k number fits answer next calls
 met k number fits answer status next log calls pages h = met_if (state_refusal k.state) k number fits answer status next log calls pages refl h
 
 -- What is taken as an answer is one to the call.
@@ -427,7 +433,7 @@ counted_fits false call answer is = refl
 -- The desk of a device, after each call.
 record StaysSo (next : KeptSeen) (dev size : ℕ) : Type 0 where
   desk : StaysKept (machine_of next.state) next.calls dev size
-  pages : HasPages next.state
+  pages : HasRam next.state
 
 so_by : (k next : KeptSeen) (dev size : ℕ) (d : Desk) → 1 ≤ size → IsDeskIn k dev size d → IsKept size d → Comes k next → StaysSo next dev size
 so_by k next dev size d some desk kept c = record { desk = stays_kept (machine_of k.state) (machine_of next.state) k.calls next.calls c.happenings dev size d some desk kept c.made; pages = c.pages }
@@ -435,7 +441,7 @@ so_by k next dev size d some desk kept c = record { desk = stays_kept (machine_o
 abbrev as_answered : KeptSeen → State → Option (List Bool) → AllCalls → KeptSeen
 as_answered k s log calls = record k { state = s; written = log; calls = calls }
 
-so_met : (k : KeptSeen) (number : ℕ) (fits : DiskCall → Bool) (answer : DiskCall → DiskAnswer) (next : State) (log : Option (List Bool)) (calls : AllCalls) (dev size : ℕ) (d : Desk) → IsFitting fits answer → 1 ≤ size → HasPages k.state → IsDeskIn k dev size d → IsKept size d
+so_met : (k : KeptSeen) (number : ℕ) (fits : DiskCall → Bool) (answer : DiskCall → DiskAnswer) (next : State) (log : Option (List Bool)) (calls : AllCalls) (dev size : ℕ) (d : Desk) → IsFitting fits answer → 1 ≤ size → HasRam k.state → IsDeskIn k dev size d → IsKept size d
     → MetOr k number fits answer next calls → StaysSo (as_answered k next log calls) dev size
 so_met k number fits answer next log calls dev size d right some pages desk kept (inl same) = so_by k (as_answered k next log calls) dev size d some desk kept (stays k (as_answered k next log calls) pages same.0 same.1)
 so_met k number fits answer next log calls dev size d right some pages desk kept (inr h) =
@@ -462,7 +468,7 @@ lost_same : (o : Option ℕ) (k next : KeptSeen) (dev status : ℕ) → Unless o
 lost_same (Some reason) k next dev status l = (ap (λ (x : KeptSeen). x.state) l.1, ap (λ (x : KeptSeen). x.calls) l.1)
 lost_same None k next dev status l = (ap (λ (x : KeptSeen). x.state) l.rest, ap (λ (x : KeptSeen). x.calls) l.rest)
 
-module _ (k next : KeptSeen) (dev size : ℕ) (d : Desk) (some : 1 ≤ size) (pages : HasPages k.state) (desk : IsDeskIn k dev size d) (kept : IsKept size d) where
+module _ (k next : KeptSeen) (dev size : ℕ) (d : Desk) (some : 1 ≤ size) (pages : HasRam k.state) (desk : IsDeskIn k dev size d) (kept : IsKept size d) where
   to_next : (now : KeptSeen) → ◌≡◌ {A = Option KeptSeen} (Some next) (Some now) → Comes k now → StaysSo next dev size
   to_next now is c = subst (λ (x : KeptSeen). StaysSo x dev size) (some_is next now is) (so_by k now dev size d some desk kept c)
 
@@ -471,14 +477,14 @@ module _ (k next : KeptSeen) (dev size : ℕ) (d : Desk) (some : 1 ≤ size) (pa
       let on = h.3 in
       to_next (as_state k on.next) on.is_next (wrote (drops_out k n off width value) k on.next n off width value h.0 h.1 h.2 pages refl on.done)
   does (an_event e) h = let on = h.4 in to_next (as_state k on.next) on.is_next (told k on.next e h.0 h.1 h.2 pages h.3 (did_tell k.state on.next e h.0 h.1 h.2 pages on.done))
-  does (a_ram_write addr bytes) h = let on = h.1 in to_next (as_logged k on.next on.log) on.is_next (logged k on.next on.log (events.MemWrite addr bytes) pages tt (did_write k.state on.next k.written on.log addr bytes h.0 on.done))
+  does (a_ram_write addr bytes) h = let on = h.1 in to_next (as_logged k on.next on.log) on.is_next (logged k on.next on.log (events.MemWrite addr bytes) pages tt (did_write k.state on.next k.written on.log addr bytes h.0 pages on.done))
   does a_push h =
       let on = h.5 in
       let named = named_pages h.0 (length (memory_in k.state).versions) in
       to_next (as_logged k on.next on.log) on.is_next (with_log k on.next on.log (push_comes (push_refusal k.state h.0 (length h.1) (length h.3)) k on.next k.written on.log named h.1 (needs_list h.0) h.2 h.3 h.4 pages on.done))
   does (a_step n pick) h =
       let on = h.5 in
-      to_next (as_logged k on.next on.log) on.is_next (logged k on.next on.log (Step n pick) pages tt (did_step (owed_lost k n pick) k.state on.next k.written on.log n pick h.0 h.1 h.2 h.3 h.4 on.done))
+      to_next (as_logged k on.next on.log) on.is_next (logged k on.next on.log (Step n pick) pages tt (did_step (owed_lost k n pick) k.state on.next k.written on.log n pick h.0 h.1 h.2 h.3 h.4 pages on.done))
   does a_turn h =
       let on = h.5 in
       to_next (as_logged k on.next on.log) on.is_next (turn_comes (turn_refusal k.state h.0 (length h.2)) k (as_logged k on.next on.log) h.0 h.4 h.1 h.2 h.3 pages on.done)
@@ -496,9 +502,9 @@ module _ (k next : KeptSeen) (dev size : ℕ) (d : Desk) (some : 1 ≤ size) (pa
       let on = h.1 in
       let same = lost_same (loss_refusal k.state n) k on.next n h.0 on.loses in
       to_next on.next on.is_next (stays k on.next pages same.0 same.1)
-  does another h = so_by k next dev size d some desk kept (record { happenings = Rests ∷ []; made = rest_happens (devices_of k.state) (devices_of next.state) k.calls next.calls h.0.0 h.0.1; pages = h.1 })
+  does another h = so_by k next dev size d some desk kept (record { happenings = Rests ∷ []; made = rest_happens (devices_of k.state) (devices_of next.state) k.calls next.calls h.0 h.1; pages = h.2 })
 
-all_stay : (cs : List HostCall) (k next : KeptSeen) (dev size : ℕ) (d : Desk) → 1 ≤ size → HasPages k.state → IsDeskIn k dev size d → IsKept size d → DoAll k cs next → StaysSo next dev size
+all_stay : (cs : List HostCall) (k next : KeptSeen) (dev size : ℕ) (d : Desk) → 1 ≤ size → HasRam k.state → IsDeskIn k dev size d → IsKept size d → DoAll k cs next → StaysSo next dev size
 all_stay [] k next dev size d some pages desk kept done = subst (λ (x : KeptSeen). StaysSo x dev size) (sym done) (record { desk = record { desk = d; is = desk; kept = kept }; pages = pages })
 all_stay (c ∷ cs) k next dev size d some pages desk kept done =
     let first = does k done.0 dev size d some pages desk kept c done.1 in
@@ -557,7 +563,7 @@ still_out (a_failure number) k next dev i out at none h =
 still_out (a_loss n) k next dev i out at none h =
     let on = h.1 in
     still_same k.calls next.calls dev i out (calls_same k next on.next on.is_next (lost_same (loss_refusal k.state n) k on.next n h.0 on.loses).1) at
-still_out another k next dev i out at none h = still_same k.calls next.calls dev i out h.0.1 at
+still_out another k next dev i out at none h = still_same k.calls next.calls dev i out h.1 at
 
 pub calls_stay_out : CallsStayOut
 calls_stay_out k next [] dev i out at none done = still_same k.calls next.calls dev i out (ap (λ (x : KeptSeen). x.calls) done) at

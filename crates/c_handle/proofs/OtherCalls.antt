@@ -1,12 +1,13 @@
 -- Calls of C that change no device, and no call of a disk outside.
-use Rattle.std.proofs.Common.{◌≡◌, ◌⊎◌, ℕ, zero, suc, ◌∙◌, Bool, true, false, nat_lt, List, length, map, inl, inr, refl, sym, ap}
+use Rattle.std.proofs.Common.{◌≡◌, ◌⊎◌, ℕ, zero, suc, ◌∙◌, Bool, true, false, nat_lt, List, [], ◌∷◌, length, length-set, map, set, get_or, inl, inr, refl, sym, ap, subst}
 use Rattle.std.specs.Prelude.{MatchOption, Option, Some, None}
+use Rattle.guestmem.specs.Lent.{raise_each}
+use Rattle.guestmem.specs.Memory.{Memory}
+use Rattle.guestmem.specs.Write.{raised}
 use Rattle.machine.specs.Seen.{DeviceSeen, Seen, state_of}
-use Rattle.machine.specs.State.{DeviceState, MachineState}
-use Rattle.region.specs.Slot.{region_of}
-use Rattle.region.specs.declared.region.Region.{Region}
+use Rattle.machine.specs.State.{MachineState}
 use Rattle.region.specs.declared.slot.Slot.{Slot}
-use Rattle.sender.specs.Calls.{AfterBegin, AfterCopy, AfterRound, AfterStop}
+use Rattle.sender.specs.Calls.{AfterBegin, AfterCopy, AfterRound, AfterStop, IsSameButCalls, IsUnread}
 use Rattle.sender.specs.LiveState.{LiveSeen, now, refusal_for}
 use Rattle.sender.specs.Parked.{LiveParkedSeen}
 use Rattle.sender.specs.declared.event.LiveEvent.TheVariants as events
@@ -16,9 +17,8 @@ use Rattle.sender.specs.declared.mig_error.MigError.{MigError}
 use Rattle.sender.specs.declared.mig_error.MigError.TheVariants as errors
 use Rattle.wire.specs.Stream.{whole}
 use Rattle.c_machine.specs.Named.{named_pages, needs_list}
-use Rattle.c_machine.specs.declared.pages.Pages.{Pages}
-use Rattle.c_handle.specs.CallsMet.{DoesOther, KeepsDevices, OtherCall, OthersKeepDevices, a_begin, a_list_of_pages, a_loan, a_mark, a_return, a_save, a_sector_read, a_send, a_stop, a_taking, an_abort, an_end_of_round}
-use Rattle.c_handle.specs.Kept.{KeptSeen, LoanSeen, StillLent, MovingLent, State, Still, Moving, Arriving, Lent}
+use Rattle.c_handle.specs.CallsMet.{AreFew, HasRam, OthersKeepDevices, a_begin, a_list_of_pages, a_loan, a_mark, a_return, a_save, a_sector_read, a_send, a_stop, a_taking, an_abort, an_end_of_round}
+use Rattle.c_handle.specs.Kept.{KeptSeen, StillLent, MovingLent, State, Still, Moving, Arriving, Lent}
 use Rattle.c_handle.specs.Late.{HasMarked, IsMarked, mark_refusal}
 use Rattle.c_handle.specs.Lent.{HasComeBack, IsBack, IsLoan, IsUnlent, LendsIfOver, back_refusal_of, lend_refusal_of, lent_pages}
 use Rattle.c_handle.specs.Migrated.{AbortsKept, BeginsKept, EndsKept, GoesOn, SendsIf, SendsKept, SendsUpTo, StopsKept, StopsUnless, TakesKept, is_none_due, send_refusal}
@@ -27,57 +27,81 @@ use Rattle.c_handle.specs.Moving.{SavesIf, SavesKept}
 use Rattle.c_handle.specs.OnHandle.{Refuses, Unless}
 use Rattle.c_handle.specs.Outside.{devices_of}
 use Rattle.c_handle.specs.Sectors.{ReadsOpen, sector_refusal}
+use Rattle.c_handle.proofs.HostSteps.{few_stay}
+
+-- The devices are as they were, and RAM has its pages still.
+abbrev IsKept : State → State → Type 0
+IsKept k next = (devices_of next ≡ devices_of k) × (HasRam k → HasRam next)
+
+same_kept : (k next : State) → next ≡ k → IsKept k next
+same_kept k next same = (ap devices_of same, subst HasRam (sym same))
+
+seen_kept : (m next : Seen) → next ≡ m → IsKept (Still m) (Still next)
+seen_kept m next same = same_kept (Still m) (Still next) (ap Still same)
 
 -- What a migration does to its machine: no more than to read it.
-begin_same : (o : Option MigError) (l next : LiveSeen) (reply : LiveReply) → MatchOption o (AfterBegin l reply next) (λ x. (reply ≡ live.Mig x) × (next ≡ l)) → now next ≡ now l
-begin_same (Some x) l next reply s = ap now s.1
-begin_same None l next (live.Begun round) s = ap state_of s.1.machine
-begin_same None l next (live.Mig errors.StreamFailed) s = s.machine.state
+abbrev IsRead : LiveSeen → LiveSeen → Type 0
+IsRead l next = (now next ≡ now l) × (next.machine.memory.versions ≡ l.machine.memory.versions)
+
+same_read : (l next : LiveSeen) → next ≡ l → IsRead l next
+same_read l next same = (ap now same, ap (λ (x : LiveSeen). x.machine.memory.versions) same)
+
+machine_read : (l next : LiveSeen) → next.machine ≡ l.machine → IsRead l next
+machine_read l next same = (ap state_of same, ap (λ (x : Seen). x.memory.versions) same)
+
+called_read : (l next : LiveSeen) → IsSameButCalls l.machine next.machine → IsRead l next
+called_read l next c = (c.state, ap (λ (x : Memory). x.versions) c.memory)
+
+unread_read : (l next : LiveSeen) (dev n : ℕ) → IsUnread l dev n next → IsRead l next
+unread_read l next dev n u = (u.state, ap (λ (x : Memory). x.versions) u.memory)
+
+then_read : (l mid next : LiveSeen) → IsRead l mid → IsRead mid next → IsRead l next
+then_read l mid next first second = (second.0 ∙ first.0, second.1 ∙ first.1)
+
+read_kept : (l next : LiveSeen) → IsRead l next → IsKept (Moving l) (Moving next)
+read_kept l next same = (ap (λ (m : MachineState). m.devices) same.0, subst AreFew (sym same.1))
+
+begin_same : (o : Option MigError) (l next : LiveSeen) (reply : LiveReply) → MatchOption o (AfterBegin l reply next) (λ x. (reply ≡ live.Mig x) × (next ≡ l)) → IsRead l next
+begin_same (Some x) l next reply s = same_read l next s.1
+begin_same None l next (live.Begun round) s = machine_read l next s.1.machine
+begin_same None l next (live.Mig errors.StreamFailed) s = called_read l next s.machine
 begin_same None l next _ s = absurd s
 
-copy_same : (o : Option MigError) (l next : LiveSeen) (reply : LiveReply) → MatchOption o (AfterCopy l reply next) (λ x. (reply ≡ live.Mig x) × (next ≡ l)) → now next ≡ now l
-copy_same (Some x) l next reply s = ap now s.1
-copy_same None l next (live.Copied item) s = s.sent.machine.state
-copy_same None l next live.RoundDone s = ap now s.1
-copy_same None l next (live.Mig (errors.DiskFailed dev n)) s = s.unread.state
-copy_same None l next (live.Mig errors.StreamFailed) s = s.machine.state
+copy_same : (o : Option MigError) (l next : LiveSeen) (reply : LiveReply) → MatchOption o (AfterCopy l reply next) (λ x. (reply ≡ live.Mig x) × (next ≡ l)) → IsRead l next
+copy_same (Some x) l next reply s = same_read l next s.1
+copy_same None l next (live.Copied item) s = called_read l next s.sent.machine
+copy_same None l next live.RoundDone s = same_read l next s.1
+copy_same None l next (live.Mig (errors.DiskFailed dev n)) s = unread_read l next dev n s.unread
+copy_same None l next (live.Mig errors.StreamFailed) s = called_read l next s.machine
 copy_same None l next _ s = absurd s
 
-round_same : (o : Option MigError) (l next : LiveSeen) (reply : LiveReply) → MatchOption o (AfterRound l reply next) (λ x. (reply ≡ live.Mig x) × (next ≡ l)) → now next ≡ now l
-round_same (Some x) l next reply s = ap now s.1
-round_same None l next (live.Begun round) s = ap state_of s.1.machine
-round_same None l next live.RoundOpen s = ap now s.1
-round_same None l next (live.Mig errors.StreamFailed) s = s.machine.state
+round_same : (o : Option MigError) (l next : LiveSeen) (reply : LiveReply) → MatchOption o (AfterRound l reply next) (λ x. (reply ≡ live.Mig x) × (next ≡ l)) → IsRead l next
+round_same (Some x) l next reply s = same_read l next s.1
+round_same None l next (live.Begun round) s = machine_read l next s.1.machine
+round_same None l next live.RoundOpen s = same_read l next s.1
+round_same None l next (live.Mig errors.StreamFailed) s = called_read l next s.machine
 round_same None l next _ s = absurd s
 
-stop_same : (o : Option MigError) (l next : LiveSeen) (reply : LiveReply) → MatchOption o (AfterStop l reply next) (λ x. (reply ≡ live.Mig x) × (next ≡ l)) → now next ≡ now l
-stop_same (Some x) l next reply s = ap now s.1
-stop_same None l next (live.Stopped pages sectors) s = s.machine.state
-stop_same None l next (live.Mig (errors.DiskFailed dev n)) s = s.unread.state ∙ s.are_sent.machine.state
-stop_same None l next (live.Mig errors.StreamFailed) s = s.machine.state
+stop_same : (o : Option MigError) (l next : LiveSeen) (reply : LiveReply) → MatchOption o (AfterStop l reply next) (λ x. (reply ≡ live.Mig x) × (next ≡ l)) → IsRead l next
+stop_same (Some x) l next reply s = same_read l next s.1
+stop_same None l next (live.Stopped pages sectors) s = called_read l next s.machine
+stop_same None l next (live.Mig (errors.DiskFailed dev n)) s = then_read l s.between next (called_read l s.between s.are_sent.machine) (unread_read s.between next dev n s.unread)
+stop_same None l next (live.Mig errors.StreamFailed) s = called_read l next s.machine
 stop_same None l next _ s = absurd s
 
-devices_now : (l next : LiveSeen) → now next ≡ now l → devices_of (Moving next) ≡ devices_of (Moving l)
-devices_now l next same = ap (λ (m : MachineState). m.devices) same
-
-devices_seen : (m next : Seen) → next ≡ m → devices_of (Still next) ≡ devices_of (Still m)
-devices_seen m next same = ap (λ (x : Seen). (state_of x).devices) same
-
-devices_same : (k next : State) → next ≡ k → devices_of next ≡ devices_of k
-devices_same k next same = ap devices_of same
-
-begins : (k next : State) (status : ℕ) → BeginsKept k status next → devices_of next ≡ devices_of k
-begins (Still m) (Still next) status h = devices_seen m next h.1
+begins : (k next : State) (status : ℕ) → BeginsKept k status next → IsKept k next
+begins (Still m) (Still next) status h = seen_kept m next h.1
 begins (Still m) (Moving next) status h =
-    devices_now h.fresh next (begin_same (refusal_for h.fresh.phase events.Begin) h.fresh next (live.Begun h.round) h.begins) ∙ ap (λ (x : Seen). (state_of x).devices) h.is_fresh.machine
-begins (Moving l) (Moving next) status h = devices_now l next (begin_same (refusal_for l.phase events.Begin) l next h.reply h.serves)
-begins (Arriving r) (Arriving next) status h = refl
-begins (Lent x) (Lent next) status h = devices_same (Lent x) (Lent next) (ap Lent h.1)
+    let kept = read_kept h.fresh next (begin_same (refusal_for h.fresh.phase events.Begin) h.fresh next (live.Begun h.round) h.begins) in
+    (kept.0 ∙ ap (λ (x : Seen). (state_of x).devices) h.is_fresh.machine, λ few. kept.1 (subst (λ (x : Seen). AreFew x.memory.versions) (sym h.is_fresh.machine) few))
+begins (Moving l) (Moving next) status h = read_kept l next (begin_same (refusal_for l.phase events.Begin) l next h.reply h.serves)
+begins (Arriving r) (Arriving next) status h = same_kept (Arriving r) (Arriving next) (ap Arriving h.1)
+begins (Lent x) (Lent next) status h = same_kept (Lent x) (Lent next) (ap Lent h.1)
 begins _ _ status h = absurd h
 
 -- Items that are sent, one after another.
-goes_same : (reply : LiveReply) (rest : LiveSeen → Type 0) (mid next : LiveSeen) (status : ℕ) → ((x : LiveSeen) → rest x → now next ≡ now x) → GoesOn reply rest mid status next → now next ≡ now mid
-goes_same (live.Mig error) rest mid next status same h = ap now h.1
+goes_same : (reply : LiveReply) (rest : LiveSeen → Type 0) (mid next : LiveSeen) (status : ℕ) → ((x : LiveSeen) → rest x → IsRead x next) → GoesOn reply rest mid status next → IsRead mid next
+goes_same (live.Mig error) rest mid next status same h = same_read mid next h.1
 goes_same (live.Guest reply) rest mid next status same h = same mid h
 goes_same (live.Begun round) rest mid next status same h = same mid h
 goes_same (live.Copied item) rest mid next status same h = same mid h
@@ -85,136 +109,153 @@ goes_same live.RoundDone rest mid next status same h = same mid h
 goes_same live.RoundOpen rest mid next status same h = same mid h
 goes_same (live.Stopped pages sectors) rest mid next status same h = same mid h
 
-if_due : (none : Bool) (rest : LiveSeen → Type 0) (l next : LiveSeen) (status : ℕ) → ((x : LiveSeen) → rest x → now next ≡ now x) → SendsIf none rest l status next → now next ≡ now l
-if_due true rest l next status same h = ap now h.1
-if_due false rest l next status same h = goes_same h.reply rest h.mid next status same h.goes_on ∙ copy_same (refusal_for l.phase events.Copy) l h.mid h.reply h.serves
+if_due : (none : Bool) (rest : LiveSeen → Type 0) (l next : LiveSeen) (status : ℕ) → ((x : LiveSeen) → rest x → IsRead x next) → SendsIf none rest l status next → IsRead l next
+if_due true rest l next status same h = same_read l next h.1
+if_due false rest l next status same h = then_read l h.mid next (copy_same (refusal_for l.phase events.Copy) l h.mid h.reply h.serves) (goes_same h.reply rest h.mid next status same h.goes_on)
 
-up_to : (most : ℕ) (l next : LiveSeen) (status : ℕ) → SendsUpTo most l status next → now next ≡ now l
-up_to zero l next status h = ap now h.1
+up_to : (most : ℕ) (l next : LiveSeen) (status : ℕ) → SendsUpTo most l status next → IsRead l next
+up_to zero l next status h = same_read l next h.1
 up_to (suc most) l next status h = if_due (is_none_due l) (λ mid. SendsUpTo most mid status next) l next status (λ mid rest. up_to most mid next status rest) h
 
-sends_unless : (o : Option ℕ) (l next : LiveSeen) (most status : ℕ) → Unless o (λ reason. (status ≡ reason) × (next ≡ l)) (SendsUpTo most l status next) → now next ≡ now l
-sends_unless (Some reason) l next most status h = ap now h.1
+sends_unless : (o : Option ℕ) (l next : LiveSeen) (most status : ℕ) → Unless o (λ reason. (status ≡ reason) × (next ≡ l)) (SendsUpTo most l status next) → IsRead l next
+sends_unless (Some reason) l next most status h = same_read l next h.1
 sends_unless None l next most status h = up_to most l next status h
 
-sends : (k next : State) (most status : ℕ) → SendsKept k most status next → devices_of next ≡ devices_of k
-sends (Still m) (Still next) most status h = devices_seen m next h.1
-sends (Moving l) (Moving next) most status h = devices_now l next (sends_unless (send_refusal l.phase) l next most status h)
-sends (Arriving r) (Arriving next) most status h = refl
-sends (Lent x) (Lent next) most status h = devices_same (Lent x) (Lent next) (ap Lent h.1)
+sends : (k next : State) (most status : ℕ) → SendsKept k most status next → IsKept k next
+sends (Still m) (Still next) most status h = seen_kept m next h.1
+sends (Moving l) (Moving next) most status h = read_kept l next (sends_unless (send_refusal l.phase) l next most status h)
+sends (Arriving r) (Arriving next) most status h = same_kept (Arriving r) (Arriving next) (ap Arriving h.1)
+sends (Lent x) (Lent next) most status h = same_kept (Lent x) (Lent next) (ap Lent h.1)
 sends _ _ most status h = absurd h
 
-ends : (k next : State) (status : ℕ) → EndsKept k status next → devices_of next ≡ devices_of k
-ends (Still m) (Still next) status h = devices_seen m next h.1
-ends (Moving l) (Moving next) status h = devices_now l next (round_same (refusal_for l.phase events.EndRound) l next h.reply h.serves)
-ends (Arriving r) (Arriving next) status h = refl
-ends (Lent x) (Lent next) status h = devices_same (Lent x) (Lent next) (ap Lent h.1)
+ends : (k next : State) (status : ℕ) → EndsKept k status next → IsKept k next
+ends (Still m) (Still next) status h = seen_kept m next h.1
+ends (Moving l) (Moving next) status h = read_kept l next (round_same (refusal_for l.phase events.EndRound) l next h.reply h.serves)
+ends (Arriving r) (Arriving next) status h = same_kept (Arriving r) (Arriving next) (ap Arriving h.1)
+ends (Lent x) (Lent next) status h = same_kept (Lent x) (Lent next) (ap Lent h.1)
 ends _ _ status h = absurd h
 
-stops_unless : (out : Bool) (l next : LiveSeen) (status pages old_pages sectors old_sectors : ℕ) → StopsUnless out l status pages old_pages sectors old_sectors next → now next ≡ now l
-stops_unless true l next status pages old_pages sectors old_sectors h = ap now h.1
+stops_unless : (out : Bool) (l next : LiveSeen) (status pages old_pages sectors old_sectors : ℕ) → StopsUnless out l status pages old_pages sectors old_sectors next → IsRead l next
+stops_unless true l next status pages old_pages sectors old_sectors h = same_read l next h.1
 stops_unless false l next status pages old_pages sectors old_sectors h = stop_same (refusal_for l.phase events.Stop) l next h.reply h.serves
 
-stops : (out : Bool) (k next : State) (status pages old_pages sectors old_sectors : ℕ) → StopsKept out k status pages old_pages sectors old_sectors next → devices_of next ≡ devices_of k
-stops out (Still m) (Still next) status pages old_pages sectors old_sectors h = devices_seen m next h.1
-stops out (Moving l) (Moving next) status pages old_pages sectors old_sectors h = devices_now l next (stops_unless out l next status pages old_pages sectors old_sectors h)
-stops out (Arriving r) (Arriving next) status pages old_pages sectors old_sectors h = refl
-stops out (Lent x) (Lent next) status pages old_pages sectors old_sectors h = devices_same (Lent x) (Lent next) (ap Lent h.1)
+stops : (out : Bool) (k next : State) (status pages old_pages sectors old_sectors : ℕ) → StopsKept out k status pages old_pages sectors old_sectors next → IsKept k next
+stops out (Still m) (Still next) status pages old_pages sectors old_sectors h = seen_kept m next h.1
+stops out (Moving l) (Moving next) status pages old_pages sectors old_sectors h = read_kept l next (stops_unless out l next status pages old_pages sectors old_sectors h)
+stops out (Arriving r) (Arriving next) status pages old_pages sectors old_sectors h = same_kept (Arriving r) (Arriving next) (ap Arriving h.1)
+stops out (Lent x) (Lent next) status pages old_pages sectors old_sectors h = same_kept (Lent x) (Lent next) (ap Lent h.1)
 stops out _ _ status pages old_pages sectors old_sectors h = absurd h
 
-aborts : (k next : State) (status : ℕ) → AbortsKept k status next → devices_of next ≡ devices_of k
-aborts (Still m) (Still next) status h = devices_seen m next h.1
-aborts (Moving l) (Still next) status h = devices_seen l.machine next h.1
-aborts (Arriving r) (Arriving next) status h = refl
-aborts (Lent x) (Lent next) status h = devices_same (Lent x) (Lent next) (ap Lent h.1)
+aborts : (k next : State) (status : ℕ) → AbortsKept k status next → IsKept k next
+aborts (Still m) (Still next) status h = seen_kept m next h.1
+aborts (Moving l) (Still next) status h = (ap (λ (x : Seen). (state_of x).devices) h.1, subst (λ (x : Seen). AreFew x.memory.versions) (sym h.1))
+aborts (Arriving r) (Arriving next) status h = same_kept (Arriving r) (Arriving next) (ap Arriving h.1)
+aborts (Lent x) (Lent next) status h = same_kept (Lent x) (Lent next) (ap Lent h.1)
 aborts _ _ status h = absurd h
 
-takes : (k next : State) (status got old_got : ℕ) (buf new_buf : List ℕ) → TakesKept k status got old_got buf new_buf next → devices_of next ≡ devices_of k
-takes (Still m) (Still next) status got old_got buf new_buf h = devices_seen m next h.1
-takes (Moving l) (Moving next) status got old_got buf new_buf h = devices_now l next (ap now h.rest)
-takes (Arriving r) (Arriving next) status got old_got buf new_buf h = refl
-takes (Lent (StillLent p)) (Lent (StillLent next)) status got old_got buf new_buf h = devices_same (Lent (StillLent p)) (Lent (StillLent next)) (ap (λ x. Lent (StillLent x)) h.1)
-takes (Lent (MovingLent l)) (Lent (MovingLent next)) status got old_got buf new_buf h = ap (λ (x : LiveParkedSeen). devices_of (Lent (MovingLent x))) h.rest
+takes : (k next : State) (status got old_got : ℕ) (buf new_buf : List ℕ) → TakesKept k status got old_got buf new_buf next → IsKept k next
+takes (Still m) (Still next) status got old_got buf new_buf h = seen_kept m next h.1
+takes (Moving l) (Moving next) status got old_got buf new_buf h = read_kept l next (ap now h.rest, ap (λ (x : LiveSeen). x.machine.memory.versions) h.rest)
+takes (Arriving r) (Arriving next) status got old_got buf new_buf h = same_kept (Arriving r) (Arriving next) (ap Arriving h.1)
+takes (Lent (StillLent p)) (Lent (StillLent next)) status got old_got buf new_buf h = same_kept (Lent (StillLent p)) (Lent (StillLent next)) (ap (λ x. Lent (StillLent x)) h.1)
+takes (Lent (MovingLent l)) (Lent (MovingLent next)) status got old_got buf new_buf h =
+    (ap (λ (x : LiveParkedSeen). devices_of (Lent (MovingLent x))) h.rest, subst (λ (x : LiveParkedSeen). AreFew x.parked.versions) (sym h.rest))
 takes _ _ status got old_got buf new_buf h = absurd h
 
 -- RAM that is lent, and taken back.
 states_of : (new old : List DeviceSeen) → new ≡ old → map (λ (d : DeviceSeen). d.state) new ≡ map (λ (d : DeviceSeen). d.state) old
 states_of new old same = ap (map (λ (d : DeviceSeen). d.state)) same
 
-loan_same : (k next : State) (ram : Slot) → IsLoan k ram next → devices_of next ≡ devices_of k
-loan_same (Still m) (Lent (StillLent p)) ram h = states_of p.devices m.devices h.devices_are
-loan_same (Moving l) (Lent (MovingLent p)) ram h = states_of p.parked.devices l.machine.devices h.parked.parked.devices_are
+loan_same : (k next : State) (ram : Slot) → IsLoan k ram next → IsKept k next
+loan_same (Still m) (Lent (StillLent p)) ram h = (states_of p.devices m.devices h.devices_are, subst AreFew (sym h.lent.versions_are))
+loan_same (Moving l) (Lent (MovingLent p)) ram h = (states_of p.parked.devices l.machine.devices h.parked.parked.devices_are, subst AreFew (sym h.parked.parked.lent.versions_are))
 loan_same _ _ ram h = absurd h
 
-lends : (o : Option ℕ) (k next : State) (ram new_ram : Slot) (status : ℕ) → Unless o (IsUnlent k ram status new_ram next) (LendsIfOver k ram status new_ram next) → devices_of next ≡ devices_of k
-lends (Some reason) k next ram new_ram status h = devices_same k next h.1
+lends : (o : Option ℕ) (k next : State) (ram new_ram : Slot) (status : ℕ) → Unless o (IsUnlent k ram status new_ram next) (LendsIfOver k ram status new_ram next) → IsKept k next
+lends (Some reason) k next ram new_ram status h = same_kept k next h.1
 lends None k next ram new_ram status (inl h) = loan_same k next new_ram h.loan
-lends None k next ram new_ram status (inr h) = devices_same k next h.unlent.1
+lends None k next ram new_ram status (inr h) = same_kept k next h.unlent.1
 
-back_same : (k next : State) (ram : Slot) (pages : List ℕ) → IsBack k ram pages next → devices_of next ≡ devices_of k
-back_same (Lent (StillLent p)) (Still next) ram pages h = ap (λ (x : Seen). (state_of x).devices) h
-back_same (Lent (MovingLent l)) (Moving next) ram pages h = ap (λ (x : LiveSeen). (state_of x.machine).devices) h
+length_raised : (versions pages : List ℕ) → length (raise_each versions pages) ≡ length versions
+length_raised versions [] = refl
+length_raised versions (n ∷ pages) = length_raised (set versions n (raised (get_or versions n 0))) pages ∙ length-set versions n (raised (get_or versions n 0))
+
+few_raised : (versions pages : List ℕ) → AreFew versions → AreFew (raise_each versions pages)
+few_raised versions pages few = few_stay versions (raise_each versions pages) (length_raised versions pages) few
+
+back_same : (k next : State) (ram : Slot) (pages : List ℕ) → IsBack k ram pages next → IsKept k next
+back_same (Lent (StillLent p)) (Still next) ram pages h =
+    (ap (λ (x : Seen). (state_of x).devices) h, λ few. subst (λ (x : Seen). AreFew x.memory.versions) (sym h) (few_raised p.versions pages few))
+back_same (Lent (MovingLent l)) (Moving next) ram pages h =
+    (ap (λ (x : LiveSeen). (state_of x.machine).devices) h, λ few. subst (λ (x : LiveSeen). AreFew x.machine.memory.versions) (sym h) (few_raised l.parked.versions pages few))
 back_same _ _ ram pages h = absurd h
 
 returns : (o : Option ℕ) (k next : State) (ram new_ram : Slot) (pages : List ℕ) (needs : Bool) (status reason : ℕ)
-    → Unless o (IsUnlent k ram status new_ram next) (HasComeBack k ram pages status new_ram next ⊎ ((needs ≡ true) × IsUnlent k ram status new_ram next reason)) → devices_of next ≡ devices_of k
-returns (Some why) k next ram new_ram pages needs status reason h = devices_same k next h.1
+    → Unless o (IsUnlent k ram status new_ram next) (HasComeBack k ram pages status new_ram next ⊎ ((needs ≡ true) × IsUnlent k ram status new_ram next reason)) → IsKept k next
+returns (Some why) k next ram new_ram pages needs status reason h = same_kept k next h.1
 returns None k next ram new_ram pages needs status reason (inl h) = back_same k next ram pages h.back
-returns None k next ram new_ram pages needs status reason (inr h) = devices_same k next h.1.1
+returns None k next ram new_ram pages needs status reason (inr h) = same_kept k next h.1.1
 
-marked_same : (k next : State) (pages : List ℕ) → IsMarked k pages next → devices_of next ≡ devices_of k
-marked_same (Still m) (Still next) pages h = ap (λ (x : Seen). (state_of x).devices) h
-marked_same (Moving l) (Moving next) pages h = ap (λ (x : LiveSeen). (state_of x.machine).devices) h
+marked_same : (k next : State) (pages : List ℕ) → IsMarked k pages next → IsKept k next
+marked_same (Still m) (Still next) pages h = (ap (λ (x : Seen). (state_of x).devices) h, λ few. subst (λ (x : Seen). AreFew x.memory.versions) (sym h) (few_raised m.memory.versions pages few))
+marked_same (Moving l) (Moving next) pages h =
+    (ap (λ (x : LiveSeen). (state_of x.machine).devices) h, λ few. subst (λ (x : LiveSeen). AreFew x.machine.memory.versions) (sym h) (few_raised l.machine.memory.versions pages few))
 marked_same _ _ pages h = absurd h
 
-marks : (o : Option ℕ) (k next : State) (pages : List ℕ) (needs : Bool) (status other : ℕ) → Unless o (λ reason. (status ≡ reason) × (next ≡ k)) (HasMarked k pages status next ⊎ ((needs ≡ true) × ((status ≡ other) × (next ≡ k)))) → devices_of next ≡ devices_of k
-marks (Some reason) k next pages needs status other h = devices_same k next h.1
+marks : (o : Option ℕ) (k next : State) (pages : List ℕ) (needs : Bool) (status other : ℕ) → Unless o (λ reason. (status ≡ reason) × (next ≡ k)) (HasMarked k pages status next ⊎ ((needs ≡ true) × ((status ≡ other) × (next ≡ k)))) → IsKept k next
+marks (Some reason) k next pages needs status other h = same_kept k next h.1
 marks None k next pages needs status other (inl h) = marked_same k next pages h.marked
-marks None k next pages needs status other (inr h) = devices_same k next h.1.1
+marks None k next pages needs status other (inr h) = same_kept k next h.1.1
 
 -- A machine that is read.
-reads_open : (k next : State) (dev n status : ℕ) (buf new_buf : List ℕ) → ReadsOpen k dev n status buf new_buf next → devices_of next ≡ devices_of k
-reads_open (Still m) (Still next) dev n status buf new_buf h = ap (λ (x : MachineState). x.devices) h.kept.state
+calls_kept : (m next : Seen) → next.memory ≡ m.memory → state_of next ≡ state_of m → IsKept (Still m) (Still next)
+calls_kept m next memory state = (ap (λ (x : MachineState). x.devices) state, subst (λ (x : Memory). AreFew x.versions) (sym memory))
+
+reads_open : (k next : State) (dev n status : ℕ) (buf new_buf : List ℕ) → ReadsOpen k dev n status buf new_buf next → IsKept k next
+reads_open (Still m) (Still next) dev n status buf new_buf h = calls_kept m next h.kept.memory h.kept.state
 reads_open _ _ dev n status buf new_buf h = absurd h
 
-reads : (o : Option ℕ) (k next : State) (dev n status : ℕ) (buf new_buf : List ℕ) → Unless o (λ reason. Refuses status new_buf buf reason × (next ≡ k)) (ReadsOpen k dev n status buf new_buf next) → devices_of next ≡ devices_of k
-reads (Some reason) k next dev n status buf new_buf h = devices_same k next h.1
+reads : (o : Option ℕ) (k next : State) (dev n status : ℕ) (buf new_buf : List ℕ) → Unless o (λ reason. Refuses status new_buf buf reason × (next ≡ k)) (ReadsOpen k dev n status buf new_buf next) → IsKept k next
+reads (Some reason) k next dev n status buf new_buf h = same_kept k next h.1
 reads None k next dev n status buf new_buf h = reads_open k next dev n status buf new_buf h
 
-saves_if : (short : Bool) (m next : Seen) (status len old_len : ℕ) (buf new_buf : List ℕ) → SavesIf short m status len old_len buf new_buf next → devices_of (Still next) ≡ devices_of (Still m)
-saves_if true m next status len old_len buf new_buf h = devices_seen m next h.same
-saves_if false m next status len old_len buf new_buf h = ap (λ (x : MachineState). x.devices) h.kept.state
+saves_if : (short : Bool) (m next : Seen) (status len old_len : ℕ) (buf new_buf : List ℕ) → SavesIf short m status len old_len buf new_buf next → IsKept (Still m) (Still next)
+saves_if true m next status len old_len buf new_buf h = seen_kept m next h.same
+saves_if false m next status len old_len buf new_buf h = calls_kept m next h.kept.memory h.kept.state
 
-saves : (k next : State) (status len old_len : ℕ) (buf new_buf : List ℕ) → SavesKept k status len old_len buf new_buf next → devices_of next ≡ devices_of k
+saves : (k next : State) (status len old_len : ℕ) (buf new_buf : List ℕ) → SavesKept k status len old_len buf new_buf next → IsKept k next
 saves (Still m) (Still next) status len old_len buf new_buf h = saves_if (nat_lt (length buf) (length (whole (state_of m)))) m next status len old_len buf new_buf h
-saves (Moving l) (Moving next) status len old_len buf new_buf h = devices_same (Moving l) (Moving next) (ap Moving h.1)
-saves (Arriving r) (Arriving next) status len old_len buf new_buf h = refl
-saves (Lent x) (Lent next) status len old_len buf new_buf h = devices_same (Lent x) (Lent next) (ap Lent h.1)
+saves (Moving l) (Moving next) status len old_len buf new_buf h = same_kept (Moving l) (Moving next) (ap Moving h.1)
+saves (Arriving r) (Arriving next) status len old_len buf new_buf h = same_kept (Arriving r) (Arriving next) (ap Arriving h.1)
+saves (Lent x) (Lent next) status len old_len buf new_buf h = same_kept (Lent x) (Lent next) (ap Lent h.1)
 saves _ _ status len old_len buf new_buf h = absurd h
 
 -- All of them.
 some_is : (a b : KeptSeen) → ◌≡◌ {A = Option KeptSeen} (Some a) (Some b) → a ≡ b
 some_is a b is = cc
 
-kept_by : (k next : KeptSeen) (s : State) → ◌≡◌ {A = Option KeptSeen} (Some next) (Some (record k { state = s })) → devices_of s ≡ devices_of k.state → KeepsDevices k next
-kept_by k next s is same =
+abbrev Others : KeptSeen → KeptSeen → Type 0
+Others k next = (devices_of next.state ≡ devices_of k.state) × (next.calls ≡ k.calls) × HasRam next.state
+
+kept_by : (k next : KeptSeen) (s : State) → HasRam k.state → ◌≡◌ {A = Option KeptSeen} (Some next) (Some (record k { state = s })) → IsKept k.state s → Others k next
+kept_by k next s ram is kept =
     let now_is = some_is next (record k { state = s }) is in
-    (ap (λ (x : KeptSeen). devices_of x.state) now_is ∙ same, ap (λ (x : KeptSeen). x.calls) now_is)
+    (ap (λ (x : KeptSeen). devices_of x.state) now_is ∙ kept.0, ap (λ (x : KeptSeen). x.calls) now_is, subst (λ (x : KeptSeen). HasRam x.state) (sym now_is) (kept.1 ram))
 
 pub others_keep_devices : OthersKeepDevices
-others_keep_devices k next a_begin h = kept_by k next h.1.next h.1.is_next (begins k.state h.1.next h.0 h.1.done)
-others_keep_devices k next a_send h = kept_by k next h.2.next h.2.is_next (sends k.state h.2.next h.0 h.1 h.2.done)
-others_keep_devices k next an_end_of_round h = kept_by k next h.1.next h.1.is_next (ends k.state h.1.next h.0 h.1.done)
-others_keep_devices k next a_stop h = kept_by k next h.5.next h.5.is_next (stops _ k.state h.5.next h.0 h.1 h.2 h.3 h.4 h.5.done)
-others_keep_devices k next an_abort h = kept_by k next h.1.next h.1.is_next (aborts k.state h.1.next h.0 h.1.done)
-others_keep_devices k next a_taking h = kept_by k next h.5.next h.5.is_next (takes k.state h.5.next h.0 h.1 h.2 h.3 h.4 h.5.done)
-others_keep_devices k next a_loan h = kept_by k next h.3.next h.3.is_next (lends (lend_refusal_of k.state (length h.0.content)) k.state h.3.next h.0 h.2 h.1 h.3.done)
-others_keep_devices k next a_return h =
-    kept_by k next h.4.next h.4.is_next (returns (back_refusal_of k.state (length h.0.content) h.1) k.state h.4.next h.0 h.3 (named_pages h.1 (lent_pages k.state)) (needs_list h.1) h.2 _ h.4.done)
-others_keep_devices k next a_mark h =
-    kept_by k next h.2.next h.2.is_next (marks (mark_refusal k.state h.0) k.state h.2.next (named_pages h.0 (length (memory_in k.state).versions)) (needs_list h.0) h.1 _ h.2.done)
-others_keep_devices k next a_list_of_pages h =
+others_keep_devices k next a_begin ram h = kept_by k next h.1.next ram h.1.is_next (begins k.state h.1.next h.0 h.1.done)
+others_keep_devices k next a_send ram h = kept_by k next h.2.next ram h.2.is_next (sends k.state h.2.next h.0 h.1 h.2.done)
+others_keep_devices k next an_end_of_round ram h = kept_by k next h.1.next ram h.1.is_next (ends k.state h.1.next h.0 h.1.done)
+others_keep_devices k next a_stop ram h = kept_by k next h.5.next ram h.5.is_next (stops _ k.state h.5.next h.0 h.1 h.2 h.3 h.4 h.5.done)
+others_keep_devices k next an_abort ram h = kept_by k next h.1.next ram h.1.is_next (aborts k.state h.1.next h.0 h.1.done)
+others_keep_devices k next a_taking ram h = kept_by k next h.5.next ram h.5.is_next (takes k.state h.5.next h.0 h.1 h.2 h.3 h.4 h.5.done)
+others_keep_devices k next a_loan ram h = kept_by k next h.3.next ram h.3.is_next (lends (lend_refusal_of k.state (length h.0.content)) k.state h.3.next h.0 h.2 h.1 h.3.done)
+others_keep_devices k next a_return ram h =
+    kept_by k next h.4.next ram h.4.is_next (returns (back_refusal_of k.state (length h.0.content) h.1) k.state h.4.next h.0 h.3 (named_pages h.1 (lent_pages k.state)) (needs_list h.1) h.2 _ h.4.done)
+others_keep_devices k next a_mark ram h =
+    kept_by k next h.2.next ram h.2.is_next (marks (mark_refusal k.state h.0) k.state h.2.next (named_pages h.0 (length (memory_in k.state).versions)) (needs_list h.0) h.1 _ h.2.done)
+others_keep_devices k next a_list_of_pages ram h =
     let is = some_is next (record k { written = h.5.left }) h.5.is_next in
-    (ap (λ (x : KeptSeen). devices_of x.state) is, ap (λ (x : KeptSeen). x.calls) is)
-others_keep_devices k next a_sector_read h = kept_by k next h.5.next h.5.is_next (reads (sector_refusal k.state h.0 h.1) k.state h.5.next h.0 h.1 h.2 h.3 h.4 h.5.done)
-others_keep_devices k next a_save h = kept_by k next h.5.next h.5.is_next (saves k.state h.5.next h.0 h.1 h.2 h.3 h.4 h.5.done)
+    (ap (λ (x : KeptSeen). devices_of x.state) is, ap (λ (x : KeptSeen). x.calls) is, subst (λ (x : KeptSeen). HasRam x.state) (sym is) ram)
+others_keep_devices k next a_sector_read ram h = kept_by k next h.5.next ram h.5.is_next (reads (sector_refusal k.state h.0 h.1) k.state h.5.next h.0 h.1 h.2 h.3 h.4 h.5.done)
+others_keep_devices k next a_save ram h = kept_by k next h.5.next ram h.5.is_next (saves k.state h.5.next h.0 h.1 h.2 h.3 h.4 h.5.done)

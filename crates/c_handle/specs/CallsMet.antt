@@ -1,11 +1,12 @@
 -- The calls of disks outside, over all that a host does with a handle: each answer meets the request that asked for it, and a call that is out stays so
 -- until it is answered.
-use Rattle.std.specs.Prelude.{◌≡◌, ◌≢◌, ℕ, ◌≤◌, List, [], ◌∷◌, Some}
+use Rattle.std.specs.Prelude.{◌≡◌, ◌≢◌, ℕ, ◌≤◌, List, [], ◌∷◌, length, Some}
 use Rattle.blk.specs.declared.request.Request.{Request}
-use Rattle.disk_calls.specs.Calls.{AllCalls, IsAt}
+use Rattle.disk_calls.specs.Calls.{IsAt}
 use Rattle.disk_calls.specs.Desk.{AreMet, Desk}
 use Rattle.disk_calls.specs.Machines.{IsDesk}
 use Rattle.disk_calls.specs.declared.out.Out.{Out}
+use Rattle.guestmem.specs.declared.limits.TheConstants.{PAGES_GREATEST}
 use Rattle.region.specs.declared.slot.Slot.{Slot}
 use Rattle.machine.specs.State.{MachineState}
 use Rattle.machine.specs.declared.event.Event.{Event}
@@ -14,14 +15,14 @@ use Rattle.c_machine.specs.declared.pages.Pages.{Pages}
 use Rattle.c_handle.specs.Dropping.{WroteReg}
 use Rattle.c_handle.specs.Durable.{Failed}
 use Rattle.c_handle.specs.HandedOut.{HandedOut}
-use Rattle.c_handle.specs.Kept.{KeptSeen, State}
+use Rattle.c_handle.specs.Kept.{KeptSeen, State, Still, Moving, Arriving, Lent, parked_in}
 use Rattle.c_handle.specs.Late.{Marked}
 use Rattle.c_handle.specs.Lent.{GivesBack, Lends}
 use Rattle.c_handle.specs.Migrated.{Aborted, Begun, EndedRound, HasBeenStopped, SentSome, Taken}
 use Rattle.c_handle.specs.Mirror.{Pushed}
 use Rattle.c_handle.specs.Moving.{Saved}
 use Rattle.c_handle.specs.Outside.{Done, FailsCall, HandsCall, devices_of}
-use Rattle.c_handle.specs.Resetting.{HasPages, Resets}
+use Rattle.c_handle.specs.Resetting.{Resets}
 use Rattle.c_handle.specs.Sectors.{SectorRead}
 use Rattle.c_handle.specs.Stepped.{Stepped}
 use Rattle.c_handle.specs.Told.{Told, Written}
@@ -32,6 +33,16 @@ use Rattle.c_handle.specs.declared.turning.Turn.{Turn}
 -- The devices of a handle's machine, in whatever state. Of its RAM, which the caller has while it is lent, and of its disks nothing is said.
 abbrev pub machine_of : State → MachineState
 machine_of k = record { ram = []; devices = devices_of k; disks = [] }
+
+-- RAM has pages, as many as it may have, wherever it is. So it is of every machine.
+abbrev pub AreFew : List ℕ → Type 0
+AreFew versions = (1 ≤ length versions) × (length versions ≤ PAGES_GREATEST)
+
+abbrev pub HasRam : State → Type 0
+HasRam (Still m) = AreFew m.memory.versions
+HasRam (Moving l) = AreFew l.machine.memory.versions
+HasRam (Arriving r) = Unit {0}
+HasRam (Lent x) = AreFew (parked_in x).versions
 
 -- The desk of a device of a handle: its outstanding requests, and its calls that are out.
 abbrev pub IsDeskIn : KeptSeen → ℕ → ℕ → Desk → Type 0
@@ -49,7 +60,7 @@ pub data HostCall : Type 0 where
   a_push : HostCall
   -- a device does a piece of its work, the one of this pick; its disk may be lost
   a_step : ℕ → ℕ → HostCall
-  -- all devices do theirs, one piece after another
+  -- or the devices do several, one after another
   a_turn : HostCall
   -- the guest reboots
   a_reset : HostCall
@@ -70,12 +81,8 @@ IsAnotherEvent (RegWrite dev off width value) = ⊥
 IsAnotherEvent (Disk dev pick given) = ⊥
 IsAnotherEvent e = Unit {0}
 
--- The devices are as they were, and so are the calls that are out.
-abbrev pub KeepsDevices : KeptSeen → KeptSeen → Type 0
-KeepsDevices k next = (devices_of next.state ≡ devices_of k.state) × (next.calls ≡ k.calls)
-
 -- What the call does to a handle, with some status, and whatever else C gets: that is what its export promises. Of another call no more is asked than
--- what it keeps, and that RAM which is lent has pages.
+-- that devices and calls are as they were.
 abbrev pub Does : KeptSeen → HostCall → KeptSeen → Type 0
 Does k (a_register_write dev off width value) next = (status : ℕ) × (byte : ℕ) × (before : ℕ) × WroteReg (Some k) dev off width value status byte before (Some next)
 Does k (an_event e) next = (status : ℕ) × (number : ℕ) × (before : ℕ) × IsAnotherEvent e × Told (Some k) e status number before (Some next)
@@ -88,7 +95,7 @@ Does k a_handing next = (status : ℕ) × (call : Call) × (old_call : Call) × 
 Does k (an_answer number count bytes) next = (status : ℕ) × Done (Some k) number count bytes status (Some next)
 Does k (a_failure number) next = (status : ℕ) × FailsCall (Some k) number status (Some next)
 Does k (a_loss dev) next = (status : ℕ) × Failed (Some k) dev status (Some next)
-Does k another next = KeepsDevices k next × HasPages next.state
+Does k another next = (devices_of next.state ≡ devices_of k.state) × (next.calls ≡ k.calls) × HasRam next.state
 
 -- Calls, one after another.
 abbrev pub DoAll : KeptSeen → List HostCall → KeptSeen → Type 0
@@ -99,7 +106,7 @@ DoAll k (c ∷ cs) next = (mid : KeptSeen) × Does k c mid × DoAll mid cs next
 -- guest does what it likes. No two calls of the device that are out overlap; each is asked by one of its requests, another for each; and its answer,
 -- whole or in part, is for that request, which asks for it.
 abbrev pub HostCallsAreMet : Type 0
-HostCallsAreMet = (k next : KeptSeen) (cs : List HostCall) (dev size : ℕ) (requests : List Request) → 1 ≤ size → HasPages k.state → IsDeskIn k dev size (record { requests = requests; placed = [] }) → DoAll k cs next
+HostCallsAreMet = (k next : KeptSeen) (cs : List HostCall) (dev size : ℕ) (requests : List Request) → 1 ≤ size → HasRam k.state → IsDeskIn k dev size (record { requests = requests; placed = [] }) → DoAll k cs next
     → (d : Desk) × IsDeskIn next dev size d × AreMet size d
 
 -- No answer, and no failure, of the call of this number.
@@ -117,7 +124,7 @@ abbrev pub CallsStayOut : Type 0
 CallsStayOut = (k next : KeptSeen) (cs : List HostCall) (dev i : ℕ) (out : Out) → IsAt k.calls.devices dev i out → NoneAnswers out.number cs → DoAll k cs next → (j : ℕ) × (j ≤ i) × IsAt next.calls.devices dev j out
 
 -- The other calls, by what their exports promise: those that migrate a machine, lend its RAM and take it back, name pages or hand them out, and read the
--- machine. A call that is not here changes nothing, or is made before there is a machine.
+-- machine. What is left of the calls changes nothing, brings a machine into a handle, or takes the handle away.
 pub data OtherCall : Type 0 where
   a_begin : OtherCall
   a_send : OtherCall
@@ -148,4 +155,4 @@ DoesOther k a_save next = (status : ℕ) × (len : ℕ) × (old_len : ℕ) × (b
 
 -- Each of them is another call, as the law above takes it.
 abbrev pub OthersKeepDevices : Type 0
-OthersKeepDevices = (k next : KeptSeen) (c : OtherCall) → DoesOther k c next → KeepsDevices k next
+OthersKeepDevices = (k next : KeptSeen) (c : OtherCall) → HasRam k.state → DoesOther k c next → Does k another next

@@ -40,7 +40,8 @@
 //!   (`specs/Outside`). An answer that puts no bytes into RAM is taken while it is lent too. Of a disk that is lost no answer says that something is
 //!   durable. What is out lies beside the machine, in each of its states (`calls_out`), and is listed by `list_calls` (`specs/Listed`). Numbers begin
 //!   where the struct says that makes the machine or lets it arrive. A register write and a reset that would drop a request whose call is out are
-//!   refused (`specs/Dropping`), and so is a stop while one is.
+//!   refused (`specs/Dropping`), and so is a stop while one is. So whatever a host calls, each answer meets the request that its call was handed
+//!   out for, and a call that is out stays so until it is answered (`specs/CallsMet`).
 //! - `mark` names pages later than RAM came back: each is taken for written whole, with the bytes that lie there (`specs/Late`). By which
 //!   pages a machine that is being migrated is behind its history the laws say; a round and a stop want none (`specs/Sent`).
 //! - Where its struct asks for a log, a step, a write of RAM and a push are told to it, each page that they wrote into and no other, and
