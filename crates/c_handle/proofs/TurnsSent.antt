@@ -150,7 +150,8 @@ done_in Flush k next l w (Lent x) status number before buf new_buf is next_is go
 step_done : (k next : KeptSeen) (t : Turn) (w : Work) (l : LiveSeen) (status number : ℕ) (buf new_buf : List ℕ) → k.state ≡ Moving l → Runs k.state → IsStep k t w status number buf new_buf next → Done k w status buf new_buf next l
 step_done k next t w l status number buf new_buf is runs s =
     let goes : is_closed l.phase ≡ false = (rw is at runs).1 in
-    done_in (owed_lost k w.dev w.pick) k next l w next.state status number t.len buf new_buf is refl goes s.rest (rw is at s.made) (no_end k t w l is goes s.named)
+    done_in (owed_lost k w.dev w.pick) k next l w next.state status number t.len buf new_buf is refl goes s.rest
+    (subst (λ (at : State). StepsOwing (owed_lost k w.dev w.pick) at k.written w.dev w.pick status number t.len buf new_buf next.state next.written) is s.made) (no_end k t w l is goes s.named)
 
 -- A step after which a turn goes on was not refused.
 either_by : (a b c d : Bool) (status : ℕ) → (status == 65) ≡ a → (status == 66) ≡ b → (status == 67) ≡ c → (status == 70) ≡ d → (e : Bool) → (a || b || c || (d && not e)) ≡ true → 64 ≤ status
