@@ -1,6 +1,7 @@
 """Checks of texts that are in the sources: laws that are handed on, the table of records, statuses that programs meet, comments of calls, and
 drops."""
 
+import collections
 import re
 
 from texts import TOP, place_of, read
@@ -9,8 +10,10 @@ from texts import TOP, place_of, read
 def check_laws(differences):
     """The laws that the crate vmig hands on are all that those crates have."""
     count = 0
-    for crate, names in re.findall(r"^pub use (\w+)::laws::\{([^}]*)\};", read(TOP / "crates/vmig/src/laws.rt"), flags=re.M):
-        handed = set(re.findall(r"\w+", names))
+    handed_on = collections.defaultdict(set)
+    for crate, names in re.findall(r"^pub use (\w+)::laws::(\w+|\{[^}]*\});", read(TOP / "crates/vmig/src/laws.rt"), flags=re.M):
+        handed_on[crate].update(re.findall(r"\w+", names))
+    for crate, handed in handed_on.items():
         folder = TOP / f"crates/{crate}/src"
         there = set()
         for path in [folder / "laws.rt", *sorted(folder.glob("laws/*.rt"))]:
