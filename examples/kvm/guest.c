@@ -16,6 +16,7 @@ void prepare_guests(struct host *h)
     const char *why = kvm_open(k);
 
     if (why == NULL && (k->cpuid = cpuid_offer(k)) == NULL) why = kvm_reason("KVM_GET_SUPPORTED_CPUID");
+    if (why == NULL) why = features_offer(k, &h->guest.features);
     if (why != NULL) fail("%s", why);
     watch_begin(&h->guest.watch);
 }

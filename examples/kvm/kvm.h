@@ -28,6 +28,9 @@ const char *kvm_open(struct kvm *k);
 /* Makes a virtual machine over this RAM, with its interrupt controllers and its timer, but without a processor. */
 const char *kvm_make(struct kvm *k, uint8_t *ram, uint64_t length);
 
+/* Whether this kernel can take performance counters away from a guest, as kvm_make does where it can. */
+int kvm_hides_counters(const struct kvm *k);
+
 /* Makes its processor, with k->cpuid and k->khz. A guest that arrives gets it as late as can be: KVM takes a TSC that is set soon after for an
  * attempt to synchronize it with that of other processors. */
 const char *kvm_make_cpu(struct kvm *k);

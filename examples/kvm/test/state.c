@@ -15,6 +15,7 @@
 #include "state.h"
 
 enum { LENGTH = 2 * MIB, CHANGED = 200, DEADLINE = 0x6e0, TSC = 0x10, KERNEL_GS = 0xc0000102, A_CLOCK_S = 5, WRONG_MAX = 20 };
+enum { ARCH_CAPABILITIES = 0x10a, COUNTER_OF_INTEL = 0x186, COUNTER_OF_AMD = 0xc0010000, PIN = 5, SELECTS = 0x530076 };
 enum { PAUSE_NS = 200000000, MILLION = 1000000, XMM0 = 160, XSTATE_BV = 512, LVT_TIMER = 0x320, SPURIOUS = 0xf0, REQUESTS = 0x200, VECTOR = 0x61 };
 #define CLOCK UINT64_C(1000000000000000)
 
@@ -272,6 +273,74 @@ static void stop_and_start(void)
     else expect(ticks > -1 && ticks < PAUSE_NS / MILLION / 2, "the TSC went on while it stood");
 }
 
+/* What KVM is told of a line reaches the LAPIC through an unmasked pin, and once more in a machine that is made anew: the
+ * vector waits in its register of requests. */
+static void tell_lines(void)
+{
+    struct kvm_irqchip chip = {.chip_id = 2};
+    struct kvm_lapic_state lapic;
+    uint32_t enabled = 0x1ff, requests;
+
+    make(1);
+    expect(kvm_call(kvm()->vm, KVM_GET_IRQCHIP, &chip) == 0 && kvm_call(kvm()->cpu, KVM_GET_LAPIC, &lapic) == 0, "no LAPIC");
+    chip.chip.ioapic.redirtbl[PIN].bits = 1 << 15 | VECTOR;
+    memcpy(lapic.regs + SPURIOUS, &enabled, sizeof enabled);
+    expect(kvm_call(kvm()->vm, KVM_SET_IRQCHIP, &chip) == 0 && kvm_call(kvm()->cpu, KVM_SET_LAPIC, &lapic) == 0, "no LAPIC is set");
+    for (uint32_t is_high = 0; is_high < 2; is_high++) {
+        kvm_set_lines(kvm(), is_high << PIN, UINT32_C(1) << PIN);
+        expect(kvm_call(kvm()->cpu, KVM_GET_LAPIC, &lapic) == 0, "no LAPIC is read");
+        memcpy(&requests, lapic.regs + REQUESTS + VECTOR / 32 * 16, sizeof requests);
+        if ((requests >> VECTOR % 32 & 1) != is_high) wrong("a line", is_high ? "its interrupt is not requested" : "its interrupt is requested");
+    }
+}
+
+/* A guest that was told of more than this host has is refused by its first frame, and by its state. */
+static void tell_more(const struct whole_state *state)
+{
+    static uint8_t bytes[BODY_MAX];
+    struct whole_state told;
+    struct features *here = &host.guest.features;
+    size_t length = 0, size;
+    int count = 0;
+
+    copy(state, &told);
+    for (uint32_t i = 0; i < told.state.count_msrs; i++)
+        if (told.msrs[i].index == ARCH_CAPABILITIES) told.msrs[i].data = UINT32_MAX, count++;
+    expect(state_pack(&told, bytes, sizeof bytes, &length) == NULL, "a state does not fit");
+    make(0);
+    if (count > 0 && state_read(&host, bytes, length) == NULL) wrong("a state", "it tells of more than this host has, and is taken");
+    state_free(&told);
+    make(1);
+    length = facts_write(&host, bytes);
+    if (facts_check(&host, bytes, length) != NULL) wrong("a first frame", "this host's own is refused");
+    for (uint32_t i = 0; i < here->count; i++) here->all[i].data = 0;
+    size = facts_write(&host, bytes);
+    if (count > 0 && facts_check(&host, bytes, size) == NULL) wrong("a first frame", "it tells of more than this host has, and is taken");
+    expect(features_offer(kvm(), here) == NULL, "no MSRs that tell features");
+    if (count == 0) puts("state: skipped: this host has no MSR that tells features");
+}
+
+/* A guest has no counter that it could set. */
+static void set_counters(void)
+{
+    static const uint32_t NUMBERS[] = {COUNTER_OF_INTEL, COUNTER_OF_AMD};
+
+    make(1);
+    if (!kvm_hides_counters(kvm())) {
+        puts("state: skipped: this KVM cannot take performance counters away");
+        return;
+    }
+    for (int i = 0; i < 2; i++) {
+        struct {
+            uint32_t count, pad;
+            struct kvm_msr_entry entry;
+        } one = {1, 0, {.index = NUMBERS[i], .data = SELECTS}};
+        int is_set = kvm_call(kvm()->cpu, KVM_SET_MSRS, &one) == 1 && kvm_call(kvm()->cpu, KVM_GET_MSRS, &one) == 1;
+
+        if (is_set && one.entry.data == SELECTS) wrong("a counter", "it is there");
+    }
+}
+
 int main(void)
 {
     struct whole_state state, first;
@@ -281,6 +350,7 @@ int main(void)
     if (why != NULL) fail("state: %s", why);
     kvm()->cpuid = cpuid_offer(kvm());
     expect(ram != MAP_FAILED && kvm()->cpuid != NULL, "no memory");
+    expect(features_offer(kvm(), &host.guest.features) == NULL, "no MSRs that tell features");
     make(1);
     expect(state_prepare(&host) == NULL, "no list of MSRs");
     read_all(&first);
@@ -292,6 +362,9 @@ int main(void)
            (unsigned)(state.state.count_msrs * sizeof *state.msrs));
     stop_and_start();
     try_orders(&state);
+    tell_lines();
+    tell_more(&state);
+    set_counters();
     change_states(&state);
     change_facts();
     kvm_end(kvm());
