@@ -66,7 +66,7 @@ def all_untaken(run):
     untaken(run, "No such file or directory", shutil.rmtree)
     untaken(run, "File exists", lambda folder: (folder / "own").mkdir())
     # The target has no right to give its wire the name. Root has none either, without its capabilities.
-    probe = run.work / "probe"
+    probe = run.work / "no-right"
     probe.mkdir(mode=0o555)
     before = ["setpriv", "--bounding-set=-all"] if os.geteuid() == 0 else []
     has_no_right = (not before or shutil.which(before[0])) and subprocess.run([*before, "true"], check=False).returncode == 0

@@ -1,6 +1,9 @@
-"""What `run` of both hypervisors shares: the programs that it builds, the processes that it begins and ends, and what it says of a case that is not
-as it should be. What a case begins ends with it, by its number."""
+"""What `run` of both hypervisors shares: the programs that it builds, the processes that it begins and ends, and what it
+says of a case that is not as it should be. What a case begins ends with it, by its number.
 
+With TIMES in the environment it says how long each case took, and with FIRST it ends at the first thing that is wrong."""
+
+import concurrent.futures
 import contextlib
 import os
 import pathlib
@@ -118,7 +121,7 @@ class Run:
         self.name, self.here, self.mib = name, pathlib.Path(here), mib
         self.work = pathlib.Path(tempfile.mkdtemp())
         self.failures, self.case, self.hosts, self.program, self.echo = 0, "build", [], self.work / "hypervisor", None
-        self.kernel, self.sum, self.looks_at_storage = self.here / "guest/guest.bin", None, False
+        self.kernel, self.sum, self.looks_at_storage, self.objects = self.here / "guest/guest.bin", None, False, {}
         (self.work / "first.disk").write_bytes(random.Random(1).randbytes(DISK_SIZE))
         for number in (signal.SIGTERM, signal.SIGHUP):
             signal.signal(number, lambda number, _: sys.exit(128 + number))
@@ -136,6 +139,8 @@ class Run:
                 if kept.exists():
                     print(f"  {kept.name}: {' | '.join(kept.read_text(errors='replace').splitlines()[-5:])}", file=sys.stderr, flush=True)
         self.failures += 1
+        if "FIRST" in os.environ:
+            sys.exit(1)
 
     def until(self, is_so, seconds=WAIT_SECONDS):
         """Waits until this is so. Whether it was."""
@@ -183,13 +188,25 @@ class Run:
                 kept.unlink()
 
     def compile(self, name, *words):
-        """Compiles a program with the compiler and its options as CC and CFLAGS have them."""
+        """Compiles a program with the compiler and its options as CC and CFLAGS have them. Sources whose objects are there are not compiled again."""
         options = ["-std=c11", "-pthread", "-Wall", "-Wextra", "-Werror", *shlex.split(os.environ.get("CFLAGS") or "-O2")]
         options += [f"-I{folder}" for folder in (INCLUDE, self.here, PARTS)]
-        command = [os.environ.get("CC") or "cc", *options, *words, "-o", self.work / name]
+        command = [os.environ.get("CC") or "cc", *options, *(self.objects.get(word, word) for word in words), "-o", self.work / name]
         if subprocess.run([str(word) for word in command], check=False).returncode != 0:
             sys.exit(1)
         return self.work / name
+
+    def compile_once(self, sources):
+        """Compiles the sources that several programs have."""
+        folder = self.work / "objects"
+        folder.mkdir()
+
+        def compile_one(source):
+            self.compile(f"objects/{source.parent.name}-{source.stem}.o", "-c", source)
+            return source, folder / f"{source.parent.name}-{source.stem}.o"
+
+        with concurrent.futures.ThreadPoolExecutor(len(os.sched_getaffinity(0))) as pool:
+            self.objects = dict(pool.map(compile_one, sources))
 
     def begin_echo(self):
         """The other end of the guest's wire."""
