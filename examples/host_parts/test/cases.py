@@ -267,9 +267,10 @@ def all_not_restored(run):
         not_restored(run, "it has other devices", run.work / "guest.saved", "--mapped", run.work / "more.disk")
 
 
-def standing(run, where):
-    """The target stands, from when it says this. The guest runs, or is paused for no longer than it may be. A target that stands before it has answered
-    the source's first frame has it say, while the guest runs, that the line is broken."""
+def standing(run, where, cancels=False):
+    """The target stands, from when it says this. The guest runs, or is paused for no longer than it may be. The operator
+    cancels the move where there is more in a round than the line holds. A target that stands before it has answered the
+    source's first frame has it say, while the guest runs, that the line is broken."""
     with run.new_case(f"a target that stands once it says '{where}'"):
         target = run.begin_target(pause=500)
         cut = run.begin_cut(target, "slow")
@@ -280,10 +281,10 @@ def standing(run, where):
         target.wait_for(where)
         target.signal(signal.SIGSTOP)
         reason = "the pause would last longer than --pause-ms"
-        if where == "listening":
-            time.sleep(0.5)
+        if cancels or where == "listening":
+            time.sleep(1)
             source.signal(signal.SIGUSR2)
-            reason = "its operator cancels it"
+            reason = f"({reason}|its operator cancels it)" if cancels else "its operator cancels it"
         elif where == "a guest comes from":
             reason = f"({reason}|the line is broken)"
         source.wait_for(f"{reason}: {CONTINUES}")
