@@ -121,7 +121,8 @@ class Run:
         self.name, self.here, self.mib = name, pathlib.Path(here), mib
         self.work = pathlib.Path(tempfile.mkdtemp())
         self.failures, self.case, self.hosts, self.program, self.echo = 0, "build", [], self.work / "hypervisor", None
-        self.kernel, self.sum, self.looks_at_storage, self.objects = self.here / "guest/guest.bin", None, False, {}
+        self.kernel, self.sum, self.looks_at_storage = self.here / "guest/guest.bin", None, False
+        self.objects, self.changed = {}, {}  # of a source the object, and the source that is taken in its place
         (self.work / "first.disk").write_bytes(random.Random(1).randbytes(DISK_SIZE))
         for number in (signal.SIGTERM, signal.SIGHUP):
             signal.signal(number, lambda number, _: sys.exit(128 + number))
@@ -191,7 +192,8 @@ class Run:
         """Compiles a program with the compiler and its options as CC and CFLAGS have them. Sources whose objects are there are not compiled again."""
         options = ["-std=c11", "-pthread", "-Wall", "-Wextra", "-Werror", *shlex.split(os.environ.get("CFLAGS") or "-O2")]
         options += [f"-I{folder}" for folder in (INCLUDE, self.here, PARTS)]
-        command = [os.environ.get("CC") or "cc", *options, *(self.objects.get(word, word) for word in words), "-o", self.work / name]
+        words = [self.objects.get(word) or self.changed.get(word, word) for word in words]
+        command = [os.environ.get("CC") or "cc", *options, *words, "-o", self.work / name]
         if subprocess.run([str(word) for word in command], check=False).returncode != 0:
             sys.exit(1)
         return self.work / name
