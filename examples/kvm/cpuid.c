@@ -46,7 +46,8 @@ static int keep_known(struct kvm_cpuid_entry2 *entry)
     uint32_t kept = 0;
 
     for (enum name name = EAX; name <= EDX; name++) {
-        uint32_t known = known_features(entry->function, index_of(entry), name) | known_values(entry->function, index_of(entry), name);
+        uint32_t known = known_features(entry->function, index_of(entry), name) |
+                         known_values(entry->function, index_of(entry), name);
 
         *word_of(entry, name) &= known;
         kept |= known;
@@ -86,7 +87,8 @@ static void size_area(struct kvm_cpuid2 *all)
         if ((parts & BIT(i)) && end > size) size = end;
     }
     for (uint32_t i = 0; i < all->nent; i++)
-        if (all->entries[i].function == XSAVE && index_of(&all->entries[i]) == 0 && parts != 0) all->entries[i].ecx = size;
+        if (all->entries[i].function == XSAVE && index_of(&all->entries[i]) == 0 && parts != 0)
+            all->entries[i].ecx = size;
 }
 
 static int is_no_part(const struct kvm_cpuid_entry2 *entry, uint32_t parts)
@@ -102,7 +104,8 @@ static void end_range(struct kvm_cpuid2 *all, uint32_t first)
     uint32_t last = first;
 
     for (uint32_t i = 0; i < all->nent; i++)
-        if (all->entries[i].function >> 28 == first >> 28 && all->entries[i].function > last) last = all->entries[i].function;
+        if (all->entries[i].function >> 28 == first >> 28 && all->entries[i].function > last)
+            last = all->entries[i].function;
     for (uint32_t i = 0; i < all->nent; i++)
         if (all->entries[i].function == first) all->entries[i].eax = last;
 }
@@ -147,7 +150,8 @@ struct kvm_cpuid2 *cpuid_offer(struct kvm *k)
         if (all == NULL) return NULL;
         all->nent = room;
         if (kvm_call(k->system, KVM_GET_SUPPORTED_CPUID, all) >= 0) {
-            cpuid_hide(all, kvm_call(k->system, KVM_CHECK_EXTENSION, (void *)(uintptr_t)KVM_CAP_TSC_DEADLINE_TIMER) > 0);
+            cpuid_hide(all,
+                       kvm_call(k->system, KVM_CHECK_EXTENSION, (void *)(uintptr_t)KVM_CAP_TSC_DEADLINE_TIMER) > 0);
             return all;
         }
         free(all);
@@ -163,8 +167,8 @@ static const char *lacks(uint32_t leaf, uint32_t index, enum name name, uint32_t
     int bit = 0;
 
     while (!(bits >> bit & 1)) bit++;
-    snprintf(reason, sizeof reason, "this host lacks a feature of its CPUID: leaf 0x%x.%u, %s, bit %d, %s", (unsigned)leaf, (unsigned)index,
-             NAMES[name], bit, word_at(known_names(leaf, index, name), bit, word));
+    snprintf(reason, sizeof reason, "this host lacks a feature of its CPUID: leaf 0x%x.%u, %s, bit %d, %s",
+             (unsigned)leaf, (unsigned)index, NAMES[name], bit, word_at(known_names(leaf, index, name), bit, word));
     return reason;
 }
 

@@ -5,7 +5,10 @@
 #include "feature_msrs.h"
 #include "words.h"
 
-enum { ARCH_CAPABILITIES = 0x10a, PLATFORM_INFO = 0xce, UCODE_REV = 0x8b, PERF_CAPABILITIES = 0x345, DE_CFG = 0xc0011029 };
+enum {
+    ARCH_CAPABILITIES = 0x10a, PLATFORM_INFO = 0xce, UCODE_REV = 0x8b, PERF_CAPABILITIES = 0x345,
+    DE_CFG = 0xc0011029
+};
 
 #define BIT(n) (UINT64_C(1) << (n))
 #define ALL UINT64_MAX
@@ -86,7 +89,8 @@ const char *features_compare(const struct kvm_msr_entry *guest, uint32_t count, 
     const char *why = NULL;
 
     for (uint32_t i = 0; i < count && why == NULL; i++)
-        if (all || row_of(guest[i].index) < KNOWN_COUNT || entry_of(here, guest[i].index) != NULL) why = compare_one(&guest[i], here);
+        if (all || row_of(guest[i].index) < KNOWN_COUNT || entry_of(here, guest[i].index) != NULL)
+            why = compare_one(&guest[i], here);
     return why;
 }
 
@@ -111,7 +115,8 @@ const char *features_offer(struct kvm *k, struct features *here)
     } list = {.count = FEATURES_MOST};
 
     here->count = 0;
-    if (kvm_call(k->system, KVM_GET_MSR_FEATURE_INDEX_LIST, &list) < 0) return kvm_reason("KVM_GET_MSR_FEATURE_INDEX_LIST");
+    if (kvm_call(k->system, KVM_GET_MSR_FEATURE_INDEX_LIST, &list) < 0)
+        return kvm_reason("KVM_GET_MSR_FEATURE_INDEX_LIST");
     for (uint32_t i = 0; i < list.count; i++) {
         here->all[here->count] = (struct kvm_msr_entry){.index = list.numbers[i]};
         here->count += (uint32_t)read_one(k->system, &here->all[here->count]);

@@ -21,7 +21,8 @@ static const struct {
     const char *names;
 } FEATURES[] = {
     {0x1, 0, ECX, "pni pclmulqdq - - - - - - - ssse3 - - fma cx16 - - "
-                  "- pcid - sse4_1 sse4_2 x2apic movbe popcnt tsc_deadline_timer aes xsave - avx f16c rdrand hypervisor"},
+                  "- pcid - sse4_1 sse4_2 x2apic movbe popcnt "
+                  "tsc_deadline_timer aes xsave - avx f16c rdrand hypervisor"},
     {0x1, 0, EDX, "fpu vme de pse tsc msr pae mce cx8 apic - sep mtrr pge mca cmov "
                   "pat pse36 - clflush - - - mmx fxsr sse sse2 ss"},
     {0x6, 0, EAX, "- - arat"},
@@ -83,7 +84,8 @@ enum { XSAVE = 0xd, FIRST_AREA = 2 };
 const char *known_names(uint32_t leaf, uint32_t index, enum name name)
 {
     for (size_t i = 0; i < sizeof FEATURES / sizeof *FEATURES; i++)
-        if (FEATURES[i].leaf == leaf && FEATURES[i].index == index && FEATURES[i].name == name) return FEATURES[i].names;
+        if (FEATURES[i].leaf == leaf && FEATURES[i].index == index && FEATURES[i].name == name)
+            return FEATURES[i].names;
     return NULL;
 }
 
@@ -98,6 +100,7 @@ uint32_t known_values(uint32_t leaf, uint32_t index, enum name name)
     if (leaf == XSAVE && index >= FIRST_AREA && index < 32)
         return known_features(XSAVE, 0, EAX) >> index & 1 && name != EDX ? ALL : 0;
     for (size_t i = 0; i < sizeof VALUES / sizeof *VALUES; i++)
-        if (VALUES[i].leaf == leaf && (VALUES[i].index == index || VALUES[i].index == EACH_INDEX)) return VALUES[i].bits[name];
+        if (VALUES[i].leaf == leaf && (VALUES[i].index == index || VALUES[i].index == EACH_INDEX))
+            return VALUES[i].bits[name];
     return 0;
 }

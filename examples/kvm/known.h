@@ -1,5 +1,5 @@
-/* What is known of CPUID: each bit that a guest may be offered, by its name. A bit that is not here no guest is offered, as its state may be in no list
- * of state.c. */
+/* What is known of CPUID: each bit that a guest may be offered, by its name. A bit that is not here no guest is
+ * offered, as its state may be in no list of state.c. */
 #ifndef KNOWN_H
 #define KNOWN_H
 
@@ -7,8 +7,8 @@
 
 enum name { EAX, EBX, ECX, EDX };
 
-/* The bits of a register of a leaf that are features, which another host is compared by; and those that are names, counts and sizes, which a guest
- * keeps. */
+/* The bits of a register of a leaf that are features, which another host is compared by; and those that are names,
+ * counts and sizes, which a guest keeps. */
 uint32_t known_features(uint32_t leaf, uint32_t index, enum name name);
 uint32_t known_values(uint32_t leaf, uint32_t index, enum name name);
 

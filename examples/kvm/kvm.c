@@ -11,7 +11,8 @@
 #include "kvm.h"
 #include "say.h"
 
-/* Where the kernel keeps three pages and one of its own, which Intel's processors need: below 4 GiB, and no guest looks there. */
+/* Where the kernel keeps three pages and one of its own, which Intel's processors need: below 4 GiB, and no guest
+ * looks there. */
 enum { LOG_PIECE = 64 };
 #define TSS_AT UINT64_C(0xfffbd000)
 #define IDENTITY_MAP_AT UINT64_C(0xfffbc000)
@@ -25,10 +26,17 @@ enum { LOG_PIECE = 64 };
 static const struct {
     int number;
     const char *name;
-} NEEDED[] = {{KVM_CAP_IMMEDIATE_EXIT, "immediate_exit"}, {KVM_CAP_IRQCHIP, "interrupt controllers"}, {KVM_CAP_PIT_STATE2, "a PIT"},
-              {KVM_CAP_SREGS2, "KVM_GET_SREGS2"}, {KVM_CAP_XSAVE2, "KVM_GET_XSAVE2"}, {KVM_CAP_XCRS, "KVM_GET_XCRS"},
-              {KVM_CAP_DEBUGREGS, "KVM_GET_DEBUGREGS"}, {KVM_CAP_VCPU_EVENTS, "KVM_GET_VCPU_EVENTS"}, {KVM_CAP_MP_STATE, "KVM_GET_MP_STATE"},
-              {KVM_CAP_ADJUST_CLOCK, "KVM_GET_CLOCK"}, {KVM_CAP_GET_TSC_KHZ, "KVM_GET_TSC_KHZ"}};
+} NEEDED[] = {{KVM_CAP_IMMEDIATE_EXIT, "immediate_exit"},
+              {KVM_CAP_IRQCHIP, "interrupt controllers"},
+              {KVM_CAP_PIT_STATE2, "a PIT"},
+              {KVM_CAP_SREGS2, "KVM_GET_SREGS2"},
+              {KVM_CAP_XSAVE2, "KVM_GET_XSAVE2"},
+              {KVM_CAP_XCRS, "KVM_GET_XCRS"},
+              {KVM_CAP_DEBUGREGS, "KVM_GET_DEBUGREGS"},
+              {KVM_CAP_VCPU_EVENTS, "KVM_GET_VCPU_EVENTS"},
+              {KVM_CAP_MP_STATE, "KVM_GET_MP_STATE"},
+              {KVM_CAP_ADJUST_CLOCK, "KVM_GET_CLOCK"},
+              {KVM_CAP_GET_TSC_KHZ, "KVM_GET_TSC_KHZ"}};
 
 int kvm_call(int of, unsigned long request, void *argument)
 {

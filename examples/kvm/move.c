@@ -50,7 +50,8 @@ static const char *try_processor(const struct kvm *k, struct kvm_cpuid2 *cpuid, 
     own.log = NULL;
     why = kvm_make(&own, NULL, 0);
     if (why == NULL) why = kvm_make_cpu(&own);
-    if (why == NULL && !own.sets_frequency && !is_same_frequency(khz, own.khz)) why = "the TSC of this host has another frequency";
+    if (why == NULL && !own.sets_frequency && !is_same_frequency(khz, own.khz))
+        why = "the TSC of this host has another frequency";
     kvm_end(&own);
     free(own.log);
     return why;

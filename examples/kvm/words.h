@@ -1,4 +1,5 @@
-/* Texts that name the bits of a register, a word for each from the lowest on, with a space between two. `-` is a bit without a name. */
+/* Texts that name the bits of a register, a word for each from the lowest on, with a space between two. `-` is a bit
+ * without a name. */
 #ifndef WORDS_H
 #define WORDS_H
 

@@ -5,10 +5,9 @@ import re
 import resource
 import shutil
 import signal
-import subprocess
 import time
 
-from hosts import SHARED
+from hosts import SHARED, outcome_of
 
 CONTINUES = "the guest continues here"
 
@@ -22,7 +21,8 @@ def unmoved(run):
 
 
 def broken(run, where):
-    """The line breaks at a place before the source has let go: the guest continues there, and the target drops what it has."""
+    """The line breaks at a place before the source has let go: the guest continues there, and the target drops
+    what it has."""
     with run.new_case(f"the line breaks at {where}"):
         source, target = run.begin_both(where)
         source.wait_for(CONTINUES)
@@ -33,7 +33,8 @@ def broken(run, where):
 
 
 def spoiled(run, what, reason):
-    """What comes is not what was sent, in byte N of each frame of a type, TYPE:N. The target refuses it, and the guest continues at the source."""
+    """What comes is not what was sent, in byte N of each frame of a type, TYPE:N. The target refuses it, and
+    the guest continues at the source."""
     with run.new_case(f"spoiled: {what}"):
         source, target = run.begin_both(f"spoil={what}")
         source.wait_for(f"the target refuses: {reason}")
@@ -45,8 +46,8 @@ def spoiled(run, what, reason):
 
 
 def untaken(run, reason, spoil, **how):
-    """What the target takes once the source has let go cannot be taken: `spoil` is done to the folder of its wire once it listens. It says so and drops
-    the guest, which continues at the source."""
+    """What the target takes once the source has let go cannot be taken: `spoil` is done to the folder of its
+    wire once it listens. It says so and drops the guest, which continues at the source."""
     folder = run.work / "wires"
     with run.new_case(f"the wire cannot be taken over: {reason}"):
         folder.mkdir()
@@ -69,8 +70,8 @@ def all_untaken(run):
     probe = run.work / "no-right"
     probe.mkdir(mode=0o555)
     before = ["setpriv", "--bounding-set=-all"] if os.geteuid() == 0 else []
-    has_no_right = (not before or shutil.which(before[0])) and subprocess.run([*before, "true"], check=False).returncode == 0
-    if not has_no_right or subprocess.run([*before, "mkdir", probe / "own"], stderr=subprocess.DEVNULL, check=False).returncode == 0:
+    can_be = (not before or shutil.which(before[0])) and outcome_of(*before, "true").returncode == 0
+    if not can_be or outcome_of(*before, "mkdir", probe / "own").returncode == 0:
         run.skipped("there is no way to have no right")
         return
     untaken(run, "Permission denied", lambda folder: folder.chmod(0o555), before=before)
@@ -95,8 +96,8 @@ def begins_not(run, host):
 
 
 def short(run, what, source_how, target_how):
-    """One of both lacks something from its begin on. It does not begin, and says why, or the guest is moved or continues at the source: in each case it
-    prints its sum once."""
+    """One of both lacks something from its begin on. It does not begin, and says why, or the guest is moved or
+    continues at the source: in each case it prints its sum once."""
     with run.new_case(f"short: {what}"):
         run.make_disk("shared.disk")
         target = run.begin("target", "--listen", "0", "--shared", **SHARED, **target_how)
@@ -231,7 +232,8 @@ def all_unsaved(run, failing):
     unsaved(run, "File too large", saved, limits={resource.RLIMIT_FSIZE: 65536})
     for number in ("1", "2"):
         run.make_disk("shared.disk")
-        unsaved(run, "Input/output error", saved, "--shared", program=failing, environment={"FSYNC_FAILS": number}, **SHARED)
+        fails = {"program": failing, "environment": {"FSYNC_FAILS": number}}
+        unsaved(run, "Input/output error", saved, "--shared", **fails, **SHARED)
 
 
 def not_restored(run, reason, saved, *options):
@@ -248,7 +250,8 @@ def not_restored(run, reason, saved, *options):
 
 
 def all_not_restored(run):
-    """Cut, changed, longer, no file, and of another machine. The last bytes are those of STATE, of END, 12, and of CHECK, 12."""
+    """Cut, changed, longer, no file, and of another machine. The last bytes are those of STATE, of END, 12, and
+    of CHECK, 12."""
     with run.new_case("a file that is spoiled"):
         whole = save(run).read_bytes()
         spoiled_file, size = run.work / "spoiled.saved", len(whole)
@@ -268,9 +271,9 @@ def all_not_restored(run):
 
 
 def standing(run, where, cancels=False):
-    """The target stands, from when it says this. The guest runs, or is paused for no longer than it may be. The operator
-    cancels the move where there is more in a round than the line holds. A target that stands before it has answered the
-    source's first frame has it say, while the guest runs, that the line is broken."""
+    """The target stands, from when it says this. The guest runs, or is paused for no longer than it may be. The
+    operator cancels the move where there is more in a round than the line holds. A target that stands before it
+    has answered the source's first frame has it say, while the guest runs, that the line is broken."""
     with run.new_case(f"a target that stands once it says '{where}'"):
         target = run.begin_target(pause=500)
         cut = run.begin_cut(target, "slow")

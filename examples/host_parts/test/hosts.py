@@ -1,7 +1,8 @@
-"""What `run` of both hypervisors shares: the programs that it builds, the processes that it begins and ends, and what it
-says of a case that is not as it should be. What a case begins ends with it, by its number.
+"""What `run` of both hypervisors shares: the programs that it builds, the processes that it begins and ends, and
+what it says of a case that is not as it should be. What a case begins ends with it, by its number.
 
-With TIMES in the environment it says how long each case took, and with FIRST it ends at the first thing that is wrong."""
+With TIMES in the environment it says how long each case took, and with FIRST it ends at the first thing that is
+wrong."""
 
 import concurrent.futures
 import contextlib
@@ -22,11 +23,19 @@ PARTS = pathlib.Path(__file__).resolve().parent.parent
 EXAMPLES = PARTS.parent
 INCLUDE = EXAMPLES.parent / "bindings/include"
 
-# How long a loaded machine may take; how long one that is told to end may take, which is a second where the machine is free; and how often to look.
+# How long a loaded machine may take; how long one that is told to end may take, which is a second where the machine
+# is free; and how often to look.
 WAIT_SECONDS, SOON_SECONDS, LOOK_SECONDS, TYPE_SECONDS = 120, 2, 0.02, 0.5
 
 DISK_SIZE = 65536
 SHARED = {"form": "--disk", "disk": "shared.disk"}
+
+
+def outcome_of(*words, check=False, **how):
+    """A command that has ended, with what it said."""
+    words = [str(word) for word in words]
+    how = {"stdin": subprocess.DEVNULL, "capture_output": True, "text": True, "errors": "replace", **how}
+    return subprocess.run(words, check=check, **how)
 
 
 class Over(Exception):
@@ -34,7 +43,8 @@ class Over(Exception):
 
 
 def archives_of(words):
-    """The library: what was named, or the one of a release that this is a part of, or that of this repository, built where a source has changed."""
+    """The library: what was named, or the one of a release that this is a part of, or that of this repository,
+    built where a source has changed."""
     if words:
         return words
     if not (EXAMPLES / "library").exists():
@@ -57,8 +67,9 @@ class Host:
                 resource.setrlimit(which, (most, most))
 
         with open(out or self.out, "wb") as stdout, open(self.err, "wb") as stderr:
-            self.process = subprocess.Popen([str(word) for word in words], stdin=subprocess.PIPE, stdout=stdout, stderr=stderr, bufsize=0,
-                                            preexec_fn=limit if limits else None, env={**os.environ, **(environment or {})})
+            self.process = subprocess.Popen(
+                [str(word) for word in words], stdin=subprocess.PIPE, stdout=stdout, stderr=stderr, bufsize=0,
+                preexec_fn=limit if limits else None, env={**os.environ, **(environment or {})})
 
     def says(self, text, where="err"):
         """Whether it printed what a regular expression finds."""
@@ -138,7 +149,8 @@ class Run:
         for host in self.hosts:
             for kept in (host.err, host.out):
                 if kept.exists():
-                    print(f"  {kept.name}: {' | '.join(kept.read_text(errors='replace').splitlines()[-5:])}", file=sys.stderr, flush=True)
+                    last = kept.read_text(errors="replace").splitlines()[-5:]
+                    print(f"  {kept.name}: {' | '.join(last)}", file=sys.stderr, flush=True)
         self.failures += 1
         if "FIRST" in os.environ:
             sys.exit(1)
@@ -189,8 +201,10 @@ class Run:
                 kept.unlink()
 
     def compile(self, name, *words):
-        """Compiles a program with the compiler and its options as CC and CFLAGS have them. Sources whose objects are there are not compiled again."""
-        options = ["-std=c11", "-pthread", "-Wall", "-Wextra", "-Werror", *shlex.split(os.environ.get("CFLAGS") or "-O2")]
+        """Compiles a program with the compiler and its options as CC and CFLAGS have them. Sources whose
+        objects are there are not compiled again."""
+        options = ["-std=c11", "-pthread", "-Wall", "-Wextra", "-Werror"]
+        options += shlex.split(os.environ.get("CFLAGS") or "-O2")
         options += [f"-I{folder}" for folder in (INCLUDE, self.here, PARTS)]
         words = [self.objects.get(word) or self.changed.get(word, word) for word in words]
         command = [os.environ.get("CC") or "cc", *options, *words, "-o", self.work / name]
@@ -212,11 +226,12 @@ class Run:
 
     def begin_echo(self):
         """The other end of the guest's wire."""
-        self.echo = Host(self, "echo", [self.work / "echo", f"{self.work}/peer,{self.work}/own"], out=self.work / "announced")
+        announced = self.work / "announced"
+        self.echo = Host(self, "echo", [self.work / "echo", f"{self.work}/peer,{self.work}/own"], out=announced)
+        self.echo.out = announced
 
     def compute_sum(self):
-        said = subprocess.run([self.here / "test/expected-sum", self.work / "first.disk"], stdout=subprocess.PIPE, text=True, check=True)
-        self.sum = said.stdout.strip()
+        self.sum = outcome_of(self.here / "test/expected-sum", self.work / "first.disk", check=True).stdout.strip()
 
     def compare_guest(self):
         """The guest's bytes are those of its source, where the compiler that made them is there."""
@@ -236,8 +251,9 @@ class Run:
 
     def begin(self, name, *options, program=None, form="--mapped", disk=None, net=None, pause=60000, before=(), **how):
         """Begins a hypervisor, with the disk of this name."""
-        words = [*before, program or self.program, "--mem", self.mib, form, self.work / (disk or f"{name}.disk"), "--net",
-                 net or f"{self.work}/own,{self.work}/peer", "--few", "0", "--rounds", "3", "--pause-ms", pause]
+        words = [*before, program or self.program, "--mem", self.mib, form, self.work / (disk or f"{name}.disk")]
+        words += ["--net", net or f"{self.work}/own,{self.work}/peer"]
+        words += ["--few", "0", "--rounds", "3", "--pause-ms", pause]
         return self.keep(Host(self, name, [*words, *options], **how))
 
     def make_disk(self, name):
@@ -293,7 +309,8 @@ class Run:
         return source, target
 
     def count_sums(self):
-        return sum(kept.read_text(errors="replace").count("guest: sum") for kept in {host.out for host in self.hosts} if kept.exists())
+        printed = {host.out for host in self.hosts if host.out.exists()}
+        return sum(kept.read_text(errors="replace").count("guest: sum") for kept in printed)
 
     def has_sum(self, host):
         """The sum was printed once, by this one, and is the right one."""
@@ -302,8 +319,9 @@ class Run:
             self.wrong("both ran")
 
     def ends_well(self, host):
-        """The byte that the guest waits for is typed at all hosts, and this one prints the sum, and no other does. It is typed again where nothing
-        comes of it: a guest resets its console now and then, and loses what it was given just before."""
+        """The byte that the guest waits for is typed at all hosts, and this one prints the sum, and no
+        other does. It is typed again where nothing comes of it: a guest resets its console now and then,
+        and loses what it was given just before."""
         end = time.monotonic() + WAIT_SECONDS
         typed = 0
         while host.lives() and time.monotonic() < end:
@@ -322,7 +340,6 @@ class Run:
     def misused(self, reason, *options):
         """The options or the kernel are wrong, which is said."""
         self.case = f"misused: {reason}"
-        words = [str(word) for word in (self.work / "hypervisor", *options)]
-        ended = subprocess.run(words, stdin=subprocess.DEVNULL, capture_output=True, text=True, errors="replace", check=False, timeout=WAIT_SECONDS)
+        ended = outcome_of(self.work / "hypervisor", *options, timeout=WAIT_SECONDS)
         if ended.returncode == 0 or not re.search(reason, ended.stdout + ended.stderr):
             self.wrong(f"it ended with {ended.returncode}, and said: {(ended.stdout + ended.stderr)[-300:]}")

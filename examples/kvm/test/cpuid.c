@@ -1,6 +1,7 @@
-/* Made-up processors. One has all bits in each leaf that Linux knows, and in leaves beyond: what a guest of it is offered is what Linux 6.1's KVM offers,
- * but for what is left out on purpose, and is written here apart from known.c, as numbers. Then guests that have a bit more than a host, of each kind,
- * are refused, and those that have other names, counts and sizes are taken. None of it needs a KVM. Where there is one, a host takes its own guest. */
+/* Made-up processors. One has all bits in each leaf that Linux knows, and in leaves beyond: what a guest of it is
+ * offered is what Linux 6.1's KVM offers, but for what is left out on purpose, and is written here apart from
+ * known.c, as numbers. Then guests that have a bit more than a host, of each kind, are refused, and those that have
+ * other names, counts and sizes are taken. None of it needs a KVM. Where there is one, a host takes its own guest. */
 #include <stdarg.h>
 #include <stdio.h>
 #include <stdlib.h>
@@ -53,10 +54,17 @@ enum { PARTS_COUNT = sizeof PARTS / sizeof *PARTS };
 static const struct {
     uint32_t leaf, index, words[4];
 } MADE[] = {
-    {0x0, 0, {0xd, ALL, ALL, ALL}}, {0x40000000, 0, {0x40000001, ALL, ALL, ALL}}, {0x80000000, 0, {0x80000021, ALL, ALL, ALL}},
-    {0x1, 0, {ALL, 0x0001ffff, 0xf7fa3203, 0x0f8bfbff}}, {0x4, 0, {0x3fff, ALL, ALL, ALL}}, {0x4, 4, {0x3fff, ALL, ALL, ALL}},
-    {0x7, 0, {2, 0xfdbf6ffb, 0x1b415f6e, 0xac81451c}}, {0x8000001d, 1, {0xfc003fff, ALL, ALL, ALL}},
-    {0xb, 0, {0, 1, 0x100, 0}}, {0xb, 1, {0, 1, 0x201, 0}}, {0xb, 2, {0, 0, 2, 0}},
+    {0x0, 0, {0xd, ALL, ALL, ALL}},
+    {0x40000000, 0, {0x40000001, ALL, ALL, ALL}},
+    {0x80000000, 0, {0x80000021, ALL, ALL, ALL}},
+    {0x1, 0, {ALL, 0x0001ffff, 0xf7fa3203, 0x0f8bfbff}},
+    {0x4, 0, {0x3fff, ALL, ALL, ALL}},
+    {0x4, 4, {0x3fff, ALL, ALL, ALL}},
+    {0x7, 0, {2, 0xfdbf6ffb, 0x1b415f6e, 0xac81451c}},
+    {0x8000001d, 1, {0xfc003fff, ALL, ALL, ALL}},
+    {0xb, 0, {0, 1, 0x100, 0}},
+    {0xb, 1, {0, 1, 0x201, 0}},
+    {0xb, 2, {0, 0, 2, 0}},
 };
 
 static int count_wrong;
@@ -73,7 +81,8 @@ void fail(const char *format, ...)
 
 static void wrong(const char *what, uint32_t leaf, uint32_t index, uint32_t name)
 {
-    if (count_wrong++ < WRONG_MAX) fprintf(stderr, "cpuid: %s: leaf 0x%x.%u, E%cX\n", what, (unsigned)leaf, (unsigned)index, "ABCD"[name]);
+    if (count_wrong++ < WRONG_MAX)
+        fprintf(stderr, "cpuid: %s: leaf 0x%x.%u, E%cX\n", what, (unsigned)leaf, (unsigned)index, "ABCD"[name]);
 }
 
 static uint32_t *word_of(struct kvm_cpuid_entry2 *e, uint32_t name)
@@ -143,12 +152,15 @@ static void look_at_offer(struct kvm_cpuid2 *offered)
         const struct row *row = row_of(e->function, e->index);
 
         for (uint32_t name = 0; name < 4; name++)
-            if (row == NULL || (*word_of(e, name) & ~row->values[name]) != row->features[name]) wrong("it is offered so", e->function, e->index, name);
+            if (row == NULL || (*word_of(e, name) & ~row->values[name]) != row->features[name])
+                wrong("it is offered so", e->function, e->index, name);
     }
-    for (size_t i = 0; i < sizeof ROWS / sizeof *ROWS; i++) entry_of(offered, ROWS[i].leaf, ROWS[i].index == EACH ? 0 : ROWS[i].index);
+    for (size_t i = 0; i < sizeof ROWS / sizeof *ROWS; i++)
+        entry_of(offered, ROWS[i].leaf, ROWS[i].index == EACH ? 0 : ROWS[i].index);
     for (size_t i = 0; i < sizeof MADE / sizeof *MADE; i++)
         for (uint32_t name = 0; name < 4; name++)
-            if (*word_of(entry_of(offered, MADE[i].leaf, MADE[i].index), name) != MADE[i].words[name]) wrong("it is not made so", MADE[i].leaf, MADE[i].index, name);
+            if (*word_of(entry_of(offered, MADE[i].leaf, MADE[i].index), name) != MADE[i].words[name])
+                wrong("it is not made so", MADE[i].leaf, MADE[i].index, name);
 }
 
 /* No leaf was missing. */
@@ -156,8 +168,10 @@ static void look_at_count(const struct kvm_cpuid2 *offered)
 {
     uint32_t count = PARTS_COUNT + 3 - 1;
 
-    for (size_t i = 0; i < sizeof ROWS / sizeof *ROWS; i++) count += ROWS[i].index == EACH && ROWS[i].leaf != 0xb ? INDICES : 1;
-    if (offered->nent != count) fail("cpuid: %u entries are offered, and not %u\n", (unsigned)offered->nent, (unsigned)count);
+    for (size_t i = 0; i < sizeof ROWS / sizeof *ROWS; i++)
+        count += ROWS[i].index == EACH && ROWS[i].leaf != 0xb ? INDICES : 1;
+    if (offered->nent != count)
+        fail("cpuid: %u entries are offered, and not %u\n", (unsigned)offered->nent, (unsigned)count);
 }
 
 /* Whether a guest that has these bits besides is taken. */
@@ -175,7 +189,8 @@ static int is_taken(const struct kvm_cpuid2 *here, uint32_t leaf, uint32_t index
 /* Names that are compared, and sizes. */
 static int is_compared(uint32_t leaf, uint32_t index, uint32_t name)
 {
-    return ((leaf == 0 || leaf == 0x40000000) && name > 0) || (leaf == 0xd && index > 1) || (leaf == 0x80000008 && name == 0);
+    return ((leaf == 0 || leaf == 0x40000000) && name > 0) || (leaf == 0xd && index > 1) ||
+           (leaf == 0x80000008 && name == 0);
 }
 
 /* A guest with a bit more than this host, of any register of any leaf. */
@@ -190,10 +205,12 @@ static void try_more(const struct kvm_cpuid2 *here, struct kvm_cpuid2 *leaves)
 
             for (uint32_t bit = 0; row != NULL && bit < 32; bit++) {
                 if (values >> bit & 1 || has >> bit & 1) continue;
-                if (is_taken(here, leaf, index, name, UINT32_C(1) << bit)) wrong("a bit more is taken", leaf, index, name);
+                if (is_taken(here, leaf, index, name, UINT32_C(1) << bit))
+                    wrong("a bit more is taken", leaf, index, name);
             }
             if (row == NULL && is_taken(here, leaf, index, name, ALL)) wrong("all bits are taken", leaf, index, name);
-            if (values != 0 && !is_compared(leaf, index, name) && !is_taken(here, leaf, index, name, values)) wrong("another value is refused", leaf, index, name);
+            if (values != 0 && !is_compared(leaf, index, name) && !is_taken(here, leaf, index, name, values))
+                wrong("another value is refused", leaf, index, name);
         }
     }
 }
@@ -211,7 +228,8 @@ static void try_less(const struct kvm_cpuid2 *guest)
             if (!(row->features[n / 32] >> n % 32 & 1)) continue;
             here = copy_of(guest);
             *word_of(&here->entries[i], n / 32) &= ~(UINT32_C(1) << n % 32);
-            if (cpuid_compare(guest, here) == NULL) wrong("a bit that the host lacks is taken", e->function, e->index, n / 32);
+            if (cpuid_compare(guest, here) == NULL)
+                wrong("a bit that the host lacks is taken", e->function, e->index, n / 32);
             free(here);
         }
     }
@@ -225,8 +243,10 @@ static void try_values(struct kvm_cpuid2 *here)
         if (is_taken(here, 0, 0, name, 1)) wrong("another maker is taken", 0, 0, name);
         if (is_taken(here, 0x40000000, 0, name, 1)) wrong("another hypervisor is taken", 0x40000000, 0, name);
     }
-    if (is_taken(here, 0x80000008, 0, 0, 0x1) || is_taken(here, 0x80000008, 0, 0, 0x100)) wrong("longer addresses are taken", 0x80000008, 0, 0);
-    if (!is_taken(here, 0x80000008, 0, 0, 0x2) || !is_taken(here, 0x80000008, 0, 0, 0x1000)) wrong("shorter addresses are refused", 0x80000008, 0, 0);
+    if (is_taken(here, 0x80000008, 0, 0, 0x1) || is_taken(here, 0x80000008, 0, 0, 0x100))
+        wrong("longer addresses are taken", 0x80000008, 0, 0);
+    if (!is_taken(here, 0x80000008, 0, 0, 0x2) || !is_taken(here, 0x80000008, 0, 0, 0x1000))
+        wrong("shorter addresses are refused", 0x80000008, 0, 0);
     for (size_t i = 0; i < PARTS_COUNT; i++)
         for (uint32_t name = 0; name < 3; name++)
             if (is_taken(here, 0xd, PARTS[i], name, 1)) wrong("another area of XSAVE is taken", 0xd, PARTS[i], name);
@@ -242,7 +262,8 @@ static void try_sizes(void)
     *entry_of(all, 0xd, 9) = (struct kvm_cpuid_entry2){0xd, 9, INDEXED, 0x8, 0xa80, 0, 0, {0}};
     *entry_of(all, 0xd, 18) = (struct kvm_cpuid_entry2){0xd, 18, INDEXED, 0x2000, 0xb00, 0, 0, {0}};
     cpuid_hide(all, 0);
-    if (all->nent != 3 || all->entries[0].eax != 0x2e7 || all->entries[0].ecx != 0xa88) wrong("its size is another one", 0xd, 0, 2);
+    if (all->nent != 3 || all->entries[0].eax != 0x2e7 || all->entries[0].ecx != 0xa88)
+        wrong("its size is another one", 0xd, 0, 2);
     free(all);
 }
 
@@ -252,13 +273,28 @@ static const struct {
     uint64_t here, guest;
     int is_taken;
 } TOLD[] = {
-    {0x10a, 0x0c0aa0eb, 0x0c0aa0eb, 1}, {0x10a, 0x0c0aa0eb, 0x0c0aa0ea, 1}, {0x10a, 0x0c0aa0ea, 0x0c0aa0eb, 0},   /* RDCL_NO */
-    {0x10a, 0, 0xffffffff, 0}, {0x10a, 0x0c08a0eb, 0x0c0aa0eb, 0}, {0x10a, 0xffffffff, UINT64_C(1) << 62, 0},     /* FB_CLEAR, ITS_NO */
-    {0x10a, 0x80000, 0, 0}, {0x10a, 0, 0x80000, 1}, {0x10a, 4, 0, 0}, {0x10a, 0, 4, 1},                           /* RRSBA, RSBA */
-    {0xce, 0, UINT64_C(1) << 31, 0}, {0xce, UINT64_C(1) << 31, 0, 1}, {0xce, 0x1900, 0x1a00, 1},
-    {0xc0011029, 0, 2, 0}, {0xc0011029, 2, 0, 1}, {0xc0011029, 2, 0x202, 0},
-    {0x8b, 1, UINT64_C(0x100000000), 1}, {0x345, 0, 0x33c5, 1}, {0x48c, 0, ~UINT64_C(0), 1},
-    {0x12345, 0, 1, 0}, {0x12345, 1, 1, 1}, {0x12345, 1, 3, 0},
+    {0x10a, 0x0c0aa0eb, 0x0c0aa0eb, 1},
+    {0x10a, 0x0c0aa0eb, 0x0c0aa0ea, 1},
+    {0x10a, 0x0c0aa0ea, 0x0c0aa0eb, 0}, /* RDCL_NO */
+    {0x10a, 0, 0xffffffff, 0},
+    {0x10a, 0x0c08a0eb, 0x0c0aa0eb, 0},
+    {0x10a, 0xffffffff, UINT64_C(1) << 62, 0}, /* FB_CLEAR, ITS_NO */
+    {0x10a, 0x80000, 0, 0},
+    {0x10a, 0, 0x80000, 1},
+    {0x10a, 4, 0, 0},
+    {0x10a, 0, 4, 1}, /* RRSBA, RSBA */
+    {0xce, 0, UINT64_C(1) << 31, 0},
+    {0xce, UINT64_C(1) << 31, 0, 1},
+    {0xce, 0x1900, 0x1a00, 1},
+    {0xc0011029, 0, 2, 0},
+    {0xc0011029, 2, 0, 1},
+    {0xc0011029, 2, 0x202, 0},
+    {0x8b, 1, UINT64_C(0x100000000), 1},
+    {0x345, 0, 0x33c5, 1},
+    {0x48c, 0, ~UINT64_C(0), 1},
+    {0x12345, 0, 1, 0},
+    {0x12345, 1, 1, 1},
+    {0x12345, 1, 3, 0},
 };
 
 static void try_features(void)
@@ -269,15 +305,18 @@ static void try_features(void)
         struct kvm_msr_entry guest[] = {{.index = 0x10, .data = 99}, {.index = TOLD[i].number, .data = TOLD[i].guest}};
 
         here.all[0] = (struct kvm_msr_entry){.index = TOLD[i].number, .data = TOLD[i].here};
-        if ((features_compare(guest + 1, 1, &here, 1) == NULL) != TOLD[i].is_taken) fail("cpuid: the MSR 0x%x: case %d is wrong\n", (unsigned)TOLD[i].number, (int)i);
-        if ((features_compare(guest, 2, &here, 0) == NULL) != TOLD[i].is_taken) fail("cpuid: the MSR 0x%x: case %d in a state is wrong\n", (unsigned)TOLD[i].number, (int)i);
+        if ((features_compare(guest + 1, 1, &here, 1) == NULL) != TOLD[i].is_taken)
+            fail("cpuid: the MSR 0x%x: case %d is wrong\n", (unsigned)TOLD[i].number, (int)i);
+        if ((features_compare(guest, 2, &here, 0) == NULL) != TOLD[i].is_taken)
+            fail("cpuid: the MSR 0x%x: case %d in a state is wrong\n", (unsigned)TOLD[i].number, (int)i);
         if (TOLD[i].here == 0 && (features_compare(guest + 1, 1, &none, 1) == NULL) != TOLD[i].is_taken)
             fail("cpuid: the MSR 0x%x: case %d is wrong where the host has none\n", (unsigned)TOLD[i].number, (int)i);
     }
     for (int bit = 0; bit < 64; bit++) {
         struct kvm_msr_entry guest = {.index = 0x10a, .data = UINT64_C(1) << bit};
 
-        if (bit != 2 && bit != 19 && features_compare(&guest, 1, &none, 1) == NULL) fail("cpuid: ARCH_CAPABILITIES, bit %d, is taken\n", bit);
+        if (bit != 2 && bit != 19 && features_compare(&guest, 1, &none, 1) == NULL)
+            fail("cpuid: ARCH_CAPABILITIES, bit %d, is taken\n", bit);
     }
 }
 

@@ -1,17 +1,31 @@
-/* A guest in ring 0 with tables of its own, which takes interrupts: those of its LAPIC's timer, and those of the entropy device, through the IOAPIC. It
- * waits in HLT, and asks for random bytes again and again; each answer has to come with an interrupt. Some ten times a second it prints what it counted,
- * its TSC, KVM's clock in nanoseconds, and a word that test/late.c writes, at the UART, until a byte comes there. */
+/* A guest in ring 0 with tables of its own, which takes interrupts: those of its LAPIC's timer, and those of the
+ * entropy device, through the IOAPIC. It waits in HLT, and asks for random bytes again and again; each answer has to
+ * come with an interrupt. Some ten times a second it prints what it counted, its TSC, KVM's clock in nanoseconds, and
+ * a word that test/late.c writes, at the UART, until a byte comes there. */
 #define ORDER "mfence"
 #include "../../hypervisor/guest/queue.h"
 
 enum { TIMER = 0x40, DEVICE = 0x50, VECTORS = 256, CODE = 8, GATE = 0x8e00, TICKS_A_LINE = 10, PATIENCE = 3000 };
-enum { UART = 0x3f8, LINE_STATUS = UART + 5, HAS_BYTE = 1, POWER = 0x604, POWER_OFF = 0x2000, FAILED = 0xf4, KVM_CLOCK = 0x4b564d01 };
-enum { WINDOWS = 8, WINDOW_SIZE = 0x1000, ENTROPY = 4, RANDOM = 16, LEVEL = 1 << 15, PERIODIC = 1 << 17, MASKED = 1 << 16, LATE_AT = 0x90000 };
+enum {
+    UART = 0x3f8, LINE_STATUS = UART + 5, HAS_BYTE = 1, POWER = 0x604, POWER_OFF = 0x2000, FAILED = 0xf4,
+    KVM_CLOCK = 0x4b564d01
+};
+enum {
+    WINDOWS = 8, WINDOW_SIZE = 0x1000, ENTROPY = 4, RANDOM = 16, LEVEL = 1 << 15, PERIODIC = 1 << 17, MASKED = 1
+    << 16, LATE_AT = 0x90000
+};
 
-/* Registers of a device, of the LAPIC and of the IOAPIC. The LAPIC's timer counts nanoseconds: ten milliseconds are a tick. */
-enum { DEVICE_ID = 0x008, FEATURES = 0x020, FEATURES_SELECT = 0x024, QUEUE_SELECT = 0x030, QUEUE_SIZE = 0x038, QUEUE_READY = 0x044,
-       NOTIFY = 0x050, INTERRUPT_STATUS = 0x060, INTERRUPT_ACK = 0x064, STATUS = 0x070, TABLE = 0x080, DRIVER_AREA = 0x090, DEVICE_AREA = 0x0a0 };
-enum { END_OF_INTERRUPT = 0xb0, SPURIOUS = 0xf0, LVT_TIMER = 0x320, LVT_LINE = 0x350, INITIAL_COUNT = 0x380, DIVIDE = 0x3e0, BY_ONE = 0xb, TICK = 10000000 };
+/* Registers of a device, of the LAPIC and of the IOAPIC. The LAPIC's timer counts nanoseconds: ten milliseconds are a
+ * tick. */
+enum {
+    DEVICE_ID = 0x008, FEATURES = 0x020, FEATURES_SELECT = 0x024, QUEUE_SELECT = 0x030, QUEUE_SIZE = 0x038,
+    QUEUE_READY = 0x044, NOTIFY = 0x050, INTERRUPT_STATUS = 0x060, INTERRUPT_ACK = 0x064, STATUS = 0x070,
+    TABLE = 0x080, DRIVER_AREA = 0x090, DEVICE_AREA = 0x0a0
+};
+enum {
+    END_OF_INTERRUPT = 0xb0, SPURIOUS = 0xf0, LVT_TIMER = 0x320, LVT_LINE = 0x350, INITIAL_COUNT = 0x380,
+    DIVIDE = 0x3e0, BY_ONE = 0xb, TICK = 10000000
+};
 
 #define WINDOWS_AT UINT64_C(0xd0000000)
 #define LAPIC_AT UINT64_C(0xfee00000)

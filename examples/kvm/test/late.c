@@ -1,5 +1,6 @@
-/* Linked into the hypervisor, it writes a page of RAM while the registers of the guest are read, as some kernels do: each KVM_GET_VCPU_EVENTS adds one to
- * the word at LATE_AT, and the next log has its page. A host that does not read the log once more after the registers loses it. */
+/* Linked into the hypervisor, it writes a page of RAM while the registers of the guest are read, as some kernels do:
+ * each KVM_GET_VCPU_EVENTS adds one to the word at LATE_AT, and the next log has its page. A host that does not read
+ * the log once more after the registers loses it. */
 #define _GNU_SOURCE
 #include <linux/kvm.h>
 #include <stdarg.h>

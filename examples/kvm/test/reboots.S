@@ -1,6 +1,6 @@
-# A guest in ring 3 that reboots again and again. It prints a dot at the UART, and writes pages one after another, of which each has to be zeros, as it
-# is after a reboot: else it prints an X. It takes its time, so that a move ends while some pages are not written anew: those that were sent before a
-# reboot have to come as zeros.
+# A guest in ring 3 that reboots again and again. It prints a dot at the UART, and writes pages one after another,
+# of which each has to be zeros, as it is after a reboot: else it prints an X. It takes its time, so that a move
+# ends while some pages are not written anew: those that were sent before a reboot have to come as zeros.
     .section .text.start, "ax"
     movl $0x3f8, %edx
     movb $'.', %al

@@ -1,7 +1,7 @@
-/* In place of boot.c: the kernel of --kernel is no Linux but a guest of the tests, in 64 bits from its first instruction
- * on. The small guest runs in ring 3, so also where a KVM runs ring 0 slowly or not at all; with -DRING=0 it is that of
- * interrupts.c, whose clock is far from that of a new one. RAM, the windows and the interrupt controllers have the
- * addresses that they have, by pages of 2 MiB, and ports are allowed. */
+/* In place of boot.c: the kernel of --kernel is no Linux but a guest of the tests, in 64 bits from its first
+ * instruction on. The small guest runs in ring 3, so also where a KVM runs ring 0 slowly or not at all; with -DRING=0
+ * it is that of interrupts.c, whose clock is far from that of a new one. RAM, the windows and the interrupt
+ * controllers have the addresses that they have, by pages of 2 MiB, and ports are allowed. */
 #define _DEFAULT_SOURCE
 #include <errno.h>
 #include <stdio.h>
@@ -24,7 +24,8 @@ enum { FLAGS = RING << 12 | 2, UNCACHED = 0x18 };
 
 static void map_identity(struct kvm *k)
 {
-    uint64_t *top = (uint64_t *)(void *)(k->ram + TOP), *middle = top + ENTRIES, *low = middle + ENTRIES, *window = low + ENTRIES;
+    uint64_t *top = (uint64_t *)(void *)(k->ram + TOP), *middle = top + ENTRIES, *low = middle + ENTRIES,
+             *window = low + ENTRIES;
 
     top[0] = MIDDLE | TABLE;
     middle[0] = LOW | TABLE;
@@ -43,7 +44,8 @@ static void set_clock(struct host *h)
     if (RING != 0 || clock_stop(&h->guest.kvm, clock) != NULL) return;
     clock->clock.clock += CLOCK;
     clock->tsc += CLOCK;
-    if (clock_start(&h->guest.kvm, clock) != NULL || clock_stop(&h->guest.kvm, &now) != NULL || !now.has_tsc || now.tsc < CLOCK)
+    if (clock_start(&h->guest.kvm, clock) != NULL || clock_stop(&h->guest.kvm, &now) != NULL || !now.has_tsc ||
+        now.tsc < CLOCK)
         say("skipped: the TSC of this host cannot be set");
 }
 
@@ -51,7 +53,8 @@ static void begin_in_ring(struct kvm *k)
 {
     struct kvm_sregs2 s;
     struct kvm_regs r = {.rip = START, .rsp = STACK, .rflags = FLAGS};
-    struct kvm_segment all = {.limit = UINT32_MAX, .selector = CODE, .present = 1, .type = 11, .dpl = RING, .s = 1, .l = 1, .g = 1};
+    struct kvm_segment all = {
+        .limit = UINT32_MAX, .selector = CODE, .present = 1, .type = 11, .dpl = RING, .s = 1, .l = 1, .g = 1};
 
     if (kvm_call(k->cpu, KVM_GET_SREGS2, &s) < 0) fail("%s", kvm_reason("KVM_GET_SREGS2"));
     s.cr3 = TOP;
