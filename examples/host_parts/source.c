@@ -206,12 +206,17 @@ static int is_enough(struct host *h, uint64_t left)
     return left <= h->options.few || m->round >= h->options.rounds || m->stalls == STALLS_MAX;
 }
 
-/* All that waits in the machine goes over the line. */
+/* All that waits in the machine goes over the line. A line that takes all at once waits for nothing, so that the pause
+ * is over is looked at here too: the work between two pieces may take long where the processors have more to do. A
+ * file has no such bound. */
 static const char *send_waiting(struct host *h)
 {
-    do
-        if (!line_finish(&h->move.line)) return why_not(h);
-    while (begin_stream(h));
+    struct line *l = &h->move.line;
+
+    do {
+        if (!line_finish(l)) return why_not(h);
+        if (!l->is_file && clock_nanoseconds() >= l->until) return TOO_LONG;
+    } while (begin_stream(h));
     return NULL;
 }
 
