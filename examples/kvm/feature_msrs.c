@@ -16,23 +16,24 @@ enum {
 /* What is known of them. All other bits of all registers are features: one that the guest has this host has to have.
  * - `no_features` are bits that are numbers, or belong to what no guest is offered.
  * - `worse` are bits that say what is not so good: a guest without one does not land where it is.
+ * - `always` are bits that each KVM has, also where it does not list the register, as old ones do not.
  * - `names` are those of the bits, from the lowest on. */
 static const struct {
     uint32_t from, to;
-    uint64_t no_features, worse;
+    uint64_t no_features, worse, always;
     const char *names;
 } KNOWN[] = {
-    {ARCH_CAPABILITIES, ARCH_CAPABILITIES, 0, BIT(2) | BIT(19),
+    {ARCH_CAPABILITIES, ARCH_CAPABILITIES, 0, BIT(2) | BIT(19), 0,
      "rdcl_no ibrs_all rsba skip_vmentry_l1dflush ssb_no mds_no pschange_mc_no tsx_ctrl "
      "taa_no - misc_package_ctrls - - sbdr_ssdp_no fbsdp_no psdp_no "
      "- fb_clear fb_clear_ctrl rrsba bhi_no xapic_disable - - "
      "pbrsb_no gds_ctrl gds_no rfds_no rfds_clear - - -"},
-    {PLATFORM_INFO, PLATFORM_INFO, UINT64_C(0xff000000ff00), 0,   /* ratios of frequencies */
+    {PLATFORM_INFO, PLATFORM_INFO, UINT64_C(0xff000000ff00), 0, BIT(31),   /* ratios of frequencies */
      "- - - - - - - - - - - - - - - - - - - - - - - - - - - - - - - cpuid_fault"},
-    {UCODE_REV, UCODE_REV, ALL, 0, NULL},                         /* a version, which the guest keeps */
-    {PERF_CAPABILITIES, PERF_CAPABILITIES, ALL, 0, NULL},         /* of counters: no guest can read it */
-    {0x480, 0x491, ALL, 0, NULL},                                 /* of VMX: likewise */
-    {DE_CFG, DE_CFG, 0, 0, "- lfence_rdtsc"},
+    {UCODE_REV, UCODE_REV, ALL, 0, 0, NULL},                         /* a version, which the guest keeps */
+    {PERF_CAPABILITIES, PERF_CAPABILITIES, ALL, 0, 0, NULL},         /* of counters: no guest can read it */
+    {0x480, 0x491, ALL, 0, 0, NULL},                                 /* of VMX: likewise */
+    {DE_CFG, DE_CFG, 0, 0, 0, "- lfence_rdtsc"},
 };
 
 enum { KNOWN_COUNT = sizeof KNOWN / sizeof *KNOWN };
@@ -73,11 +74,19 @@ static const char *reason_of(const char *what, uint32_t number, uint64_t bits)
     return reason;
 }
 
+/* What this host has of a register. */
+static uint64_t has_of(const struct features *here, uint32_t number)
+{
+    const struct kvm_msr_entry *entry = entry_of(here, number);
+    size_t row = row_of(number);
+
+    return (entry == NULL ? 0 : entry->data) | (row < KNOWN_COUNT ? KNOWN[row].always : 0);
+}
+
 static const char *compare_one(const struct kvm_msr_entry *guest, const struct features *here)
 {
     size_t row = row_of(guest->index);
-    const struct kvm_msr_entry *entry = entry_of(here, guest->index);
-    uint64_t worse = row < KNOWN_COUNT ? KNOWN[row].worse : 0, has = entry == NULL ? 0 : entry->data;
+    uint64_t worse = row < KNOWN_COUNT ? KNOWN[row].worse : 0, has = has_of(here, guest->index);
     uint64_t lacks = guest->data & ~has & ~worse & ~no_features_of(guest->index), new = has & ~guest->data & worse;
 
     if (lacks != 0) return reason_of("this host lacks what the guest was told", guest->index, lacks);

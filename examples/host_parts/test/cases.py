@@ -68,7 +68,7 @@ def all_untaken(run):
     untaken(run, "File exists", lambda folder: (folder / "own").mkdir())
     # The target has no right to give its wire the name. Root has none either, without its capabilities.
     probe = run.work / "no-right"
-    probe.mkdir(mode=0o555)
+    probe.mkdir(mode=0o555, exist_ok=True)
     before = ["setpriv", "--bounding-set=-all"] if os.geteuid() == 0 else []
     can_be = (not before or shutil.which(before[0])) and outcome_of(*before, "true").returncode == 0
     if not can_be or outcome_of(*before, "mkdir", probe / "own").returncode == 0:

@@ -131,13 +131,22 @@ static void level(struct whole_state *all)
         if (all->msrs[i].index == TSC) all->msrs[i].data = 0;
 }
 
+static const char *name_of_msr(const struct kvm_msr_entry *entry)
+{
+    static char name[60];
+
+    snprintf(name, sizeof name, "KVM_SET_MSRS: 0x%x", (unsigned)entry->index);
+    return name;
+}
+
 /* The first part in which two states differ, or NULL. */
 static const char *difference(const struct whole_state *one, const struct whole_state *other)
 {
     const uint8_t *a = (const uint8_t *)&one->state, *b = (const uint8_t *)&other->state;
 
     if (memcmp(one->xsave, other->xsave, one->state.xsave_size) != 0) return "KVM_SET_XSAVE";
-    if (memcmp(one->msrs, other->msrs, one->state.count_msrs * sizeof *one->msrs) != 0) return "KVM_SET_MSRS";
+    for (uint32_t i = 0; i < one->state.count_msrs; i++)
+        if (memcmp(&one->msrs[i], &other->msrs[i], sizeof *one->msrs) != 0) return name_of_msr(&one->msrs[i]);
     for (int i = 0; i < PARTS; i++) {
         size_t end = sizeof(struct state);
 
