@@ -18,7 +18,8 @@ enum {
     LENGTH = 2 * MIB, CHANGED = 200, DEADLINE = 0x6e0, TSC = 0x10, KERNEL_GS = 0xc0000102, A_CLOCK_S = 5,
     WRONG_MAX = 20
 };
-enum { ARCH_CAPABILITIES = 0x10a, COUNTER_OF_INTEL = 0x186, COUNTER_OF_AMD = 0xc0010000, PIN = 5, SELECTS = 0x530076 };
+enum { HYPERV_COUNT = 0x40000020, ARCH_CAPABILITIES = 0x10a, COUNTER_OF_INTEL = 0x186, COUNTER_OF_AMD = 0xc0010000 };
+enum { PIN = 5, SELECTS = 0x530076 };
 enum {
     PAUSE_NS = 200000000, MILLION = 1000000, XMM0 = 160, XSTATE_BV = 512, LVT_TIMER = 0x320, SPURIOUS = 0xf0,
     REQUESTS = 0x200, VECTOR = 0x61
@@ -128,7 +129,7 @@ static void level(struct whole_state *all)
     s->clock = (struct kvm_clock_data){.clock = s->clock.clock / 1000000000 / A_CLOCK_S};
     s->tsc = 0;
     for (uint32_t i = 0; i < s->count_msrs; i++)
-        if (all->msrs[i].index == TSC) all->msrs[i].data = 0;
+        if (all->msrs[i].index == TSC || all->msrs[i].index == HYPERV_COUNT) all->msrs[i].data = 0;
 }
 
 static const char *name_of_msr(const struct kvm_msr_entry *entry)
