@@ -91,11 +91,13 @@ static void take_frames(struct host *h)
     if (h->wire < 0) return;
     int hears = is_driven(h, (unsigned)h->devices.network);
     for (int i = 0; i < FRAMES_A_TURN; i++) {
-        if (h->frame_length == 0) h->frame_length = network_receive(h->wire, h->frame, devices_longest_frame(&h->devices));
+        if (h->frame_length == 0)
+            h->frame_length = network_receive(h->wire, h->frame, devices_longest_frame(&h->devices));
         if (h->frame_length == 0) return;
         if (hears) must(vmig_room(&h->machine, (uint8_t)h->devices.network, &room), "vmig_room");
         if (hears && room == 0) return;
-        if (hears && vmig_input(&h->machine, (uint8_t)h->devices.network, h->frame, h->frame_length, &kept) == VMIG_BAD_FRAME)
+        if (hears &&
+            vmig_input(&h->machine, (uint8_t)h->devices.network, h->frame, h->frame_length, &kept) == VMIG_BAD_FRAME)
             say("a frame of %zu bytes is dropped", h->frame_length);
         h->frame_length = 0;
         h->steps_wait = 1;

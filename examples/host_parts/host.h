@@ -67,7 +67,7 @@ struct host {
     struct typed typed;
     vmig_turn work;              /* the devices' turn */
     uint32_t lines;              /* of the devices, as they were read last */
-    int steps_wait;              /* perhaps a step has something to do: after a write, an input and a turn that did not do all */
+    int steps_wait; /* perhaps a step has something to do: after a write, an input and a turn that did not do all */
     int input_waits;
     int console_is_held;         /* a message of the console waits in the guest's queue for room in standard output */
     int wire;                    /* of the network device, or -1 */

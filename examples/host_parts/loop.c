@@ -1,5 +1,5 @@
-/* The loop: the guest runs on RAM that is lent to it, and what it comes out for is done, with RAM lent or taken back. docs/hosts/kvm.md
- * quotes it. */
+/* The loop: the guest runs on RAM that is lent to it, and what it comes out for is done, with RAM lent or taken back.
+ * docs/hosts/kvm.md quotes it. */
 #include "host.h"
 #include "output.h"
 #include "say.h"
@@ -9,8 +9,8 @@
  * message. */
 enum { STEPS_A_TURN = 1000, MESSAGES = 1 };
 
-/* A driver that resets its device waits in its access until what the device asked of its disk is answered. RAM stays lent meanwhile: no other processor
- * of a guest would have to come out. */
+/* A driver that resets its device waits in its access until what the device asked of its disk is answered. RAM stays
+ * lent meanwhile: no other processor of a guest would have to come out. */
 static vmig_status write_register(struct host *h, uint8_t dev, uint32_t off, uint32_t *byte)
 {
     const struct touched *a = &h->touched;
@@ -39,9 +39,9 @@ static void access_register(struct host *h)
     h->statistics.accesses++;
 }
 
-/* Before a reboot, with RAM lent: what the guest boots from is loaded anew. False where it cannot be, and the guest ends:
- * one that was moved here without --kernel has no image here, and a disk that is lost would be used by one that does
- * not know. */
+/* Before a reboot, with RAM lent: what the guest boots from is loaded anew. False where it cannot be, and the guest
+ * ends: one that was moved here without --kernel has no image here, and a disk that is lost would be used by one that
+ * does not know. */
 static int load_again(struct host *h)
 {
     vmig_description found;
@@ -67,9 +67,9 @@ static void reboot(struct host *h)
     h->reboots = 0;
 }
 
-/* Makes the step that was passed over: it makes a flush, or ends a write that its driver then takes for durable, so the disk is brought to its
- * file before. Where that fails the disk is lost: the guest's flush ends with an error, now and later. Such a write cannot fail any more, and
- * does not end: the guest ends. */
+/* Makes the step that was passed over: it makes a flush, or ends a write that its driver then takes for durable, so
+ * the disk is brought to its file before. Where that fails the disk is lost: the guest's flush ends with an error,
+ * now and later. Such a write cannot fail any more, and does not end: the guest ends. */
 static vmig_status sync_and_step(struct host *h, uint8_t *sent, size_t size)
 {
     vmig_turn *t = &h->work;
@@ -142,8 +142,9 @@ static int has_work(const struct host *h)
     return vmig_next(&h->machine, &dev, &pick) != VMIG_IDLE;
 }
 
-/* The devices do their work, in turn from where they were, with RAM taken back. What is more than a turn has waits for the next one, which
- * begins after the last step, and behind one that was refused memory: so none keeps the others waiting. Then disks are asked what they want. */
+/* The devices do their work, in turn from where they were, with RAM taken back. What is more than a turn has waits
+ * for the next one, which begins after the last step, and behind one that was refused memory: so none keeps the
+ * others waiting. Then disks are asked what they want. */
 static void do_work(struct host *h)
 {
     static uint8_t sent[VMIG_SENT_MAX];
@@ -165,8 +166,9 @@ static void do_work(struct host *h)
     if (vmig_refused(status)) fail("a turn of the devices: %s", vmig_status_name(status));
 }
 
-/* One turn. The guest runs on RAM that is lent to it until it comes out. What it came out for and what waits is done while RAM is lent; only
- * steps and parts of a move take it back. The guest is outside from then on, so one look at the lines at the end is enough. */
+/* One turn. The guest runs on RAM that is lent to it until it comes out. What it came out for and what waits is done
+ * while RAM is lent; only steps and parts of a move take it back. The guest is outside from then on, so one look at
+ * the lines at the end is enough. */
 static void turn(struct host *h)
 {
     int is_answered = run_guest(h);

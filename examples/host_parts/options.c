@@ -84,7 +84,8 @@ static void compare(const struct options *o)
     if (o->net != NULL && strchr(o->net, ',') == NULL) misused("it is OWN,PEER: two sockets", "--net");
     if (o->net == NULL && o->mtu != 0) misused("it belongs to --net", "--mtu");
     for (unsigned i = 0; i < o->count_disks; i++)
-        if (o->is_shared && o->disks[i].is_mapped) misused("a disk that is mapped moves in the stream, and cannot be shared", "--mapped");
+        if (o->is_shared && o->disks[i].is_mapped)
+            misused("a disk that is mapped moves in the stream, and cannot be shared", "--mapped");
 }
 
 void options_read(struct options *o, int count, char **words)

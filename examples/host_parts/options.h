@@ -8,7 +8,8 @@
 /* A board has a console, an entropy device, and as many disks as windows are left beside them and a network device. */
 enum { DISKS_MAX = WINDOWS - 3 };
 
-/* A disk: its file, and whether it is mapped into the memory of the program. Else the guest's requests are read and written as they come. */
+/* A disk: its file, and whether it is mapped into the memory of the program. Else the guest's requests are read and
+ * written as they come. */
 struct disk_option {
     const char *name;
     int is_mapped;

@@ -37,7 +37,8 @@ static struct slot *find(struct pool *p, enum slot_state state, const struct dis
     for (unsigned i = 0; i < p->count_slots; i++) {
         struct slot *s = &p->slots[i];
 
-        if (s->state == state && (disk == NULL || s->disk == disk) && (found == NULL || s->turn < found->turn)) found = s;
+        if (s->state == state && (disk == NULL || s->disk == disk) && (found == NULL || s->turn < found->turn))
+            found = s;
     }
     return found;
 }
@@ -87,7 +88,8 @@ static void *work(void *of)
 
 const char *pool_begin(struct pool *p)
 {
-    *p = (struct pool){.lock = PTHREAD_MUTEX_INITIALIZER, .has_work = PTHREAD_COND_INITIALIZER, .has_done = PTHREAD_COND_INITIALIZER};
+    *p = (struct pool){
+        .lock = PTHREAD_MUTEX_INITIALIZER, .has_work = PTHREAD_COND_INITIALIZER, .has_done = PTHREAD_COND_INITIALIZER};
     p->bell = eventfd(0, EFD_CLOEXEC | EFD_NONBLOCK);
     return p->bell < 0 ? "there is no bell for the requests of disks" : NULL;
 }

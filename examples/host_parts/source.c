@@ -128,7 +128,8 @@ static const char *begin_move(struct host *h)
 
     operator_words.moves = operator_words.continues = 0;
     if (h->options.connect == NULL && h->options.save == NULL) return "there is no --connect to move to, and no --save";
-    if (devices_ask(&h->devices) && !h->options.is_shared) return "a disk of --disk is in no stream: it moves with --shared alone";
+    if (devices_ask(&h->devices) && !h->options.is_shared)
+        return "a disk of --disk is in no stream: it moves with --shared alone";
     m->is_on = 1;
     m->has_met = m->is_sending = m->is_stopped = 0;
     m->is_carried = m->is_broken = 0;
@@ -205,12 +206,17 @@ static int is_enough(struct host *h, uint64_t left)
     return left <= h->options.few || m->round >= h->options.rounds || m->stalls == STALLS_MAX;
 }
 
-/* All that waits in the machine goes over the line. */
+/* All that waits in the machine goes over the line. A line that takes all at once waits for nothing, so that the pause
+ * is over is looked at here too: the work between two pieces may take long where the processors have more to do. A
+ * file has no such bound. */
 static const char *send_waiting(struct host *h)
 {
-    do
-        if (!line_finish(&h->move.line)) return why_not(h);
-    while (begin_stream(h));
+    struct line *l = &h->move.line;
+
+    do {
+        if (!line_finish(l)) return why_not(h);
+        if (!l->is_file && clock_nanoseconds() >= l->until) return TOO_LONG;
+    } while (begin_stream(h));
     return NULL;
 }
 
@@ -316,8 +322,11 @@ static int continue_here(struct host *h, const char *why)
 /* The last word was sent, and the target did not answer that the guest runs. Only the operator can know. */
 static int keep(struct host *h)
 {
-    say("move: the line broke after the last word was sent: the guest is paused here, and perhaps runs at %s", h->options.connect);
-    h->move.is_on = ask_operator("move: if it does not run there, SIGUSR2 or Ctrl-A c continues it here; else end this program") && take_back(h);
+    say("move: the line broke after the last word was sent: the guest is paused here, and perhaps runs at %s",
+        h->options.connect);
+    h->move.is_on =
+        ask_operator("move: if it does not run there, SIGUSR2 or Ctrl-A c continues it here; else end this program") &&
+        take_back(h);
     if (!h->move.is_on) return 0;
     announce(h);
     return continue_here(h, "by the word of the operator");
@@ -454,8 +463,8 @@ static int end_round(struct host *h)
     if (why != NULL) return give_up(h, why);
     must(vmig_send_left(&h->machine, &found), "vmig_send_left");
     left = found.dirty_pages + found.dirty_sectors;
-    say("move: round %u sent %llu pages and %llu sectors; %llu are left", h->move.round, (unsigned long long)h->move.pages,
-        (unsigned long long)h->move.sectors, (unsigned long long)left);
+    say("move: round %u sent %llu pages and %llu sectors; %llu are left", h->move.round,
+        (unsigned long long)h->move.pages, (unsigned long long)h->move.sectors, (unsigned long long)left);
     if (is_enough(h, left)) {
         say("move: the guest is paused: %llu pages and %llu sectors are left", (unsigned long long)found.dirty_pages,
             (unsigned long long)found.dirty_sectors);

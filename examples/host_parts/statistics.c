@@ -32,8 +32,10 @@ void print_statistics(const struct host *h)
     if (!h->options.stats) return;
     say("%.3f s, of which the guest waited %.3f", all, waited);
     print_guest_statistics(h, works);
-    say("%llu accesses to registers, %llu steps of devices, %llu loans of RAM", (unsigned long long)s->accesses, (unsigned long long)s->steps,
-        (unsigned long long)s->loans);
-    if (h->has_pool) say("%llu calls of disks, %.3f s in the storage, of all threads", (unsigned long long)s->calls, (double)h->pool.nanoseconds / 1e9);
+    say("%llu accesses to registers, %llu steps of devices, %llu loans of RAM", (unsigned long long)s->accesses,
+        (unsigned long long)s->steps, (unsigned long long)s->loans);
+    if (h->has_pool)
+        say("%llu calls of disks, %.3f s in the storage, of all threads", (unsigned long long)s->calls,
+            (double)h->pool.nanoseconds / 1e9);
     say("%.3f s in the library with the bytes that it moves: %.1f percent", library, 100 * library / works);
 }

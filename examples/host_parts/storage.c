@@ -38,8 +38,8 @@ static const char *name_of(const vmig_call *call)
     }
 }
 
-/* A disk failed, and --disk-errors says that the guest stops. The operator may mend the storage, and have it tried again. A sync that failed is
- * for good, and there is nothing to try. */
+/* A disk failed, and --disk-errors says that the guest stops. The operator may mend the storage, and have it tried
+ * again. A sync that failed is for good, and there is nothing to try. */
 static int is_tried_again(struct host *h, const struct slot *s)
 {
     int is_meant;
@@ -64,7 +64,8 @@ static void let_fail(struct host *h, struct slot *s)
 static void answer_failed(struct host *h, struct slot *s)
 {
     if (!s->disk->is_told || h->options.stops_on_error)
-        say("%s: %s of %u sectors at %llu failed: %s", s->disk->name, name_of(&s->call), s->call.count, (unsigned long long)s->call.first, strerror(s->error));
+        say("%s: %s of %u sectors at %llu failed: %s", s->disk->name, name_of(&s->call), s->call.count,
+            (unsigned long long)s->call.first, strerror(s->error));
     s->disk->is_told = 1;
     if (is_tried_again(h, s)) pool_submit(&h->pool, s);
     else let_fail(h, s);
@@ -77,12 +78,15 @@ static void answer_done(struct host *h, struct slot *s)
     uint32_t count = s->call.what == VMIG_DISK_FLUSH ? 0 : s->count;
 
     if (is_read) take_ram(h);
-    must(vmig_disk_done(&h->machine, s->call.number, count, is_read ? s->bytes : NULL, is_read ? (size_t)count * SECTOR : 0), "vmig_disk_done");
+    must(vmig_disk_done(&h->machine, s->call.number, count, is_read ? s->bytes : NULL,
+                        is_read ? (size_t)count * SECTOR : 0),
+         "vmig_disk_done");
     h->statistics.calls++;
     pool_release(&h->pool, s);
 }
 
-/* A sync that fails is of a thread of the pool. From here on nothing of this disk is told durable, also what came before it and was not told. */
+/* A sync that fails is of a thread of the pool. From here on nothing of this disk is told durable, also what came
+ * before it and was not told. */
 void storage_tell_lost(struct host *h)
 {
     uint32_t lost = devices_lost(&h->devices);

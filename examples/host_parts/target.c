@@ -193,7 +193,8 @@ __attribute__((noreturn)) static void refuse(struct host *h, const char *why)
 static void keep(void)
 {
     say("move: the line broke before the source's last word: the guest is whole here, but does not run");
-    if (!ask_operator("move: if it does not run at the source either, SIGUSR2 or Ctrl-A c starts it here; else end this program"))
+    if (!ask_operator(
+            "move: if it does not run at the source either, SIGUSR2 or Ctrl-A c starts it here; else end this program"))
         fail("ended by its operator: the guest does not run here");
     say("move: by the word of the operator the guest runs here");
 }

@@ -13,7 +13,8 @@ static void print(uint64_t byte)
 static uint32_t read_device(struct host *h, uint64_t address, unsigned width)
 {
     if (lies_in(address, UART_AT, UART_SIZE)) return uart_read(&h->uart, &h->typed, address - UART_AT);
-    if (lies_in(address, PLIC_AT, PLIC_SIZE) && width == 4) return interrupts_read(&h->guest.interrupts, address - PLIC_AT);
+    if (lies_in(address, PLIC_AT, PLIC_SIZE) && width == 4)
+        return interrupts_read(&h->guest.interrupts, address - PLIC_AT);
     return 0;
 }
 
@@ -44,8 +45,10 @@ int board_answers(struct host *h)
 {
     struct guest_exit *exit = &h->guest.processor.exit;
 
-    if ((exit->kind == EXIT_READ || exit->kind == EXIT_WRITE) && lies_in(exit->address, WINDOWS_AT, WINDOWS * WINDOW_SIZE)) {
-        h->touched = (struct touched){exit->address - WINDOWS_AT, (uint32_t)exit->value, exit->width, exit->kind == EXIT_WRITE};
+    if ((exit->kind == EXIT_READ || exit->kind == EXIT_WRITE) &&
+        lies_in(exit->address, WINDOWS_AT, WINDOWS * WINDOW_SIZE)) {
+        h->touched =
+            (struct touched){exit->address - WINDOWS_AT, (uint32_t)exit->value, exit->width, exit->kind == EXIT_WRITE};
         return 0;
     }
     switch (exit->kind) {

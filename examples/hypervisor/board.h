@@ -41,7 +41,8 @@ static inline int lies_in(uint64_t address, uint64_t start, uint64_t size)
     return address - start < size;
 }
 
-/* Whether an access of `width` bytes is one to a device. RAM comes before all that overlaps it. No register has eight bytes. */
+/* Whether an access of `width` bytes is one to a device. RAM comes before all that overlaps it. No register has eight
+ * bytes. */
 static inline int is_device(uint64_t address, unsigned width)
 {
     if (width > 4 || address % width != 0) return 0;

@@ -27,16 +27,18 @@ static uint32_t branch(uint32_t function, uint32_t rs1, uint32_t half)
     uint32_t offset = bits(half, 10, 2) << 3 | bits(half, 5, 2) << 6 | bits(half, 3, 2) << 1 | bits(half, 2, 1) << 5 |
                       bits(half, 12, 1) * 0x1f00;
 
-    return 0x63 | bits(offset, 11, 1) << 7 | bits(offset, 1, 4) << 8 | function << 12 | rs1 << 15 | bits(offset, 5, 6) << 25 |
-           bits(offset, 12, 1) << 31;
+    return 0x63 | bits(offset, 11, 1) << 7 | bits(offset, 1, 4) << 8 | function << 12 | rs1 << 15 |
+           bits(offset, 5, 6) << 25 | bits(offset, 12, 1) << 31;
 }
 
 static uint32_t jump(uint32_t half)
 {
     uint32_t offset = bits(half, 11, 1) << 4 | bits(half, 9, 2) << 8 | bits(half, 8, 1) << 10 | bits(half, 7, 1) << 6 |
-                      bits(half, 6, 1) << 7 | bits(half, 3, 3) << 1 | bits(half, 2, 1) << 5 | bits(half, 12, 1) * 0x1ff800;
+                      bits(half, 6, 1) << 7 | bits(half, 3, 3) << 1 | bits(half, 2, 1) << 5 |
+                      bits(half, 12, 1) * 0x1ff800;
 
-    return 0x6f | bits(offset, 12, 8) << 12 | bits(offset, 11, 1) << 20 | bits(offset, 1, 10) << 21 | bits(offset, 20, 1) << 31;
+    return 0x6f | bits(offset, 12, 8) << 12 | bits(offset, 11, 1) << 20 | bits(offset, 1, 10) << 21 |
+           bits(offset, 20, 1) << 31;
 }
 
 /* The immediate of six bits that most instructions have, with its sign. */

@@ -2,8 +2,9 @@
 #include "memory.h"
 
 enum csr {
-    CSR_SSTATUS = 0x100, CSR_SIE = 0x104, CSR_STVEC = 0x105, CSR_SCOUNTEREN = 0x106, CSR_SSCRATCH = 0x140, CSR_SEPC = 0x141,
-    CSR_SCAUSE = 0x142, CSR_STVAL = 0x143, CSR_SIP = 0x144, CSR_SATP = 0x180, CSR_CYCLE = 0xc00, CSR_TIME = 0xc01, CSR_INSTRET = 0xc02
+    CSR_SSTATUS = 0x100, CSR_SIE = 0x104, CSR_STVEC = 0x105, CSR_SCOUNTEREN = 0x106, CSR_SSCRATCH = 0x140,
+    CSR_SEPC = 0x141, CSR_SCAUSE = 0x142, CSR_STVAL = 0x143, CSR_SIP = 0x144, CSR_SATP = 0x180, CSR_CYCLE = 0xc00,
+    CSR_TIME = 0xc01, CSR_INSTRET = 0xc02
 };
 
 /* The cause of an interrupt has its highest bit set. */
@@ -73,7 +74,8 @@ static void return_from_trap(struct processor *p)
 /* Reads a CSR. False where there is none that this mode may read. */
 static int read_csr(const struct processor *p, unsigned csr, uint64_t *value)
 {
-    if (p->mode == USER && (csr < CSR_CYCLE || csr > CSR_INSTRET || !(p->scounteren >> (csr - CSR_CYCLE) & 1))) return 0;
+    if (p->mode == USER && (csr < CSR_CYCLE || csr > CSR_INSTRET || !(p->scounteren >> (csr - CSR_CYCLE) & 1)))
+        return 0;
     switch (csr) {
     case CSR_SSTATUS: *value = p->sstatus | STATUS_UXL; return 1;
     case CSR_SIE: *value = p->sie; return 1;
@@ -127,7 +129,8 @@ static int write_csr(struct processor *p, unsigned csr, uint64_t value)
     }
 }
 
-/* CSRRW, CSRRS and CSRRC, with a register, or with its number as the operand. The latter two do not write where it is x0 or 0. */
+/* CSRRW, CSRRS and CSRRC, with a register, or with its number as the operand. The latter two do not write where it is
+ * x0 or 0. */
 static void access_csr(struct processor *p, uint32_t word)
 {
     unsigned csr = word >> 20, function = word >> 12 & 3, source = word >> 15 & 31;

@@ -1,8 +1,10 @@
-/* What firmware does for a guest in supervisor mode (SBI): the base extension, the timer, the reset, and the console of the legacy
- * extensions. a7 names the extension and a6 the function; a0 has the error, and a1 the value. */
+/* What firmware does for a guest in supervisor mode (SBI): the base extension, the timer, the reset, and the console
+ * of the legacy extensions. a7 names the extension and a6 the function; a0 has the error, and a1 the value. */
 #include "processor.h"
 
-enum extension { OLD_TIMER = 0, OLD_PRINT = 1, OLD_TYPED = 2, OLD_OFF = 8, BASE = 0x10, TIMER = 0x54494d45, RESET = 0x53525354 };
+enum extension {
+    OLD_TIMER = 0, OLD_PRINT = 1, OLD_TYPED = 2, OLD_OFF = 8, BASE = 0x10, TIMER = 0x54494d45, RESET = 0x53525354
+};
 enum { A0 = 10, A1 = 11, A6 = 16, A7 = 17 };
 
 #define NOT_SUPPORTED (UINT64_MAX - 1)
@@ -16,7 +18,8 @@ static void set_timer(struct processor *p, uint64_t time)
 
 static int has_extension(uint64_t extension)
 {
-    return extension <= OLD_TYPED || extension == OLD_OFF || extension == BASE || extension == TIMER || extension == RESET;
+    return extension <= OLD_TYPED || extension == OLD_OFF || extension == BASE || extension == TIMER ||
+           extension == RESET;
 }
 
 /* The functions of the base extension: versions, what there is, and who made it. */

@@ -85,7 +85,8 @@ void log_ends(struct host *h)
     (void)h;
 }
 
-/* What was written stays in the list until the guest runs again. It finds its pages anew then, so the log is read once a round. */
+/* What was written stays in the list until the guest runs again. It finds its pages anew then, so the log is read
+ * once a round. */
 void log_read(struct host *h, vmig_pages *written)
 {
     struct memory *m = &h->guest.processor.memory;

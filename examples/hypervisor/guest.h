@@ -18,7 +18,8 @@ struct guest {
 
 struct host;
 
-/* board.c: what the board answers without the machine. False where the guest came out for the window of a virtio device: h->touched. */
+/* board.c: what the board answers without the machine. False where the guest came out for the window of a virtio
+ * device: h->touched. */
 int board_answers(struct host *h);
 
 #endif

@@ -15,7 +15,8 @@ static uint32_t first_due(const struct interrupts *c)
     uint32_t due = c->lines & c->enabled & ~c->claimed, best = 0;
 
     for (uint32_t source = 1; source < SOURCES; source++)
-        if ((due & bit(source)) && c->priority[source] > c->threshold && c->priority[source] > c->priority[best]) best = source;
+        if ((due & bit(source)) && c->priority[source] > c->threshold && c->priority[source] > c->priority[best])
+            best = source;
     return best;
 }
 

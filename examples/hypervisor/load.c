@@ -17,7 +17,8 @@ static uint64_t load_file(const char *name, struct memory *m, uint64_t offset, u
     if (file == NULL) fail("%s: %s", name, strerror(errno));
     got = fread(m->ram + offset, 1, end - offset, file);
     if (ferror(file)) fail("%s: %s", name, strerror(errno));
-    if (fgetc(file) != EOF) fail("%s: it does not fit into %llu MiB of RAM", name, (unsigned long long)(m->length / MIB));
+    if (fgetc(file) != EOF)
+        fail("%s: it does not fit into %llu MiB of RAM", name, (unsigned long long)(m->length / MIB));
     fclose(file);
     memory_note(m, offset, got);
     return got;
@@ -29,7 +30,8 @@ static uint64_t pages_of(const char *name)
     FILE *file = fopen(name, "rb");
     long length;
 
-    if (file == NULL || fseek(file, 0, SEEK_END) != 0 || (length = ftell(file)) < 0) fail("%s: %s", name, strerror(errno));
+    if (file == NULL || fseek(file, 0, SEEK_END) != 0 || (length = ftell(file)) < 0)
+        fail("%s: %s", name, strerror(errno));
     fclose(file);
     return ((uint64_t)length + PAGE - 1) / PAGE * PAGE;
 }
@@ -46,10 +48,12 @@ void load_guest(struct host *h)
     const struct options *o = &h->options;
     struct memory *m = &h->guest.processor.memory;
     uint64_t end = m->length, initrd_length = o->initrd == NULL ? 0 : pages_of(o->initrd), tree, tree_length;
-    struct tree_facts facts = {.ram_length = m->length, .devices = h->devices.count, .arguments = o->append == NULL ? "" : o->append};
+    struct tree_facts facts = {
+        .ram_length = m->length, .devices = h->devices.count, .arguments = o->append == NULL ? "" : o->append};
     uint8_t blob[TREE_MAX];
 
-    if (end < LOAD_OFFSET + TREE_MAX || initrd_length > end - LOAD_OFFSET - TREE_MAX) fail("--mem %u is too little RAM", o->mib);
+    if (end < LOAD_OFFSET + TREE_MAX || initrd_length > end - LOAD_OFFSET - TREE_MAX)
+        fail("--mem %u is too little RAM", o->mib);
     end -= initrd_length;
     if (o->initrd != NULL) {
         facts.initrd = RAM_BASE + end;

@@ -1,4 +1,5 @@
-/* Memory as the guest addresses it: pages by Sv39, a cache of those that were found, and the log of those that were written. */
+/* Memory as the guest addresses it: pages by Sv39, a cache of those that were found, and the log of those that were
+ * written. */
 #ifndef MEMORY_H
 #define MEMORY_H
 
@@ -22,8 +23,8 @@ void memory_note(struct memory *m, uint64_t offset, uint64_t length);
 /* Empties the log. What is written from now on is noted anew. */
 void memory_empty_log(struct memory *m);
 
-/* The page of a virtual address, and where the address is in it. NULL where that is no RAM of the guest's: it had an exception, or
- * *device is the physical address of an access of `width` bytes to a device. */
+/* The page of a virtual address, and where the address is in it. NULL where that is no RAM of the guest's: it had an
+ * exception, or *device is the physical address of an access of `width` bytes to a device. */
 uint8_t *memory_find(struct processor *p, uint64_t address, enum access access, unsigned width, uint64_t *device);
 
 /* Loads and stores that are not within one page that was found. False where the guest had an exception or came out. */

@@ -24,7 +24,8 @@ static inline uint64_t immediate_s(uint32_t word)
 
 static inline uint64_t immediate_b(uint32_t word)
 {
-    return sign_extend(bits(word, 31, 1) << 12 | bits(word, 7, 1) << 11 | bits(word, 25, 6) << 5 | bits(word, 8, 4) << 1, 13);
+    return sign_extend(
+        bits(word, 31, 1) << 12 | bits(word, 7, 1) << 11 | bits(word, 25, 6) << 5 | bits(word, 8, 4) << 1, 13);
 }
 
 static inline uint64_t immediate_u(uint32_t word)
@@ -34,7 +35,8 @@ static inline uint64_t immediate_u(uint32_t word)
 
 static inline uint64_t immediate_j(uint32_t word)
 {
-    return sign_extend(bits(word, 31, 1) << 20 | bits(word, 12, 8) << 12 | bits(word, 20, 1) << 11 | bits(word, 21, 10) << 1, 21);
+    return sign_extend(
+        bits(word, 31, 1) << 20 | bits(word, 12, 8) << 12 | bits(word, 20, 1) << 11 | bits(word, 21, 10) << 1, 21);
 }
 
 static void run_load(struct processor *p, uint32_t word, uint64_t address)
@@ -78,7 +80,8 @@ static void run_branch(struct processor *p, uint32_t word, uint64_t a, uint64_t 
     if (is_taken) p->next_pc = p->pc + immediate_b(word);
 }
 
-/* The function of an instruction with an immediate. Above the bits of a shift are those that make it signed, or none. */
+/* The function of an instruction with an immediate. Above the bits of a shift are those that make it signed, or
+ * none. */
 static inline unsigned function_of_immediate(uint32_t word, unsigned shift_bits)
 {
     unsigned kind = bits(word, 12, 3), above = word >> (20 + shift_bits) << (shift_bits - 2);

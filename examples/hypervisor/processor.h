@@ -1,5 +1,6 @@
-/* The processor: RV64IMAC with supervisor and user mode and Sv39, as an interpreter. It knows nothing of the devices: where the
- * guest touches one, waits, or calls the firmware for something that the host has, processor_run returns, and says why. */
+/* The processor: RV64IMAC with supervisor and user mode and Sv39, as an interpreter. It knows nothing of the devices:
+ * where the guest touches one, waits, or calls the firmware for something that the host has, processor_run returns,
+ * and says why. */
 #ifndef PROCESSOR_H
 #define PROCESSOR_H
 
@@ -13,8 +14,8 @@ enum access { FETCH, READ, WRITE, ACCESSES };
 
 /* Exceptions, by the numbers of the standard. A page fault is 12 more than the access: 12, 13 and 15. */
 enum cause {
-    FETCH_ACCESS = 1, ILLEGAL = 2, BREAKPOINT = 3, READ_MISALIGNED = 4, READ_ACCESS = 5, WRITE_MISALIGNED = 6, WRITE_ACCESS = 7,
-    CALL_FROM_USER = 8, FETCH_PAGE = 12, READ_PAGE = 13, WRITE_PAGE = 15
+    FETCH_ACCESS = 1, ILLEGAL = 2, BREAKPOINT = 3, READ_MISALIGNED = 4, READ_ACCESS = 5, WRITE_MISALIGNED = 6,
+    WRITE_ACCESS = 7, CALL_FROM_USER = 8, FETCH_PAGE = 12, READ_PAGE = 13, WRITE_PAGE = 15
 };
 
 /* Interrupts: their bits in sip and sie. */

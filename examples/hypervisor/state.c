@@ -33,8 +33,9 @@ static void code_same(struct coder *c, uint64_t value)
 
 static void code_processor(struct coder *c, struct processor *p)
 {
-    uint64_t *fields[] = {&p->pc, &p->mode, &p->sstatus, &p->stvec, &p->scounteren, &p->sscratch, &p->sepc, &p->scause, &p->stval,
-                          &p->sie, &p->satp, &p->software_pending, &p->timer, &p->reserved, &p->count};
+    uint64_t *fields[] = {&p->pc,    &p->mode,     &p->sstatus, &p->stvec, &p->scounteren, &p->sscratch,
+                          &p->sepc,  &p->scause,   &p->stval,   &p->sie,   &p->satp,       &p->software_pending,
+                          &p->timer, &p->reserved, &p->count};
 
     for (int i = 1; i < 32; i++) code(c, &p->x[i], sizeof p->x[i]);
     for (size_t i = 0; i < sizeof fields / sizeof *fields; i++) code(c, fields[i], sizeof *fields[i]);

@@ -1,5 +1,5 @@
-/* The device tree as a blob: a header, no reservations, the structure, and the names of the properties. Numbers have their highest
- * byte first. */
+/* The device tree as a blob: a header, no reservations, the structure, and the names of the properties. Numbers have
+ * their highest byte first. */
 #include <stdio.h>
 #include <string.h>
 #include "board.h"
@@ -9,7 +9,8 @@
 enum { BEGIN_NODE = 1, END_NODE = 2, PROPERTY = 3, END = 9, HEADER = 40, RESERVATIONS = 16 };
 enum { NAMES_MAX = 512, STRUCTURE_AT = HEADER + RESERVATIONS };
 
-/* The handles by which nodes name the processor's and the board's interrupt controllers, and the word that powers off. */
+/* The handles by which nodes name the processor's and the board's interrupt controllers, and the word that powers
+ * off. */
 enum { PROCESSOR_INTERRUPTS = 1, BOARD_INTERRUPTS = 2, POWER_WORD = 3 };
 
 struct tree {
@@ -159,7 +160,8 @@ static void put_processor(struct tree *t)
     end(t);
 }
 
-/* The board's interrupt controller: its one context interrupts the processor as 9, the external interrupt of supervisor mode. */
+/* The board's interrupt controller: its one context interrupts the processor as 9, the external interrupt of
+ * supervisor mode. */
 static void put_controller(struct tree *t)
 {
     static const uint8_t EXTENDED[] = {0, 0, 0, PROCESSOR_INTERRUPTS, 0, 0, 0, 9};

@@ -7,7 +7,8 @@
 
 enum { TREE_MAX = 4096 };
 
-/* What differs from guest to guest. An initial RAM disk from `initrd` to `initrd_end` is there unless both are equal. */
+/* What differs from guest to guest. An initial RAM disk from `initrd` to `initrd_end` is there unless both are
+ * equal. */
 struct tree_facts {
     uint64_t ram_length, initrd, initrd_end;
     unsigned devices;

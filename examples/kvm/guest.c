@@ -16,6 +16,7 @@ void prepare_guests(struct host *h)
     const char *why = kvm_open(k);
 
     if (why == NULL && (k->cpuid = cpuid_offer(k)) == NULL) why = kvm_reason("KVM_GET_SUPPORTED_CPUID");
+    if (why == NULL) why = features_offer(k, &h->guest.features);
     if (why != NULL) fail("%s", why);
     watch_begin(&h->guest.watch);
 }
@@ -91,7 +92,8 @@ static int is_window(struct host *h)
         if (!run->mmio.is_write) memset(run->mmio.data, 0xff, sizeof run->mmio.data);
         return 0;
     }
-    h->touched = (struct touched){.at = run->mmio.phys_addr - WINDOWS_AT, .width = (uint8_t)run->mmio.len, .is_write = run->mmio.is_write};
+    h->touched = (struct touched){
+        .at = run->mmio.phys_addr - WINDOWS_AT, .width = (uint8_t)run->mmio.len, .is_write = run->mmio.is_write};
     memcpy(&h->touched.value, run->mmio.data, sizeof h->touched.value);
     return 1;
 }
@@ -129,8 +131,8 @@ static void await_input(struct host *h)
     watch_for(&h->guest.watch, files, h->steps_wait ? WORK_MS : -1, h->guest.is_between);
 }
 
-/* Ports need no machine. Where a part of a move is due the guest comes out once no access of its is half done: KVM_RUN finishes it before it looks
- * at immediate_exit. */
+/* Ports need no machine. Where a part of a move is due the guest comes out once no access of its is half done:
+ * KVM_RUN finishes it before it looks at immediate_exit. */
 int run_guest(struct host *h)
 {
     struct guest *g = &h->guest;
@@ -193,7 +195,8 @@ void log_ends(struct host *h)
     if (why != NULL) say("the log of RAM stays on: %s", why);
 }
 
-/* As the kernel fills it, which has whole words. What the host itself wrote is not in it: then all pages are named, as where there is no log. */
+/* As the kernel fills it, which has whole words. What the host itself wrote is not in it: then all pages are named,
+ * as where there is no log. */
 void log_read(struct host *h, vmig_pages *written)
 {
     struct kvm *k = &h->guest.kvm;
@@ -221,6 +224,6 @@ void print_guest_statistics(const struct host *h, double seconds)
 {
     const struct guest *g = &h->guest;
 
-    say("%llu exits, %.0f a second: %llu for ports, %llu as it was called out", (unsigned long long)g->exits, (double)g->exits / seconds,
-        (unsigned long long)g->ports, (unsigned long long)g->called);
+    say("%llu exits, %.0f a second: %llu for ports, %llu as it was called out", (unsigned long long)g->exits,
+        (double)g->exits / seconds, (unsigned long long)g->ports, (unsigned long long)g->called);
 }

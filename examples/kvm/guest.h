@@ -2,6 +2,7 @@
 #ifndef GUEST_H
 #define GUEST_H
 
+#include "feature_msrs.h"
 #include "kvm.h"
 #include "msrs.h"
 #include "watch.h"
@@ -12,6 +13,7 @@ enum { GUEST_KIND = 2 };
 struct guest {
     struct kvm kvm;
     struct watch watch;
+    struct features features;    /* this host's */
     struct stopped_clock clock;  /* while the guest is paused */
     int is_between;         /* it came out as it was called: no access of its is half done */
     int is_loaded;          /* the host wrote what it boots from, of which KVM's log knows nothing */

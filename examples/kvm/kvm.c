@@ -11,18 +11,32 @@
 #include "kvm.h"
 #include "say.h"
 
-/* Where the kernel keeps three pages and one of its own, which Intel's processors need: below 4 GiB, and no guest looks there. */
+/* Where the kernel keeps three pages and one of its own, which Intel's processors need: below 4 GiB, and no guest
+ * looks there. */
 enum { LOG_PIECE = 64 };
 #define TSS_AT UINT64_C(0xfffbd000)
 #define IDENTITY_MAP_AT UINT64_C(0xfffbc000)
 
+/* Of Linux 5.18. */
+#ifndef KVM_PMU_CAP_DISABLE
+#define KVM_CAP_PMU_CAPABILITY 212
+#define KVM_PMU_CAP_DISABLE 1
+#endif
+
 static const struct {
     int number;
     const char *name;
-} NEEDED[] = {{KVM_CAP_IMMEDIATE_EXIT, "immediate_exit"}, {KVM_CAP_IRQCHIP, "interrupt controllers"}, {KVM_CAP_PIT_STATE2, "a PIT"},
-              {KVM_CAP_SREGS2, "KVM_GET_SREGS2"}, {KVM_CAP_XSAVE2, "KVM_GET_XSAVE2"}, {KVM_CAP_XCRS, "KVM_GET_XCRS"},
-              {KVM_CAP_DEBUGREGS, "KVM_GET_DEBUGREGS"}, {KVM_CAP_VCPU_EVENTS, "KVM_GET_VCPU_EVENTS"}, {KVM_CAP_MP_STATE, "KVM_GET_MP_STATE"},
-              {KVM_CAP_ADJUST_CLOCK, "KVM_GET_CLOCK"}, {KVM_CAP_GET_TSC_KHZ, "KVM_GET_TSC_KHZ"}};
+} NEEDED[] = {{KVM_CAP_IMMEDIATE_EXIT, "immediate_exit"},
+              {KVM_CAP_IRQCHIP, "interrupt controllers"},
+              {KVM_CAP_PIT_STATE2, "a PIT"},
+              {KVM_CAP_SREGS2, "KVM_GET_SREGS2"},
+              {KVM_CAP_XSAVE2, "KVM_GET_XSAVE2"},
+              {KVM_CAP_XCRS, "KVM_GET_XCRS"},
+              {KVM_CAP_DEBUGREGS, "KVM_GET_DEBUGREGS"},
+              {KVM_CAP_VCPU_EVENTS, "KVM_GET_VCPU_EVENTS"},
+              {KVM_CAP_MP_STATE, "KVM_GET_MP_STATE"},
+              {KVM_CAP_ADJUST_CLOCK, "KVM_GET_CLOCK"},
+              {KVM_CAP_GET_TSC_KHZ, "KVM_GET_TSC_KHZ"}};
 
 int kvm_call(int of, unsigned long request, void *argument)
 {
@@ -85,6 +99,22 @@ static const char *make_board(struct kvm *k)
     return kvm_call(k->vm, KVM_CREATE_PIT2, &pit) < 0 ? kvm_reason("KVM_CREATE_PIT2") : NULL;
 }
 
+int kvm_hides_counters(const struct kvm *k)
+{
+    int flags = capability(k->vm, KVM_CAP_PMU_CAPABILITY);
+
+    return flags > 0 && (flags & KVM_PMU_CAP_DISABLE);
+}
+
+/* No guest has performance counters, whose state moves with none: some can be used without a bit of CPUID. A kernel
+ * before 5.18 cannot take them away. */
+static void hide_counters(struct kvm *k)
+{
+    struct kvm_enable_cap off = {.cap = KVM_CAP_PMU_CAPABILITY, .args[0] = KVM_PMU_CAP_DISABLE};
+
+    if (kvm_hides_counters(k)) kvm_call(k->vm, KVM_ENABLE_CAP, &off);
+}
+
 const char *kvm_make(struct kvm *k, uint8_t *ram, uint64_t length)
 {
     const char *why;
@@ -102,6 +132,7 @@ const char *kvm_make(struct kvm *k, uint8_t *ram, uint64_t length)
     if (k->vm < 0) return kvm_reason("KVM_CREATE_VM");
     size = capability(k->vm, KVM_CAP_XSAVE2);
     k->xsave_size = size > (int)sizeof(struct kvm_xsave) ? (size_t)size : sizeof(struct kvm_xsave);
+    hide_counters(k);
     why = make_board(k);
     return why == NULL && length > 0 ? set_slot(k) : why;
 }

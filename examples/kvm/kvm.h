@@ -1,5 +1,6 @@
-/* All that the kernel's KVM does for a guest: its virtual machine, its processor, and the log of the pages that it writes. Read it beside the
- * kernel's Documentation/virt/kvm/api.rst. Calls that can fail return what failed, or NULL. */
+/* All that the kernel's KVM does for a guest: its virtual machine, its processor, and the log of the pages that it
+ * writes. Read it beside the kernel's Documentation/virt/kvm/api.rst. Calls that can fail return what failed, or
+ * NULL. */
 #ifndef KVM_H
 #define KVM_H
 
@@ -28,8 +29,11 @@ const char *kvm_open(struct kvm *k);
 /* Makes a virtual machine over this RAM, with its interrupt controllers and its timer, but without a processor. */
 const char *kvm_make(struct kvm *k, uint8_t *ram, uint64_t length);
 
-/* Makes its processor, with k->cpuid and k->khz. A guest that arrives gets it as late as can be: KVM takes a TSC that is set soon after for an
- * attempt to synchronize it with that of other processors. */
+/* Whether this kernel can take performance counters away from a guest, as kvm_make does where it can. */
+int kvm_hides_counters(const struct kvm *k);
+
+/* Makes its processor, with k->cpuid and k->khz. A guest that arrives gets it as late as can be: KVM takes a TSC that
+ * is set soon after for an attempt to synchronize it with that of other processors. */
 const char *kvm_make_cpu(struct kvm *k);
 
 /* The virtual machine is gone, with its processor. What k->cpuid, k->khz and the log's state say stays. */
@@ -42,7 +46,8 @@ int kvm_run_guest(struct kvm *k);
 const char *kvm_log(struct kvm *k, int on);
 const char *kvm_read_log(struct kvm *k);
 
-/* Interrupt n gets the level of bit n. KVM is told of changes alone, and once of each line: a level is no part of what it saves. */
+/* Interrupt n gets the level of bit n. KVM is told of changes alone, and once of each line: a level is no part of
+ * what it saves. */
 void kvm_set_lines(struct kvm *k, uint32_t lines, uint32_t mask);
 
 /* ioctl, once more where a signal came between. */

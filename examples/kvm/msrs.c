@@ -91,7 +91,8 @@ const char *msrs_set(struct kvm *k, const struct kvm_msr_entry *all, uint32_t co
             from++;
             continue;
         }
-        while (some.count < A_CALL && from + some.count < count && !(tsc_is_set && all[from + some.count].index == TSC)) some.count++;
+        while (some.count < A_CALL && from + some.count < count && !(tsc_is_set && all[from + some.count].index == TSC))
+            some.count++;
         memcpy(some.entries, all + from, some.count * sizeof *all);
         taken = kvm_call(k->cpu, KVM_SET_MSRS, &some);
         if (taken < 0) return kvm_reason("KVM_SET_MSRS");
@@ -105,7 +106,8 @@ const char *msrs_set(struct kvm *k, const struct kvm_msr_entry *all, uint32_t co
 
 static int offset_of(struct kvm *k, unsigned long request, uint64_t *offset)
 {
-    struct kvm_device_attr attribute = {.group = KVM_VCPU_TSC_CTRL, .attr = KVM_VCPU_TSC_OFFSET, .addr = (uint64_t)(uintptr_t)offset};
+    struct kvm_device_attr attribute = {
+        .group = KVM_VCPU_TSC_CTRL, .attr = KVM_VCPU_TSC_OFFSET, .addr = (uint64_t)(uintptr_t)offset};
 
     return kvm_call(k->cpu, request, &attribute) == 0;
 }

@@ -7,17 +7,21 @@
 
 enum { STATE_VERSION = 1, CHIPS = 3 };
 
-static const char NOT_WHOLE[] = "the state of the processor and the board has another length", NO_MEMORY[] = "there is no memory for the state";
+static const char NOT_WHOLE[] = "the state of the processor and the board has another length",
+                  NO_MEMORY[] = "there is no memory for the state";
 
-#define PART(field, request, of_vm) {"KVM_SET_" #request, KVM_GET_##request, KVM_SET_##request, offsetof(struct state, field), of_vm}
+#define AT(field) offsetof(struct state, field)
+#define PART(field, request, of_vm) {"KVM_SET_" #request, KVM_GET_##request, KVM_SET_##request, AT(field), of_vm}
 
 /* In the order in which they are set; they are read from the last to the first. Why so:
  * - SREGS has the LAPIC's base and mode, which LAPIC needs.
- * - CLOCK comes before the MSRs: to set that of the wall clock writes the time of the boot into RAM, and computes it from the clock.
- * - LAPIC comes before the MSRs: the TSC's deadline is taken only where the LAPIC's timer is in that mode. Without it the guest goes on, but
- *   its timer is dead.
- * - VCPU_EVENTS comes after what may bring about or clear an exception, and MP_STATE last: a guest that waits in HLT is not woken by the calls
- *   before it. To read MP_STATE may change the others, as it takes INIT and SIPI, so it is read first. */
+ * - CLOCK comes before the MSRs: to set that of the wall clock writes the time of the boot into RAM, and computes it
+ *   from the clock.
+ * - LAPIC comes before the MSRs: the TSC's deadline is taken only where the LAPIC's timer is in that mode. Without it
+ *   the guest goes on, but its timer is dead.
+ * - VCPU_EVENTS comes after what may bring about or clear an exception, and MP_STATE last: a guest that waits in HLT
+ *   is not woken by the calls before it. To read MP_STATE may change the others, as it takes INIT and SIPI, so it is
+ *   read first. */
 const struct part STATE_PARTS[PARTS] = {
     PART(sregs, SREGS2, 0),
     PART(regs, REGS, 0),
@@ -26,7 +30,7 @@ const struct part STATE_PARTS[PARTS] = {
     PART(chips[0], IRQCHIP, 1),
     PART(chips[1], IRQCHIP, 1),
     PART(chips[2], IRQCHIP, 1),
-    {"KVM_SET_PIT2", KVM_GET_PIT2, KVM_SET_PIT2, offsetof(struct state, pit), 1},
+    {"KVM_SET_PIT2", KVM_GET_PIT2, KVM_SET_PIT2, AT(pit), 1},
     PART(clock, CLOCK, 1),
     PART(lapic, LAPIC, 0),
     {"KVM_SET_DEVICE_ATTR", 0, KVM_SET_DEVICE_ATTR, 0, 0},   /* the TSC, by its distance from the host's */
@@ -62,7 +66,9 @@ const char *parts_read(struct kvm *k, struct whole_state *all)
     for (uint32_t i = 0; i < CHIPS; i++) s->chips[i].chip_id = i;
     for (int i = PARTS - 1; i >= 0 && why == NULL; i--) why = read_part(k, all, &STATE_PARTS[i]);
     if (why == NULL) s->has_tsc = (uint32_t)tsc_read(k, &s->clock, &s->tsc);
-    s->clock.flags = 0;   /* the guest's clock stands while it is paused: with other flags it would go on by the pause, and its TSC would not */
+    /* The guest's clock stands while it is paused: with other flags it would go on by the pause, and its TSC would
+     * not. */
+    s->clock.flags = 0;
     return why;
 }
 

@@ -1,4 +1,5 @@
-/* The processor and the board as bytes, for a move: a list of all that KVM has of them, in the order in which it is set. */
+/* The processor and the board as bytes, for a move: a list of all that KVM has of them, in the order in which it is
+ * set. */
 #ifndef STATE_H
 #define STATE_H
 
@@ -8,7 +9,7 @@
 /* What has a size of its own. What has none lies behind it: the area of XSAVE, and the MSRs. */
 struct state {
     uint32_t version, xsave_size, count_msrs, has_tsc;
-    uint64_t tsc;               /* the guest's TSC at the moment of the clock, where the host's can be relied on: has_tsc */
+    uint64_t tsc; /* the guest's TSC at the moment of the clock, where the host's can be relied on: has_tsc */
     struct kvm_sregs2 sregs;
     struct kvm_regs regs;
     struct kvm_xcrs xcrs;
@@ -30,7 +31,8 @@ struct whole_state {
     struct kvm_msr_entry *msrs;
 };
 
-/* A part of it: the calls that read and set it, where it is, and whether it is of the virtual machine or of the processor. */
+/* A part of it: the calls that read and set it, where it is, and whether it is of the virtual machine or of the
+ * processor. */
 struct part {
     const char *name;
     unsigned long get, set;
@@ -42,7 +44,8 @@ enum { PARTS = 15 };
 extern const struct part STATE_PARTS[PARTS];
 
 
-/* Reads all parts from the last to the first; sets these parts, in this order. The processor is outside, and no access of its is half done. */
+/* Reads all parts from the last to the first; sets these parts, in this order. The processor is outside, and no
+ * access of its is half done. */
 const char *parts_read(struct kvm *k, struct whole_state *all);
 const char *parts_set(struct kvm *k, struct whole_state *all, const struct part *parts, int count);
 

@@ -11,8 +11,9 @@
 
 static struct kvm_run *volatile running;
 
-/* KVM_RUN is interrupted by a signal, but one that comes just before it would be lost: so the next KVM_RUN comes out at once. Only the guest's
- * thread writes the word. It is cleared where KVM_RUN came out for it, and before anything is looked at. */
+/* KVM_RUN is interrupted by a signal, but one that comes just before it would be lost: so the next KVM_RUN comes out
+ * at once. Only the guest's thread writes the word. It is cleared where KVM_RUN came out for it, and before anything
+ * is looked at. */
 static void come_out(void)
 {
     struct kvm_run *run = running;

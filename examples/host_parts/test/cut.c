@@ -17,7 +17,8 @@
 #include "../line.h"
 
 /* The names of the frames, in the order of their types. */
-static const char *const NAMES[] = {"", "hello", "welcome", "stream", "state", "end", "ready", "go", "runs", "refused", "ended"};
+static const char *const NAMES[] = {"",      "hello", "welcome", "stream",  "state", "end",
+                                    "ready", "go",    "runs",    "refused", "ended"};
 
 static const char *where;
 static unsigned long bytes_left = (unsigned long)-1, spoiled;

@@ -171,7 +171,8 @@ static void sync_that_fails(void)
     turn();
     check(described().lost == 1 << DEV, "the library was not told of the sync");
     check(host.memory[VERDICTS] == IOERR, "a write that is not durable was told done");
-    check(pread(host.devices.disks[0].file, bytes, SECTOR, 7 * SECTOR) == SECTOR && bytes[0] == 8, "the write did not land");
+    check(pread(host.devices.disks[0].file, bytes, SECTOR, 7 * SECTOR) == SECTOR && bytes[0] == 8,
+          "the write did not land");
 }
 
 /* The other disk hangs with as many calls as it may have, more than its threads. */

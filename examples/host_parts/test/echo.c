@@ -1,5 +1,5 @@
-/* The other end of a guest's wire: `echo OWN,PEER` answers each frame with the same frame, each byte of its payload one more. It prints
- * the address of each card that announces itself, which it does not answer. */
+/* The other end of a guest's wire: `echo OWN,PEER` answers each frame with the same frame, each byte of its payload
+ * one more. It prints the address of each card that announces itself, which it does not answer. */
 #include <stdint.h>
 #include "../network.h"
 #include "../say.h"

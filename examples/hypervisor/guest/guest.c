@@ -1,22 +1,28 @@
-/* A guest without an operating system. It drives the console, the disk, the network and the entropy device, over split rings and over
- * packed ones, adds up all that it reads, and does so again and again until the byte `e` is typed. Each pass has to give the same sum,
- * wherever it runs. It lies anywhere in RAM, as all its addresses are relative. It runs with paging, and waits for interrupts. */
+/* A guest without an operating system. It drives the console, the disk, the network and the entropy device, over
+ * split rings and over packed ones, adds up all that it reads, and does so again and again until the byte `e` is
+ * typed. Each pass has to give the same sum, wherever it runs. It lies anywhere in RAM, as all its addresses are
+ * relative. It runs with paging, and waits for interrupts. */
 #include "paging.h"
 #include "queue.h"
 #include "registers.h"
 
-enum { WINDOWS = 8, WINDOW_SIZE = 0x1000, MAGIC = 0x74726976, NETWORK = 1, BLOCK = 2, CONSOLE = 3, ENTROPY = 4, KINDS = 5 };
+enum {
+    WINDOWS = 8, WINDOW_SIZE = 0x1000, MAGIC = 0x74726976, NETWORK = 1, BLOCK = 2, CONSOLE = 3, ENTROPY = 4,
+    KINDS = 5
+};
 enum { ROUNDS = 6, PIECE = 4096, SECTORS = 8, FRAME = 600, PAYLOAD = 22, RANDOM = 64, PATIENCE = 1000000 };
 
 /* Registers of a device (VIRTIO 1.2, 4.2.2). */
 enum {
-    DEVICE_ID = 0x008, FEATURES = 0x020, FEATURES_SELECT = 0x024, QUEUE_SELECT = 0x030, QUEUE_SIZE = 0x038, QUEUE_READY = 0x044,
-    NOTIFY = 0x050, INTERRUPT_STATUS = 0x060, INTERRUPT_ACK = 0x064, STATUS = 0x070, TABLE = 0x080, DRIVER_AREA = 0x090, DEVICE_AREA = 0x0a0
+    DEVICE_ID = 0x008, FEATURES = 0x020, FEATURES_SELECT = 0x024, QUEUE_SELECT = 0x030, QUEUE_SIZE = 0x038,
+    QUEUE_READY = 0x044, NOTIFY = 0x050, INTERRUPT_STATUS = 0x060, INTERRUPT_ACK = 0x064, STATUS = 0x070,
+    TABLE = 0x080, DRIVER_AREA = 0x090, DEVICE_AREA = 0x0a0
 };
 
 #define WINDOWS_AT UINT64_C(0x10001000)
 
-/* The interrupt controller: its registers for the context of supervisor mode. The device of window n has the source n + 1. */
+/* The interrupt controller: its registers for the context of supervisor mode. The device of window n has the source n
+ * + 1. */
 #ifndef CONTEXT
 #define CONTEXT 0
 #endif
@@ -85,7 +91,8 @@ static uint64_t time_now(void)
 /* The firmware powers off: a reason of 1 says that the guest failed. */
 __attribute__((noreturn)) static void power_off(uint64_t reason)
 {
-    register uint64_t a0 __asm__("a0") = 0, a1 __asm__("a1") = reason, a6 __asm__("a6") = 0, a7 __asm__("a7") = 0x53525354;
+    register uint64_t a0 __asm__("a0") = 0, a1 __asm__("a1") = reason, a6 __asm__("a6") = 0,
+                         a7 __asm__("a7") = 0x53525354;
 
     for (;;) __asm__ volatile("ecall" : "+r"(a0), "+r"(a1) : "r"(a6), "r"(a7) : "memory");
 }
@@ -236,7 +243,9 @@ static int has_answer(uint64_t until)
 
     while (time_now() < until) {
         await(NETWORK, came, FRAME + 12);
-        if (queue_take(&queues[NETWORK][0], &length) && length == FRAME + 12 && number_in(came + 12 + 14) == number_of_frame) return 1;
+        if (queue_take(&queues[NETWORK][0], &length) && length == FRAME + 12 &&
+            number_in(came + 12 + 14) == number_of_frame)
+            return 1;
     }
     return 0;
 }

@@ -1,5 +1,5 @@
-/* The page table of the small guest (Sv39): its first and its third GiB are as they are without one, and a heap is mapped page by page,
- * the last page first. */
+/* The page table of the small guest (Sv39): its first and its third GiB are as they are without one, and a heap is
+ * mapped page by page, the last page first. */
 #ifndef PAGING_H
 #define PAGING_H
 

@@ -55,7 +55,7 @@ struct queue {
     volatile struct used_ring used __attribute__((aligned(16)));
     uint32_t number, is_packed, is_out;  /* is_out: a chain is outstanding */
     uint32_t count;                      /* split: the chains so far */
-    uint32_t next, wrap, parts;          /* packed: where the next chain goes, the wrap counter, and the parts of the last one */
+    uint32_t next, wrap, parts; /* packed: where the next chain goes, the wrap counter, and the parts of the last one */
 };
 
 /* The instruction that orders accesses to memory. */
@@ -127,7 +127,8 @@ static inline int queue_take(struct queue *q, uint32_t *length)
 {
     if (!q->is_out) return 0;
     if (q->is_packed) {
-        uint32_t first = (q->next + ENTRIES - q->parts) % ENTRIES, wrap = first + q->parts >= ENTRIES ? !q->wrap : q->wrap;
+        uint32_t first = (q->next + ENTRIES - q->parts) % ENTRIES,
+                 wrap = first + q->parts >= ENTRIES ? !q->wrap : q->wrap;
         uint16_t flags = q->table.packed[first].flags;
 
         if (((flags & PACKED_AVAILABLE) != 0) != wrap || ((flags & PACKED_USED) != 0) != wrap) return 0;

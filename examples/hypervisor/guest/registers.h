@@ -1,4 +1,5 @@
-/* The registers of supervisor mode that the small guest leaves at values of its own, to find them again wherever it runs. */
+/* The registers of supervisor mode that the small guest leaves at values of its own, to find them again wherever it
+ * runs. */
 #ifndef REGISTERS_H
 #define REGISTERS_H
 

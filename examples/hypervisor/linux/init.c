@@ -1,5 +1,5 @@
-/* The only program of the small Linux: it mounts what there is, and reads words from the console. It is made with the kernel's own
- * nolibc, for a processor without floating point. */
+/* The only program of the small Linux: it mounts what there is, and reads words from the console. It is made with the
+ * kernel's own nolibc, for a processor without floating point. */
 #include <linux/fs.h>
 
 enum { PIECE = 4096, KIB = 1024, LINE = 256, WORDS = 8, ECHO_PORT = 7, FRAME = 1000, WORK_FILES = 32 };
@@ -145,7 +145,8 @@ static unsigned compare_mib(int file, unsigned seed)
     return wrong;
 }
 
-/* Writes a file of this many MiB, of seeds from one on, to the disk itself. Returns how many pieces it did not take, and one more where the disk failed. */
+/* Writes a file of this many MiB, of seeds from one on, to the disk itself. Returns how many pieces it did not take,
+ * and one more where the disk failed. */
 static unsigned fill(const char *name, unsigned seed, unsigned mib)
 {
     int file = open(name, O_WRONLY | O_CREAT, 0644);
@@ -177,7 +178,8 @@ static void fill_and_compare(const char *name, unsigned mib)
 
     written = milliseconds();
     wrong = compare(name, 0, mib);
-    printf("fill: %u MiB, %u pieces lost in %lu ms, %u wrong in %lu ms\n", mib, lost, written - began, wrong, milliseconds() - written);
+    printf("fill: %u MiB, %u pieces lost in %lu ms, %u wrong in %lu ms\n", mib, lost, written - began, wrong,
+           milliseconds() - written);
 }
 
 static unsigned read_random(unsigned count)
@@ -243,13 +245,15 @@ static unsigned talk(const char *host, unsigned count)
     for (unsigned i = 0; i < count; i++) {
         draw(others, i);
         my_syscall6(__NR_sendto, sock, others, FRAME, 0, &to, sizeof to);
-        if (my_syscall6(__NR_recvfrom, sock, bytes, PIECE, 0, NULL, NULL) == FRAME && memcmp(bytes, others, FRAME) == 0) back++;
+        if (my_syscall6(__NR_recvfrom, sock, bytes, PIECE, 0, NULL, NULL) == FRAME && memcmp(bytes, others, FRAME) == 0)
+            back++;
     }
     close(sock);
     return back;
 }
 
-/* Rounds of all that there is: a file is written and read, random bytes are read, and datagrams go to the host and back. */
+/* Rounds of all that there is: a file is written and read, random bytes are read, and datagrams go to the host and
+ * back. */
 static void work(unsigned rounds, const char *host)
 {
     static char name[] = "/disk/work00";
@@ -301,7 +305,8 @@ static void leave(int how)
 static void help(void)
 {
     printf("ls FOLDER, cat FILE, sum FILE, dd FROM TO KIB, fill FILE MIB, df, random BYTES, net ADDRESS, serve,\n"
-           "talk ADDRESS COUNT, work ROUNDS [ADDRESS], check ROUNDS, reboot, off; with & at the end a word is done beside the others\n");
+           "talk ADDRESS COUNT, work ROUNDS [ADDRESS], check ROUNDS, reboot, off; with & at the end a word is done "
+           "beside the others\n");
 }
 
 static void do_words(char **words)
@@ -356,7 +361,8 @@ static void set_up(void)
     dup(0);
     printf("\ninit: the kernel is up after ");
     show("/proc/uptime");
-    printf("init: %s\n", mount("/dev/vda", "/disk", "ext2", 0, NULL) == 0 ? "the disk is at /disk" : "there is no disk with ext2");
+    printf("init: %s\n",
+           mount("/dev/vda", "/disk", "ext2", 0, NULL) == 0 ? "the disk is at /disk" : "there is no disk with ext2");
 }
 
 int main(void)

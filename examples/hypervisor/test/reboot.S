@@ -1,5 +1,5 @@
-# A guest that reboots once. It prints what the Status register of its console holds, which is 0 after a reset, and writes it. Whether it
-# was here before it keeps in a page of RAM, which a reboot leaves as it is.
+# A guest that reboots once. It prints what the Status register of its console holds, which is 0 after a reset, and
+# writes it. Whether it was here before it keeps in a page of RAM, which a reboot leaves as it is.
     li t0, 0x80001000
     ld t1, 0(t0)
     addi t2, t1, 1

@@ -1,6 +1,7 @@
-# A guest that reboots again and again, and prints a dot each time. Each second time it writes a page of its image. Each other time it looks
-# whether that page is as the image has it, since a reboot loads it anew, and prints an X where it is not. It writes other pages too, so
-# that a round of a move takes about as long as it is up. How often it was here it counts in a page of RAM, which a reboot leaves as it is.
+# A guest that reboots again and again, and prints a dot each time. Each second time it writes a page of its image.
+# Each other time it looks whether that page is as the image has it, since a reboot loads it anew, and prints an X
+# where it is not. It writes other pages too, so that a round of a move takes about as long as it is up. How often
+# it was here it counts in a page of RAM, which a reboot leaves as it is.
     li a0, '.'
     li a7, 1            # print a byte
     ecall

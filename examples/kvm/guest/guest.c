@@ -1,18 +1,26 @@
-/* A guest in ring 3 without an operating system, over pages that are where they are. It drives the disk, the entropy device, the network and the
- * console, over split rings and over packed ones, writes 4 MiB of RAM, and adds up all that it reads, again and again until the byte `e` is typed.
- * Each pass has to give the same sum, wherever it runs. It takes no interrupts: it looks until a chain came back. */
+/* A guest in ring 3 without an operating system, over pages that are where they are. It drives the disk, the entropy
+ * device, the network and the console, over split rings and over packed ones, writes 4 MiB of RAM, and adds up all
+ * that it reads, again and again until the byte `e` is typed. Each pass has to give the same sum, wherever it runs.
+ * It takes no interrupts: it looks until a chain came back. */
 #define ORDER "mfence"
 #include "../../hypervisor/guest/queue.h"
 
-enum { WINDOWS = 8, WINDOW_SIZE = 0x1000, MAGIC = 0x74726976, NETWORK = 1, BLOCK = 2, CONSOLE = 3, ENTROPY = 4, KINDS = 5 };
-enum { ROUNDS = 48, SECTOR = 512, WRITTEN_AT = 64, RANDOM = 16, FRAME = 600, PAYLOAD = 22, FRAMES_EVERY = 4, PATIENCE = 1000000 };
+enum {
+    WINDOWS = 8, WINDOW_SIZE = 0x1000, MAGIC = 0x74726976, NETWORK = 1, BLOCK = 2, CONSOLE = 3, ENTROPY = 4,
+    KINDS = 5
+};
+enum {
+    ROUNDS = 48, SECTOR = 512, WRITTEN_AT = 64, RANDOM = 16, FRAME = 600, PAYLOAD = 22, FRAMES_EVERY = 4,
+    PATIENCE = 1000000
+};
 enum { AREA = 0x300000, PAGES = 1024, STRIDE = 16, PAGE_WORDS = 512, WORDS_APART = 64 };
 enum { POWER = 0x604, POWER_OFF = 0x2000, FAILED = 0xf4, FLUSH = 1 << 9 };
 
 /* Registers of a device (VIRTIO 1.2, 4.2.2). */
 enum {
-    DEVICE_ID = 0x008, FEATURES = 0x020, FEATURES_SELECT = 0x024, QUEUE_SELECT = 0x030, QUEUE_SIZE = 0x038, QUEUE_READY = 0x044,
-    NOTIFY = 0x050, INTERRUPT_STATUS = 0x060, INTERRUPT_ACK = 0x064, STATUS = 0x070, TABLE = 0x080, DRIVER_AREA = 0x090, DEVICE_AREA = 0x0a0
+    DEVICE_ID = 0x008, FEATURES = 0x020, FEATURES_SELECT = 0x024, QUEUE_SELECT = 0x030, QUEUE_SIZE = 0x038,
+    QUEUE_READY = 0x044, NOTIFY = 0x050, INTERRUPT_STATUS = 0x060, INTERRUPT_ACK = 0x064, STATUS = 0x070,
+    TABLE = 0x080, DRIVER_AREA = 0x090, DEVICE_AREA = 0x0a0
 };
 
 #define WINDOWS_AT UINT64_C(0xd0000000)
@@ -206,7 +214,9 @@ static int has_answer(void)
 
     for (uint32_t i = 0; i < PATIENCE; i++) {
         await(NETWORK, came, FRAME + 12);
-        if (queue_take(&queues[NETWORK][0], &length) && length == FRAME + 12 && number_in(came + 12 + 14) == number_of_frame) return 1;
+        if (queue_take(&queues[NETWORK][0], &length) && length == FRAME + 12 &&
+            number_in(came + 12 + 14) == number_of_frame)
+            return 1;
         __asm__ volatile("pause");
     }
     return 0;

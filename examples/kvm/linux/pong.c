@@ -9,7 +9,10 @@
 #include "say.h"
 
 /* Where things are in a frame. */
-enum { TO = 0, FROM = 6, KIND = 12, OPERATION = 20, SENDER = 22, SENDER_IP = 28, TARGET = 32, PROTOCOL = 23, SOURCE_IP = 26, TARGET_IP = 30 };
+enum {
+    TO = 0, FROM = 6, KIND = 12, OPERATION = 20, SENDER = 22, SENDER_IP = 28, TARGET = 32, PROTOCOL = 23,
+    SOURCE_IP = 26, TARGET_IP = 30
+};
 enum { ICMP = 34, CHECKSUM = 36, ECHO = 8, REQUEST = 1, ANSWER = 2 };
 
 static const uint8_t OWN[6] = {2, 0, 0, 0, 0, 1};

@@ -1,5 +1,6 @@
-# What a bzImage of the test begins with at its 64-bit entry, with the zero page in RSI. It prints a b at the UART if the header is there, and the first
-# bytes of the arguments, of the initial RAM disk and of the RSDP. Then it powers off by the sleep control register.
+# What a bzImage of the test begins with at its 64-bit entry, with the zero page in RSI. It prints a b at the UART
+# if the header is there, and the first bytes of the arguments, of the initial RAM disk and of the RSDP. Then it
+# powers off by the sleep control register.
     movl 0x202(%rsi), %eax
     cmpl $0x53726448, %eax
     jne 1f

@@ -1,5 +1,6 @@
-# A kernel of the test with an entry for PVH, 32 bits, with the start info in EBX. It prints a p at the UART if the start info is there, and the first
-# bytes of the arguments, of the initial RAM disk and of the RSDP. Then it powers off by the sleep control register.
+# A kernel of the test with an entry for PVH, 32 bits, with the start info in EBX. It prints a p at the UART if the
+# start info is there, and the first bytes of the arguments, of the initial RAM disk and of the RSDP. Then it powers
+# off by the sleep control register.
     .section .note.Xen, "a", @note
     .long 4, 4, 18
     .asciz "Xen"

@@ -1,17 +1,24 @@
-# A guest in ring 3 that reboots again and again. It prints a dot at the UART, or an X where a word of RAM is not zero, as it is after a reboot. It
-# then writes that word, and others.
-    movl $0x200000, %ebx
+# A guest in ring 3 that reboots again and again. It prints a dot at the UART, and writes pages one after another,
+# of which each has to be zeros, as it is after a reboot: else it prints an X. It takes its time, so that a move
+# ends while some pages are not written anew: those that were sent before a reboot have to come as zeros.
+    .section .text.start, "ax"
+    movl $0x3f8, %edx
     movb $'.', %al
-    cmpl $0, (%rbx)
-    je 1f
-    movb $'X', %al
-1:  movl $0x3f8, %edx
     outb %al, %dx
-    movl $100, %ecx
+    movl $0x200000, %ebx
+    movl $500, %ecx
+1:  cmpl $0, (%rbx)
+    je 2f
+    movb $'X', %al
+    outb %al, %dx
 2:  movl $1, (%rbx)
     addl $0x1000, %ebx
-    loop 2b
+    movl $1000, %esi
+3:  pause
+    decl %esi
+    jnz 3b
+    loop 1b
     movl $0x64, %edx
     movb $0xfe, %al
     outb %al, %dx
-3:  jmp 3b
+4:  jmp 4b

@@ -1,6 +1,6 @@
-/* The state of a guest, whose every part has values that those of a new processor are not, is set in a second virtual machine and read there again.
- * Each part that is left out, and MSRs that come before the LAPIC, have to be seen by that. Then states and first frames of a move are changed
- * at random: they are taken or refused, and nothing worse. */
+/* The state of a guest, whose every part has values that those of a new processor are not, is set in a second virtual
+ * machine and read there again. Each part that is left out, and MSRs that come before the LAPIC, have to be seen by
+ * that. Then states and first frames of a move are changed at random: they are taken or refused, and nothing worse. */
 #define _DEFAULT_SOURCE
 #include <stdarg.h>
 #include <stdio.h>
@@ -14,8 +14,16 @@
 #include "say.h"
 #include "state.h"
 
-enum { LENGTH = 2 * MIB, CHANGED = 200, DEADLINE = 0x6e0, TSC = 0x10, KERNEL_GS = 0xc0000102, A_CLOCK_S = 5, WRONG_MAX = 20 };
-enum { PAUSE_NS = 200000000, MILLION = 1000000, XMM0 = 160, XSTATE_BV = 512, LVT_TIMER = 0x320, SPURIOUS = 0xf0, REQUESTS = 0x200, VECTOR = 0x61 };
+enum {
+    LENGTH = 2 * MIB, CHANGED = 200, DEADLINE = 0x6e0, TSC = 0x10, KERNEL_GS = 0xc0000102, A_CLOCK_S = 5,
+    WRONG_MAX = 20
+};
+enum { HYPERV_COUNT = 0x40000020, ARCH_CAPABILITIES = 0x10a, COUNTER_OF_INTEL = 0x186, COUNTER_OF_AMD = 0xc0010000 };
+enum { PIN = 5, SELECTS = 0x530076 };
+enum {
+    PAUSE_NS = 200000000, MILLION = 1000000, XMM0 = 160, XSTATE_BV = 512, LVT_TIMER = 0x320, SPURIOUS = 0xf0,
+    REQUESTS = 0x200, VECTOR = 0x61
+};
 #define CLOCK UINT64_C(1000000000000000)
 
 static struct host host;
@@ -60,7 +68,8 @@ static void make(int with_cpu)
     if (with_cpu) expect(kvm_make_cpu(kvm()) == NULL, "no processor");
 }
 
-/* The area of XSAVE has the register XMM0, and says that it has it. The LAPIC's timer waits for a deadline, and an interrupt is requested. */
+/* The area of XSAVE has the register XMM0, and says that it has it. The LAPIC's timer waits for a deadline, and an
+ * interrupt is requested. */
 static void change_arrays(struct whole_state *all)
 {
     struct state *s = &all->state;
@@ -120,7 +129,15 @@ static void level(struct whole_state *all)
     s->clock = (struct kvm_clock_data){.clock = s->clock.clock / 1000000000 / A_CLOCK_S};
     s->tsc = 0;
     for (uint32_t i = 0; i < s->count_msrs; i++)
-        if (all->msrs[i].index == TSC) all->msrs[i].data = 0;
+        if (all->msrs[i].index == TSC || all->msrs[i].index == HYPERV_COUNT) all->msrs[i].data = 0;
+}
+
+static const char *name_of_msr(const struct kvm_msr_entry *entry)
+{
+    static char name[60];
+
+    snprintf(name, sizeof name, "KVM_SET_MSRS: 0x%x", (unsigned)entry->index);
+    return name;
 }
 
 /* The first part in which two states differ, or NULL. */
@@ -129,14 +146,16 @@ static const char *difference(const struct whole_state *one, const struct whole_
     const uint8_t *a = (const uint8_t *)&one->state, *b = (const uint8_t *)&other->state;
 
     if (memcmp(one->xsave, other->xsave, one->state.xsave_size) != 0) return "KVM_SET_XSAVE";
-    if (memcmp(one->msrs, other->msrs, one->state.count_msrs * sizeof *one->msrs) != 0) return "KVM_SET_MSRS";
+    for (uint32_t i = 0; i < one->state.count_msrs; i++)
+        if (memcmp(&one->msrs[i], &other->msrs[i], sizeof *one->msrs) != 0) return name_of_msr(&one->msrs[i]);
     for (int i = 0; i < PARTS; i++) {
         size_t end = sizeof(struct state);
 
         if (STATE_PARTS[i].at == 0) continue;
         for (int k = 0; k < PARTS; k++)
             if (STATE_PARTS[k].at > STATE_PARTS[i].at && STATE_PARTS[k].at < end) end = STATE_PARTS[k].at;
-        if (memcmp(a + STATE_PARTS[i].at, b + STATE_PARTS[i].at, end - STATE_PARTS[i].at) != 0) return STATE_PARTS[i].name;
+        if (memcmp(a + STATE_PARTS[i].at, b + STATE_PARTS[i].at, end - STATE_PARTS[i].at) != 0)
+            return STATE_PARTS[i].name;
     }
     return NULL;
 }
@@ -191,7 +210,8 @@ static void try_orders(const struct whole_state *state)
     for (int i = 0; i < PARTS; i++) {
         if (STATE_PARTS[i].set == KVM_SET_LAPIC) lapic = i;
         if (STATE_PARTS[i].set == KVM_SET_DEVICE_ATTR) continue;
-        if (set_elsewhere(state, parts, without(i, parts)) == NULL) wrong(STATE_PARTS[i].name, "it is left out, and nothing shows it");
+        if (set_elsewhere(state, parts, without(i, parts)) == NULL)
+            wrong(STATE_PARTS[i].name, "it is left out, and nothing shows it");
     }
     count = without(lapic, parts);
     parts[count] = STATE_PARTS[lapic];
@@ -272,6 +292,79 @@ static void stop_and_start(void)
     else expect(ticks > -1 && ticks < PAUSE_NS / MILLION / 2, "the TSC went on while it stood");
 }
 
+/* What KVM is told of a line reaches the LAPIC through an unmasked pin, and once more in a machine that is made anew:
+ * the vector waits in its register of requests. */
+static void tell_lines(void)
+{
+    struct kvm_irqchip chip = {.chip_id = 2};
+    struct kvm_lapic_state lapic;
+    uint32_t enabled = 0x1ff, requests;
+
+    make(1);
+    expect(kvm_call(kvm()->vm, KVM_GET_IRQCHIP, &chip) == 0 && kvm_call(kvm()->cpu, KVM_GET_LAPIC, &lapic) == 0,
+           "no LAPIC");
+    chip.chip.ioapic.redirtbl[PIN].bits = 1 << 15 | VECTOR;
+    memcpy(lapic.regs + SPURIOUS, &enabled, sizeof enabled);
+    expect(kvm_call(kvm()->vm, KVM_SET_IRQCHIP, &chip) == 0 && kvm_call(kvm()->cpu, KVM_SET_LAPIC, &lapic) == 0,
+           "no LAPIC is set");
+    for (uint32_t is_high = 0; is_high < 2; is_high++) {
+        kvm_set_lines(kvm(), is_high << PIN, UINT32_C(1) << PIN);
+        expect(kvm_call(kvm()->cpu, KVM_GET_LAPIC, &lapic) == 0, "no LAPIC is read");
+        memcpy(&requests, lapic.regs + REQUESTS + VECTOR / 32 * 16, sizeof requests);
+        if ((requests >> VECTOR % 32 & 1) != is_high)
+            wrong("a line", is_high ? "its interrupt is not requested" : "its interrupt is requested");
+    }
+}
+
+/* A guest that was told of more than this host has is refused by its first frame, and by its state. */
+static void tell_more(const struct whole_state *state)
+{
+    static uint8_t bytes[BODY_MAX];
+    struct whole_state told;
+    struct features *here = &host.guest.features;
+    size_t length = 0, size;
+    int count = 0;
+
+    copy(state, &told);
+    for (uint32_t i = 0; i < told.state.count_msrs; i++)
+        if (told.msrs[i].index == ARCH_CAPABILITIES) told.msrs[i].data = UINT32_MAX, count++;
+    expect(state_pack(&told, bytes, sizeof bytes, &length) == NULL, "a state does not fit");
+    make(0);
+    if (count > 0 && state_read(&host, bytes, length) == NULL)
+        wrong("a state", "it tells of more than this host has, and is taken");
+    state_free(&told);
+    make(1);
+    length = facts_write(&host, bytes);
+    if (facts_check(&host, bytes, length) != NULL) wrong("a first frame", "this host's own is refused");
+    for (uint32_t i = 0; i < here->count; i++) here->all[i].data = 0;
+    size = facts_write(&host, bytes);
+    if (count > 0 && facts_check(&host, bytes, size) == NULL)
+        wrong("a first frame", "it tells of more than this host has, and is taken");
+    expect(features_offer(kvm(), here) == NULL, "no MSRs that tell features");
+    if (count == 0) puts("state: skipped: this host has no MSR that tells features");
+}
+
+/* A guest has no counter that it could set. */
+static void set_counters(void)
+{
+    static const uint32_t NUMBERS[] = {COUNTER_OF_INTEL, COUNTER_OF_AMD};
+
+    make(1);
+    if (!kvm_hides_counters(kvm())) {
+        puts("state: skipped: this KVM cannot take performance counters away");
+        return;
+    }
+    for (int i = 0; i < 2; i++) {
+        struct {
+            uint32_t count, pad;
+            struct kvm_msr_entry entry;
+        } one = {1, 0, {.index = NUMBERS[i], .data = SELECTS}};
+        int is_set = kvm_call(kvm()->cpu, KVM_SET_MSRS, &one) == 1 && kvm_call(kvm()->cpu, KVM_GET_MSRS, &one) == 1;
+
+        if (is_set && one.entry.data == SELECTS) wrong("a counter", "it is there");
+    }
+}
+
 int main(void)
 {
     struct whole_state state, first;
@@ -281,6 +374,7 @@ int main(void)
     if (why != NULL) fail("state: %s", why);
     kvm()->cpuid = cpuid_offer(kvm());
     expect(ram != MAP_FAILED && kvm()->cpuid != NULL, "no memory");
+    expect(features_offer(kvm(), &host.guest.features) == NULL, "no MSRs that tell features");
     make(1);
     expect(state_prepare(&host) == NULL, "no list of MSRs");
     read_all(&first);
@@ -288,10 +382,14 @@ int main(void)
     why = parts_set(kvm(), &first, STATE_PARTS, PARTS);
     if (why != NULL) fail("state: %s", why);
     read_all(&state);
-    printf("state: %zu bytes, %u of them MSRs\n", sizeof state.state + state.state.xsave_size + state.state.count_msrs * sizeof *state.msrs,
+    printf("state: %zu bytes, %u of them MSRs\n",
+           sizeof state.state + state.state.xsave_size + state.state.count_msrs * sizeof *state.msrs,
            (unsigned)(state.state.count_msrs * sizeof *state.msrs));
     stop_and_start();
     try_orders(&state);
+    tell_lines();
+    tell_more(&state);
+    set_counters();
     change_states(&state);
     change_facts();
     kvm_end(kvm());

@@ -1,5 +1,5 @@
-/* Linked into the hypervisor, it forgets what the log of pages had, wrong on purpose: UNREAD=n lets the n-th call that reads it, and each later
- * one, give no page. */
+/* Linked into the hypervisor, it forgets what the log of pages had, wrong on purpose: UNREAD=n lets the n-th call
+ * that reads it, and each later one, give no page. */
 #define _GNU_SOURCE
 #include <linux/kvm.h>
 #include <stdarg.h>
