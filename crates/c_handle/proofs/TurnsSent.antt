@@ -27,7 +27,7 @@ use Rattle.sender.specs.declared.event.LiveReply.{LiveReply}
 use Rattle.sender.specs.declared.event.LiveReply.TheVariants as r
 use Rattle.sender.specs.declared.mig_error.MigError.{MigError}
 use Rattle.sender.specs.declared.phase.Phase.TheVariants as phases
-use Rattle.sender.proofs.BehindLent.{may_guest}
+use Rattle.sender.proofs.StepBeside.{may_guest}
 use Rattle.sender.proofs.Fresh.{told}
 use Rattle.c_handle.specs.Durable.{FailsKept, FailsUnless, failed_status, owed_for, owed_in, owed_lost}
 use Rattle.c_handle.specs.Kept.{KeptSeen, State, Still, Moving, Arriving, Lent, is_lost}
