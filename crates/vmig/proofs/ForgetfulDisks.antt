@@ -1,5 +1,5 @@
 -- Disks that keep nothing, as a receiver sees them: they never fail, so what it refuses is as with any disks of these sizes.
-use Rattle.std.proofs.Common.{◌≡◌, ◌<◌, ℕ, ◌+◌, Bool, List, [], ◌∷◌, ◌++◌, map, length, take, get_or, replicate, true, false, inl, inr, refl, ap, sym, ◌∙◌}
+use Rattle.std.proofs.Common.{◌≡◌, ◌<◌, ℕ, zero, suc, ◌+◌, Bool, List, [], ◌∷◌, ◌++◌, map, length, take, get_or, replicate, true, false, inl, inr, refl, ap, sym, ◌∙◌}
 use Rattle.std.specs.Prelude.{Option, Some, None, slice_get}
 use Rattle.std.proofs.lemmas.List.{length-replicate, take_more}
 use Rattle.machine.specs.Limits.{AreWithin}

@@ -7,7 +7,7 @@ use Rattle.vmig.specs.Checking.{TellsOfChecked}
 use Rattle.vmig.proofs.short_file.receive_forgetfully.Goals as goal
 
 pub returns : goal.returns
-returns c =
+returns g c =
     let front = take c.args.front.count c.args.front.piece.items in
     let terms = program_terms c.args.outside in
     let shapes : c.as_slice.result.now ≡ c.args.header.shapes.items = search rules in

@@ -4,7 +4,7 @@ use Rattle.blk.proofs.Zeros.{zero_sectors}
 use Rattle.vmig.proofs.short_file.ForgetfulDisk.sectors.Goals as goal
 
 pub returns-clause-count : goal.returns-clause-count
-returns-clause-count g c = sym (length-replicate c.self.now (replicate 512 0))
+returns-clause-count c = rw (← c.self.view_is) (sym (length-replicate c.self.inside.sectors (replicate 512 0)))
 
 pub returns-clause-whole : goal.returns-clause-whole
-returns-clause-whole g c = zero_sectors c.self.now
+returns-clause-whole c = rw (← c.self.view_is) (zero_sectors c.self.inside.sectors)
