@@ -1,7 +1,7 @@
 /* A guest is moved away while it runs: rounds between its turns, a pause at the end, and the words by which one of
  * the two runs it. Until GO is sent the guest is kept here, and continues here if the line breaks. From then on it
  * does not run here, unless the operator says so. Or it is saved in a file, likewise: once the file has its name the
- * guest does not run here, since its disks go on with who continues from the file. */
+ * guest does not run here, since its disks continue with who continues from the file. */
 #include <stdio.h>
 #include <string.h>
 #include "clock.h"

@@ -85,8 +85,8 @@ static void answer_done(struct host *h, struct slot *s)
     pool_release(&h->pool, s);
 }
 
-/* A sync that fails is of a thread of the pool. From here on nothing of this disk is told durable, also what came
- * before it and was not told. */
+/* A sync that fails is of a thread of the pool. From here on nothing of this disk is reported durable, also what came
+ * before it and was not reported. */
 void storage_tell_lost(struct host *h)
 {
     uint32_t lost = devices_lost(&h->devices);

@@ -248,7 +248,7 @@ static void await_last_word(struct host *h)
 }
 
 /* All of the file is here. What both hosts of a move have is taken. Where that is a disk the file goes: a guest that
- * continued from it once more would find a disk that went on. */
+ * continued from it once more would find a disk that has changed since. */
 static void take_over_saved(struct host *h)
 {
     const char *name = h->options.restore, *why = take_over(h);

@@ -1,4 +1,4 @@
-/* The registers with numbers (MSRs) that tell a guest what its processor has, beside CPUID. A guest believes them for
+/* The feature MSRs: registers that show a guest what its processor has, beside CPUID. A guest believes them for
  * as long as it runs: one that was told that it needs no mitigation does not land where it needs one. */
 #ifndef FEATURE_MSRS_H
 #define FEATURE_MSRS_H

@@ -9,7 +9,7 @@
  * cpufeatures.h, from bit 0 on. Where KVM offers a bit that has `-` here, no guest gets it:
  * - VMX, SVM: their state is that of KVM_GET_NESTED_STATE;
  * - AMX, with XFD: its tiles need a permission, and KVM_GET_XSAVE2 with more bytes;
- * - performance counters (PDCM, DS, PERFCTR_CORE, leaves 0xa and 0x80000022): they go on counting beside the
+ * - performance counters (PDCM, DS, PERFCTR_CORE, leaves 0xa and 0x80000022): they continue to count beside the
  *   registers, and have a buffer in RAM;
  * - traces and branch records (leaves 0x14, 0x19, 0x1c): many registers, and buffers;
  * - SGX and SEV: their pages are no RAM of the guest;

@@ -46,7 +46,7 @@ int kvm_run_guest(struct kvm *k);
 const char *kvm_log(struct kvm *k, int on);
 const char *kvm_read_log(struct kvm *k);
 
-/* Interrupt n gets the level of bit n. KVM is told of changes alone, and once of each line: a level is no part of
+/* Interrupt n gets the level of bit n. KVM is informed of changes alone, and once of each line: a level is no part of
  * what it saves. */
 void kvm_set_lines(struct kvm *k, uint32_t lines, uint32_t mask);
 

@@ -10,8 +10,8 @@
 /* KVM takes frequencies that differ by so many millionths for the same one. */
 enum { TOLERANCE = 250, MILLION = 1000000 };
 
-/* The facts: the frequency of the TSC in kHz, the number of entries of CPUID and of MSRs that tell features, and these
- * as KVM has them. */
+/* The facts: the frequency of the TSC in kHz, the number of entries of CPUID and of feature MSRs, and these as
+ * KVM has them. */
 struct facts {
     uint32_t khz, count, count_features;
 };
@@ -128,8 +128,8 @@ const char *state_write(struct host *h, uint8_t bytes[BODY_MAX], size_t *length)
     return why;
 }
 
-/* The processor is made only here: see kvm_make_cpu. What its MSRs tell of features is compared as in the first
- * frame: KVM takes any value. */
+/* The processor is made only here: see kvm_make_cpu. Its feature MSRs are compared as in the first frame: KVM
+ * takes any value. */
 const char *state_read(struct host *h, const uint8_t *bytes, size_t length)
 {
     static struct whole_state all;

@@ -1,4 +1,4 @@
-/* What is told of a guest that KVM ends. */
+/* What is reported of a guest that KVM ends. */
 #ifndef REPORT_H
 #define REPORT_H
 

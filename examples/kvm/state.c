@@ -18,7 +18,7 @@ static const char NOT_WHOLE[] = "the state of the processor and the board has an
  * - CLOCK comes before the MSRs: to set that of the wall clock writes the time of the boot into RAM, and computes it
  *   from the clock.
  * - LAPIC comes before the MSRs: the TSC's deadline is taken only where the LAPIC's timer is in that mode. Without it
- *   the guest goes on, but its timer is dead.
+ *   the guest continues to run, but its timer is dead.
  * - VCPU_EVENTS comes after what may bring about or clear an exception, and MP_STATE last: a guest that waits in HLT
  *   is not woken by the calls before it. To read MP_STATE may change the others, as it takes INIT and SIPI, so it is
  *   read first. */
@@ -66,7 +66,7 @@ const char *parts_read(struct kvm *k, struct whole_state *all)
     for (uint32_t i = 0; i < CHIPS; i++) s->chips[i].chip_id = i;
     for (int i = PARTS - 1; i >= 0 && why == NULL; i--) why = read_part(k, all, &STATE_PARTS[i]);
     if (why == NULL) s->has_tsc = (uint32_t)tsc_read(k, &s->clock, &s->tsc);
-    /* The guest's clock stands while it is paused: with other flags it would go on by the pause, and its TSC would
+    /* The guest's clock stands while it is paused: with other flags it would count the pause, and its TSC would
      * not. */
     s->clock.flags = 0;
     return why;

@@ -39,7 +39,7 @@ def outcome_of(*words, check=False, **how):
 
 
 class Over(Exception):
-    """A case cannot go on. What is wrong was said."""
+    """A case cannot continue. What is wrong was said."""
 
 
 def archives_of(words):

@@ -39,7 +39,7 @@ static struct slot *submit(uint8_t what, uint64_t first, uint32_t count, int is_
     return submit_to(&disk, what, first, count, is_durable, filling);
 }
 
-/* Waits until so many calls of a disk are done, and says how many failed. */
+/* Waits until `count` calls of a disk are done, and returns how many of them failed. */
 static unsigned finish_of(struct disk *d, unsigned count)
 {
     unsigned failed = 0;

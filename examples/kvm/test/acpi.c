@@ -1,5 +1,5 @@
-/* Goes through the tables of ACPI as a kernel does, from the RSDP on, for a board with so many devices: `acpi
- * COUNT`. Looks at their sums, and leaves each in a file of its name. */
+/* Walks the tables of ACPI as a kernel does, from the RSDP on, for a board with COUNT devices: `acpi COUNT`. Checks
+ * their sums, and leaves each table in a file of its name. */
 #include <stdio.h>
 #include <stdlib.h>
 #include <string.h>

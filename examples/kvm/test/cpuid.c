@@ -267,7 +267,7 @@ static void try_sizes(void)
     free(all);
 }
 
-/* Registers that tell features: what the host has, the guest was told, and whether it is taken. */
+/* Feature MSRs: what the host has, the guest was told, and whether it is taken. */
 static const struct {
     uint32_t number;
     uint64_t here, guest;

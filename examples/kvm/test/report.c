@@ -1,4 +1,4 @@
-/* What is told where the hardware does not take a guest's state, which no test can bring about. The processor's
+/* What is reported where the hardware does not take a guest's state, which no test can bring about. The processor's
  * descriptor is none. */
 #include <stdarg.h>
 #include <stdio.h>

@@ -292,8 +292,8 @@ static void stop_and_start(void)
     else expect(ticks > -1 && ticks < PAUSE_NS / MILLION / 2, "the TSC went on while it stood");
 }
 
-/* What KVM is told of a line reaches the LAPIC through an unmasked pin, and once more in a machine that is made anew:
- * the vector waits in its register of requests. */
+/* The level of a line, given to KVM, reaches the LAPIC through an unmasked pin, and once more in a machine that is
+ * made anew: the vector waits in its register of requests. */
 static void tell_lines(void)
 {
     struct kvm_irqchip chip = {.chip_id = 2};
@@ -340,8 +340,8 @@ static void tell_more(const struct whole_state *state)
     size = facts_write(&host, bytes);
     if (count > 0 && facts_check(&host, bytes, size) == NULL)
         wrong("a first frame", "it tells of more than this host has, and is taken");
-    expect(features_offer(kvm(), here) == NULL, "no MSRs that tell features");
-    if (count == 0) puts("state: skipped: this host has no MSR that tells features");
+    expect(features_offer(kvm(), here) == NULL, "no feature MSRs");
+    if (count == 0) puts("state: skipped: this host has no feature MSR");
 }
 
 /* A guest has no counter that it could set. */
@@ -374,7 +374,7 @@ int main(void)
     if (why != NULL) fail("state: %s", why);
     kvm()->cpuid = cpuid_offer(kvm());
     expect(ram != MAP_FAILED && kvm()->cpuid != NULL, "no memory");
-    expect(features_offer(kvm(), &host.guest.features) == NULL, "no MSRs that tell features");
+    expect(features_offer(kvm(), &host.guest.features) == NULL, "no feature MSRs");
     make(1);
     expect(state_prepare(&host) == NULL, "no list of MSRs");
     read_all(&first);
