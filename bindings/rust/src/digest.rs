@@ -21,7 +21,7 @@ impl Digest {
     /// Of no bytes yet.
     #[must_use]
     pub fn new() -> Digest {
-        let mut state = raw::Digest::default();
+        let mut state = raw::NO_DIGEST;
         // SAFETY: the digest may be written.
         unsafe { raw::vmig_digest_begin(&raw mut state) };
         Digest { state }

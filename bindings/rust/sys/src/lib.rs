@@ -313,7 +313,7 @@ pub struct Call {
 
 /// A digest of which more may come: `vmig_digest_begin` writes it first, and then only the calls do.
 #[repr(C)]
-#[derive(Clone, Copy, Debug, Default)]
+#[derive(Clone, Copy, Debug)]
 pub struct Digest {
     /// The library's.
     pub hash: [u32; 8],
@@ -324,6 +324,9 @@ pub struct Digest {
     /// 0.
     pub reserved: u64,
 }
+
+/// One that is not begun.
+pub const NO_DIGEST: Digest = Digest { hash: [0; 8], block: [0; 64], length: 0, reserved: 0 };
 
 /// What is left to be sent.
 #[repr(C)]
