@@ -11,7 +11,6 @@
 #include "clock.h"
 #include "line.h"
 #include "lookup.h"
-#include "saved.h"
 #include "say.h"
 #include "terminal.h"
 
@@ -31,13 +30,6 @@ const char *look_up(struct line *l, const char *where, struct addrinfo **found)
     (void)where;
     *found = NULL;
     return "no name is looked up here";
-}
-
-uint32_t saved_sum(uint32_t sum, const uint8_t *bytes, size_t length)
-{
-    (void)bytes;
-    (void)length;
-    return sum;
 }
 
 void say(const char *format, ...)
