@@ -280,6 +280,15 @@ def has_digest(whole):
     return with_digest(whole[:-32]) == whole
 
 
+def frames_of(whole):
+    """The frames of a file, each with its type and its bytes."""
+    at = 0
+    while at < len(whole):
+        kind, length = (int.from_bytes(whole[at + part : at + part + 4], "little") for part in (0, 4))
+        yield kind, whole[at + 8 : at + 8 + length]
+        at += 8 + length
+
+
 def saved_and_continued(run):
     """Twice, as the disk that is mapped is in the file; once with a disk that is asked, which is in no file."""
     with run.new_case("saved"):
