@@ -196,10 +196,18 @@ class Run:
             self.wrong(f"{type(why).__name__}: {why}")
         finally:
             self.drop()
+            self.look_at_checks()
             if "TIMES" in os.environ:
                 self.say(f"{time.monotonic() - began:.1f} s: {name}")
             for kept in (*self.work.glob("*.out"), *self.work.glob("*.err")):
                 kept.unlink()
+
+    def look_at_checks(self):
+        """What the checks of a compiler, where CFLAGS asks for them, found in a program."""
+        for kept in self.work.glob("*.err"):
+            found = re.search("runtime error: .*|(ERROR|WARNING): [A-Z][a-z]*Sanitizer.*", kept.read_text(errors="replace"))
+            if found:
+                self.wrong(found[0])
 
     def compile(self, name, *words):
         """Compiles a program with the compiler and its options as CC and CFLAGS have them. Sources whose
