@@ -3,7 +3,7 @@
  * or `bytes=N`: after N bytes of the source. Both ends are closed then. Or the line stays whole, and WHERE is one of
  * these:
  * - `turn=TYPE:N`: bit N of each frame of this type, its head first, is another one.
- * - `spoil=TYPE:N`: byte N of each frame of this type, behind its head, is changed, and the digest of END is made right.
+ * - `spoil=TYPE:N`: byte N of each frame of this type, behind its head, is changed, and END's digest is made right.
  * - `lose`: END says that the first disk is lost, and its digest is made right.
  * - `slow`: each frame of the source waits for some time.
  * - `hold=TYPE`: nothing is handed on from a frame of this type on.

@@ -205,7 +205,8 @@ class Run:
     def look_at_checks(self):
         """What the checks of a compiler, where CFLAGS asks for them, found in a program."""
         for kept in self.work.glob("*.err"):
-            found = re.search("runtime error: .*|(ERROR|WARNING): [A-Z][a-z]*Sanitizer.*", kept.read_text(errors="replace"))
+            said = kept.read_text(errors="replace")
+            found = re.search("runtime error: .*|(ERROR|WARNING): [A-Z][a-z]*Sanitizer.*", said)
             if found:
                 self.wrong(found[0])
 

@@ -1,6 +1,6 @@
-/* A wait whose end passes as it begins: between two looks at the clock, as where the processors have more to do than they
- * can. It ends, and does not last as long as a line may be silent. The clock is this test's own: each look is two
- * milliseconds after the one before. */
+/* A wait whose end passes as it begins: between two looks at the clock, as where the processors have more to do than
+ * they can. It ends, and does not last as long as a line may be silent. The clock is this test's own: each look is
+ * two milliseconds after the one before. */
 #define _DEFAULT_SOURCE
 #include <poll.h>
 #include <stdarg.h>
