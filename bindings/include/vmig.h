@@ -43,8 +43,8 @@
  *   which takes such a pointer at its word.
  * - What a call may write overlaps with nothing else that the call is given, no pointer points into a vmig_machine, and no image
  *   overlaps another one or RAM.
- * - One call at a time for each machine, also of calls that take it as const. Calls from several threads are ordered by a lock, or
- *   by a thread's start or join. Calls on different machines need no order.
+ * - One call at a time for each machine, also of calls that take it as const, and for each vmig_digest. Calls from several threads
+ *   are ordered by a lock, or by a thread's start or join. Calls on different machines, or digests, need no order.
  * - No call from a signal handler, or in the forked child of a process with threads. No call is left by longjmp, and no thread is
  *   cancelled within one.
  * - malloc, realloc and free belong to one allocator, and what they return is aligned to each power of two up to 16 that divides
@@ -316,7 +316,7 @@ extern "C" {
 #define VMIG_READS_(at, count, bytes, len) __attribute__((access(read_only, at, count)))
 #define VMIG_WRITES_(at, count, buf, size) __attribute__((access(write_only, at, count)))
 #define VMIG_CHANGES_(at, count, buf, size) __attribute__((access(read_write, at, count)))
-#define VMIG_SECTOR_(buf)
+#define VMIG_HOLDS_(buf, size)
 #elif __has_attribute(diagnose_if)
 #pragma clang diagnostic push
 #pragma clang diagnostic ignored "-Wgcc-compat"
@@ -326,14 +326,14 @@ extern "C" {
 #define VMIG_READS_(at, count, bytes, len) VMIG_FITS_(bytes, len)
 #define VMIG_WRITES_(at, count, buf, size) VMIG_FITS_(buf, size)
 #define VMIG_CHANGES_(at, count, buf, size) VMIG_FITS_(buf, size)
-#define VMIG_SECTOR_(buf) VMIG_WARNS_(__builtin_object_size(buf, 0) < 512, "a buffer of fewer bytes than a sector")
+#define VMIG_HOLDS_(buf, size) VMIG_WARNS_(__builtin_object_size(buf, 0) < (size), "a buffer of fewer bytes than are written")
 #endif
 #endif
 #ifndef VMIG_READS_
 #define VMIG_READS_(at, count, bytes, len)
 #define VMIG_WRITES_(at, count, buf, size)
 #define VMIG_CHANGES_(at, count, buf, size)
-#define VMIG_SECTOR_(buf)
+#define VMIG_HOLDS_(buf, size)
 #endif
 
 /* The version of this library. It reads streams of versions 1 to 3. It writes version 3 where a device is for frames of more than
@@ -815,7 +815,7 @@ vmig_status vmig_calls_out(const vmig_machine *m, vmig_call *calls, size_t size,
 /* A sector of the disk of a device, numbered from 0: VMIG_OK, and buf becomes its 512 bytes; or VMIG_BAD_SECTOR: it has none, and
  * buf is as it was. Nothing but the guest writes a disk. NO_DEVICE, WRONG_KIND (it has no disk), NO_SECTOR. */
 vmig_status vmig_sector_read(const vmig_machine *m, uint8_t dev, uint64_t sector, uint8_t buf[512])
-    VMIG_CHECKED_(1, 4) VMIG_SECTOR_(buf);
+    VMIG_CHECKED_(1, 4) VMIG_HOLDS_(buf, 512);
 
 /* ---- RAM --------------------------------------------------------------------------------------------------------------------- */
 
@@ -944,6 +944,27 @@ vmig_status vmig_finish(vmig_machine *m) VMIG_CHECKED_(1);
 vmig_status vmig_stream_describe(const uint8_t *bytes, size_t len, vmig_description *out)
     VMIG_CHECKED_(3) VMIG_READS_(1, 2, bytes, len);
 
+/* ---- digests ----------------------------------------------------------------------------------------------------------------- */
+
+/* SHA-256 (FIPS 180-4) of bytes that come in pieces: for what a host sends beside a stream, which has one of its own at its end. Its
+ * calls are pure: of no machine, from any thread, and never refused. Only they write it, from vmig_digest_begin on. A copy of it,
+ * by assignment or memcpy, is a digest too, which continues by itself: end a copy for the digest so far. */
+typedef struct vmig_digest {
+    uint32_t hash[8];
+    uint8_t block[64];
+    uint64_t length;
+    uint64_t reserved;
+} vmig_digest;                          /* 112 bytes, no padding */
+
+/* A digest begins: nothing was added to it. */
+void vmig_digest_begin(vmig_digest *digest) VMIG_NONNULL_(1);
+
+/* Adds bytes, in pieces of any size: the digest is that of all pieces, one after another. */
+void vmig_digest_add(vmig_digest *digest, const uint8_t *bytes, size_t len) VMIG_NONNULL_(1) VMIG_READS_(2, 3, bytes, len);
+
+/* out becomes the SHA-256 of all that was added since it began. The digest begins anew. */
+void vmig_digest_end(vmig_digest *digest, uint8_t out[32]) VMIG_NONNULL_(1, 2) VMIG_HOLDS_(out, 32);
+
 static inline const char *vmig_status_name(vmig_status status)
 {
 #define VMIG_NAMED_(name) case name: return #name;
@@ -1067,7 +1088,7 @@ static inline vmig_status vmig_push_or_null_(vmig_machine *m, const vmig_pages *
 #undef VMIG_READS_
 #undef VMIG_WRITES_
 #undef VMIG_CHANGES_
-#undef VMIG_SECTOR_
+#undef VMIG_HOLDS_
 #ifdef VMIG_FITS_
 #undef VMIG_FITS_
 #undef VMIG_WARNS_

@@ -9,6 +9,7 @@
 #include <sys/mman.h>
 #include <sys/stat.h>
 #include <unistd.h>
+#include <array>
 #include <atomic>
 #include <cerrno>
 #include <cstddef>
@@ -58,6 +59,25 @@ enum class status : std::uint32_t {
 {
     return status{vmig_stream_describe(bytes, len, out)};
 }
+
+/* The SHA-256 of bytes that come in pieces, as of what a host sends beside a stream. A copy of it continues by itself. */
+class digest {
+public:
+    digest() noexcept { vmig_digest_begin(&state); }
+
+    void add(const std::uint8_t *bytes, std::size_t len) noexcept { vmig_digest_add(&state, bytes, len); }
+
+    /* That of all that was added since it began. It begins anew. */
+    [[nodiscard]] std::array<std::uint8_t, 32> end() noexcept
+    {
+        std::array<std::uint8_t, 32> out{};
+        vmig_digest_end(&state, out.data());
+        return out;
+    }
+
+private:
+    vmig_digest state{};
+};
 
 /* Pages of RAM that were written: none, all, or those of a list, of a bitmap, or of both. The list and the words stay where they
  * are until the call that is given them. */

@@ -1,4 +1,6 @@
 // Each call of vmig.hpp, with what vmig.h says of it for a machine of each state: none, idle, lent, sending, stopped and arriving.
+#include <algorithm>
+#include <array>
 #include <cstdio>
 #include <type_traits>
 #include <utility>
@@ -265,10 +267,30 @@ void long_frames()
     EXPECT(arrived.describe().shapes[0].frame == 9018);
 }
 
+// The first two messages of the examples of FIPS 180-4, and the first bytes of their digests.
+void digests()
+{
+    const std::uint8_t message[] = {'a', 'b', 'c'};
+    const std::array<std::uint8_t, 4> of_none = {0xe3, 0xb0, 0xc4, 0x42}, of_message = {0xba, 0x78, 0x16, 0xbf};
+    vmig::digest whole, pieces;
+    auto begins = [](const std::array<std::uint8_t, 32> &found, const std::array<std::uint8_t, 4> &wanted) {
+        return std::equal(wanted.begin(), wanted.end(), found.begin());
+    };
+
+    whole.add(message, 3);
+    pieces.add(nullptr, 0);
+    for (std::uint8_t byte : message) pieces.add(&byte, 1);
+    vmig::digest copy = pieces;
+    EXPECT(begins(whole.end(), of_message));
+    EXPECT(begins(whole.end(), of_none));
+    EXPECT(begins(pieces.end(), of_message) && begins(copy.end(), of_message));
+}
+
 }  // namespace
 
 int main()
 {
+    digests();
     none();
     idle_and_lent();
     moved();

@@ -12,6 +12,7 @@
 //! - [`Machine::disk_call`] hands out what a [`Device::Outside`] asks of its disk, [`Machine::disk_done`] and [`Machine::disk_failed`] answer it.
 //! - [`Machine::send_begin`] and the calls that begin with `send` move it.
 //! - [`Machine::into_parts`] frees it, and gives back what was the caller's.
+//! - [`Digest`] is the SHA-256 of what a host sends beside a stream. It needs no machine.
 //!
 //! # What does not compile
 //! A machine that was freed or lent has no calls by its old name:
@@ -165,6 +166,7 @@ mod arrival;
 mod builder;
 mod call;
 mod device;
+mod digest;
 mod error;
 pub mod guide;
 mod image;
@@ -180,6 +182,7 @@ pub use arrival::{Announced, Arrival, ArrivalBuilder, announced};
 pub use builder::MachineBuilder;
 pub use call::{Call, DiskWork};
 pub use device::Device;
+pub use digest::Digest;
 pub use error::{Error, Refused, SyncError};
 pub use image::Image;
 pub use lent::Lent;

@@ -21,7 +21,8 @@
 //!   in it that can be below.
 #![tactic(auto)]
 
-ghost use Rattle.std.specs.Prelude.{◌≡◌, None};
+ghost use Rattle.std.specs.Prelude.{◌≡◌, ◌++◌, List, None, [], ℕ};
+ghost use Rattle.c_digest.specs.Holding.{Holds};
 ghost use Rattle.machine.specs.declared.event.Event.TheVariants as events;
 ghost use Rattle.c_handle.specs.Announced.{Announces};
 ghost use Rattle.c_handle.specs.Arriving.{Fed, Finished};
@@ -47,7 +48,9 @@ ghost use Rattle.c_handle.specs.Unmapping.{Releases};
 ghost use Rattle.c_handle.specs.Turns.{Worked};
 ghost use Rattle.c_handle.specs.Told.{Read, Told, ToldOr, ToldSo, Written, lines_told};
 ghost use Rattle.c_handle.specs.Version.{version};
+ghost use Rattle.sha2.specs.Sha256.{sha256};
 
+use c_digest::Digest;
 use c_handle::{
     Call, Handle, SendLeft, Turn, abort, announced, answer_done, answer_failed, arrive, begin,
     describe, drop_input, feed, finish, give_back, hand_call, hand_out, held_of, input,
@@ -541,4 +544,29 @@ pub extern "C" fn vmig_stream_describe(alloc: Global, bytes: &[u8], out: &mut De
     ensures { Announces bytes.now result out.new out.old }
 {
     announced(alloc, bytes, out)
+}
+
+/// Begins a digest: nothing was added to it.
+#[unsafe(no_mangle)]
+pub extern "C" fn vmig_digest_begin(digest: &mut Digest)
+    ensures { Holds digest.new [] }
+{
+    *digest = Digest::begin();
+}
+
+/// Adds bytes to what a digest is of.
+#[unsafe(no_mangle)]
+pub extern "C" fn vmig_digest_add(digest: &mut Digest, bytes: &[u8])
+    ensures { (message : List ℕ) → Holds digest.old message → Holds digest.new (message ++ bytes.now) }
+{
+    digest.add(bytes);
+}
+
+/// The SHA-256 of all that was added. The digest begins anew.
+#[unsafe(no_mangle)]
+pub extern "C" fn vmig_digest_end(digest: &mut Digest, out: &mut [u8; 32])
+    ensures told { (message : List ℕ) → Holds digest.old message → out.new ≡ sha256 message }
+    ensures begun { Holds digest.new [] }
+{
+    *out = digest.end();
 }

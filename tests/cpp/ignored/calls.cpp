@@ -88,8 +88,9 @@ namespace {
     image.get();
 }
 
-[[maybe_unused]] void of_no_machine(vmig::status told, std::uint8_t *bytes)
+[[maybe_unused]] void of_no_machine(vmig::status told, vmig::digest &digest, std::uint8_t *bytes)
 {
+    digest.end();
     vmig::name(told);
     vmig::refused(told);
     vmig::version();

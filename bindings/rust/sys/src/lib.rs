@@ -66,6 +66,7 @@ pub struct Image {
 
 // The header says the size of this one, of which descriptions have sixteen.
 const _: () = assert!(size_of::<Shape>() == 56 && size_of::<Description>() == 96 + 16 * 56 && size_of::<Call>() == 40);
+const _: () = assert!(size_of::<Digest>() == 112 && align_of::<Digest>() == 8);
 
 /// No image.
 pub const NO_IMAGE: Image = Image { at: core::ptr::null_mut(), sectors: 0 };
@@ -308,6 +309,20 @@ pub struct Call {
     pub zero: u8,
     /// 0.
     pub reserved: [u64; 2],
+}
+
+/// A digest of which more may come: `vmig_digest_begin` writes it first, and then only the calls do.
+#[repr(C)]
+#[derive(Clone, Copy, Debug, Default)]
+pub struct Digest {
+    /// The library's.
+    pub hash: [u32; 8],
+    /// The library's.
+    pub block: [u8; 64],
+    /// The library's.
+    pub length: u64,
+    /// 0.
+    pub reserved: u64,
 }
 
 /// What is left to be sent.
@@ -619,4 +634,10 @@ unsafe extern "C" {
     /// What a stream announces.
     #[must_use]
     pub fn vmig_stream_describe(bytes: *const u8, len: usize, out: *mut Description) -> u32;
+    /// A digest begins.
+    pub fn vmig_digest_begin(digest: *mut Digest);
+    /// Adds bytes to it.
+    pub fn vmig_digest_add(digest: *mut Digest, bytes: *const u8, len: usize);
+    /// The SHA-256 of all that was added. It begins anew.
+    pub fn vmig_digest_end(digest: *mut Digest, out: *mut [u8; 32]);
 }

@@ -1,0 +1,21 @@
+use Rattle.std.proofs.Common.{rules, ◌≡◌, ◌*◌, length, arith, refl, sym, ◌∙◌}
+use Rattle.std.proofs.lemmas.List.{take_all}
+use Rattle.std.proofs.lemmas.Slice.{overwrites}
+use Rattle.sha2.specs.Sha256.{digest_bytes}
+use Rattle.sha2.proofs.Absorbing256.{digest_more}
+use Rattle.c_digest.proofs.digest.bytes_of.Goals as goal
+
+pub words-init : goal.words-init
+unfolding digest_bytes
+words-init c = (refl, refl)
+
+pub words-preserved : goal.words-preserved
+words-preserved c = (
+  search (rules, overwrites),
+  digest_more c.words.bytes c.args.hash.now _ c.words.n _ c.words.invariant.1 (omega arith) (c.copy_from_slice.ensures.after ∙ c.to_be_bytes.ensures),
+)
+
+pub returns : goal.returns
+returns c =
+    let end : c.words.n ≡ 8 = omega arith in
+    sym (take_all 32 c.words.bytes (omega arith)) ∙ (rw end at c.words.invariant.1)
