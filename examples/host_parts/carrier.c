@@ -79,10 +79,10 @@ static const char *carry_some(struct host *h)
 
     if (m->is_sending && l->out_at == l->out_length)
         must(vmig_send_take(&h->machine, bytes, sizeof bytes, &got), "vmig_send_take");
-    if (got > 0) line_begin(l, STREAM, bytes, got);
-    m->is_carried = l->out_at == l->out_length;
+    m->is_carried = got == 0 && l->out_at == l->out_length;
     if (m->is_carried) call_out(h);
     unlock_library(h);
+    if (got > 0) line_begin(l, STREAM, bytes, got);
     why = l->out_at == l->out_length ? await_more(l) : send_frame(l);
     lock_library(h);
     return why;

@@ -15,24 +15,6 @@
 /* The other name: the file's own, a point and the number of the process. */
 static char other[PATH_MAX];
 
-/* The polynomial of Ethernet and zip, its lowest power first. */
-static uint32_t sum_of_byte(uint32_t byte)
-{
-    for (int i = 0; i < 8; i++) byte = byte >> 1 ^ (byte & 1 ? UINT32_C(0xedb88320) : 0);
-    return byte;
-}
-
-uint32_t saved_sum(uint32_t sum, const uint8_t *bytes, size_t length)
-{
-    static uint32_t table[256];
-
-    if (table[1] == 0)
-        for (uint32_t i = 0; i < 256; i++) table[i] = sum_of_byte(i);
-    sum = ~sum;
-    for (size_t i = 0; i < length; i++) sum = sum >> 8 ^ table[(sum ^ bytes[i]) & 0xff];
-    return ~sum;
-}
-
 void saved_drop(void)
 {
     if (other[0] != '\0') unlink(other);
@@ -59,10 +41,6 @@ const char *saved_create(struct line *l, const char *name)
 
 const char *saved_close(struct line *l)
 {
-    uint8_t sum[CHECK_LENGTH];
-
-    for (int i = 0; i < CHECK_LENGTH; i++) sum[i] = (uint8_t)(l->sum >> (8 * i));
-    if (!line_send(l, CHECK, sum, sizeof sum)) return strerror(l->error);
     return fsync(l->socket) == 0 ? NULL : strerror(errno);
 }
 
@@ -85,20 +63,19 @@ const char *saved_remove(const char *name)
     return NULL;
 }
 
-/* All frames have to be there, the last one is their sum, and nothing is behind it. Returns what is wrong, or NULL. */
+/* All frames have to be there, as the digest of the last one has them, and nothing is behind it. Returns what is wrong,
+ * or NULL. */
 static const char *look_at_all(struct line *l)
 {
     static const char SPOILED[] = "it is cut or changed, or has no guest";
-    uint32_t sum, found = 0;
+    uint32_t lost;
     uint8_t more;
 
     do {
-        sum = l->sum;
         if (operator_words.ends) return "its operator ends the program";
         if (line_collect(l) <= 0) return SPOILED;
-    } while (l->type != CHECK);
-    for (int i = 0; i < CHECK_LENGTH; i++) found |= (uint32_t)l->body[i] << (8 * i);
-    return found == sum && read(l->socket, &more, 1) == 0 ? NULL : SPOILED;
+    } while (l->type != END);
+    return line_is_whole(l, &lost) && read(l->socket, &more, 1) == 0 ? NULL : SPOILED;
 }
 
 const char *saved_open(struct line *l, const char *name)
@@ -112,6 +89,7 @@ const char *saved_open(struct line *l, const char *name)
     if (!S_ISREG(facts.st_mode)) return "it is no file";
     why = look_at_all(l);
     l->in_at = 0;
+    vmig_digest_begin(&l->digest);
     if (why == NULL && lseek(l->socket, 0, SEEK_SET) != 0) why = strerror(errno);
     return why;
 }

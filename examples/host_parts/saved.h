@@ -1,16 +1,13 @@
-/* The file of a saved guest: the frames of a move from HELLO to END, and CHECK, a CRC-32 of all before it, which finds
- * what was cut or changed by accident. It has its name once it is whole and on its storage. */
+/* The file of a saved guest: the frames of a move from HELLO to END, whose digest covers all of it, the stream too. It
+ * has its name once it is whole and on its storage. */
 #ifndef SAVED_H
 #define SAVED_H
 
 #include "line.h"
 
-/* The sum of more bytes, as CHECK has it. It begins with 0. */
-uint32_t saved_sum(uint32_t sum, const uint8_t *bytes, size_t length);
-
 /* Begins the file under another name beside this one. Returns why it cannot, or NULL. */
 const char *saved_create(struct line *l, const char *name);
-/* All frames are in it: CHECK is added, and all of it is brought to the storage. Returns why it cannot be, or NULL. */
+/* All frames are in it, and are brought to the storage. Returns why they cannot be, or NULL. */
 const char *saved_close(struct line *l);
 /* It takes its name, in place of what had it. Returns why it cannot, or NULL; then there is no such file. */
 const char *saved_keep(const char *name);

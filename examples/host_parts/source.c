@@ -265,7 +265,6 @@ static void drop_pool(struct host *h)
 static const char *send_rest(struct host *h)
 {
     static uint8_t state[BODY_MAX];
-    uint8_t end[END_LENGTH];
     struct line *l = &h->move.line;
     uint64_t pages = 0, sectors = 0;
     size_t length = 0;
@@ -279,8 +278,7 @@ static const char *send_rest(struct host *h)
     if (vmig_send_stop(&h->machine, &pages, &sectors) != VMIG_OK) return OUT_OF_MEMORY;
     why = send_waiting(h);
     if (why != NULL) return why;
-    end_write(end, devices_lost(&h->devices));
-    if (!line_send(l, STATE, state, length) || !line_send(l, END, end, sizeof end)) return why_not(h);
+    if (!line_send(l, STATE, state, length) || !line_send_end(l, devices_lost(&h->devices))) return why_not(h);
     return l->is_file ? saved_close(l) : await_ready(h);
 }
 

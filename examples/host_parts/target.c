@@ -165,6 +165,7 @@ static const char *take_all(struct host *h, struct arrival *a)
 {
     struct line *l = &h->move.line;
     const char *why;
+    uint32_t lost;
     vmig_status status;
 
     line_be_patient(l);
@@ -174,9 +175,10 @@ static const char *take_all(struct host *h, struct arrival *a)
         if (l->is_file && operator_words.ends) why = "its operator ends the program";
         if (why != NULL) return why;
     } while (l->type != END);
+    if (!line_is_whole(l, &lost)) return "what came is not what was sent";
     status = vmig_finish(&h->machine);
     if (status != VMIG_OK) return vmig_status_name(status);
-    why = devices_take_loss(&h->devices, end_read(l->body));
+    why = devices_take_loss(&h->devices, lost);
     if (why != NULL) return why;
     return arrive(h, a);
 }
@@ -189,9 +191,10 @@ __attribute__((noreturn)) static void refuse(struct host *h, const char *why)
     fail("move: %s: no guest is here, and the source has it", why);
 }
 
-/* The source did not say that it has let go. Perhaps it did, and perhaps it runs the guest. */
-static void keep(void)
+/* The source did not say that it has let go. Perhaps it did, and perhaps it runs the guest. It hears no more. */
+static void keep(struct line *l)
 {
+    line_close(l);
     say("move: the line broke before the source's last word: the guest is whole here, but does not run");
     if (!ask_operator(
             "move: if it does not run at the source either, SIGUSR2 or Ctrl-A c starts it here; else end this program"))
@@ -238,7 +241,7 @@ static void await_last_word(struct host *h)
 
     if (has_word && l->type == ENDED) fail("move: %s: no guest is here", line_reason(l, "the source says: "));
     if (!has_word || l->type != GO) {
-        keep();
+        keep(l);
         take_over_or_ask(h);
         return;
     }

@@ -1,5 +1,6 @@
 """The cases that `run` of both hypervisors has. `run` is a Run of hosts.py."""
 
+import hashlib
 import os
 import re
 import resource
@@ -10,6 +11,7 @@ import time
 from hosts import SHARED, outcome_of
 
 CONTINUES = "the guest continues here"
+CHANGED = "what came is not what was sent"
 
 # How many descriptors one of both may have, and which of its threads fails.
 FEW_FILES = range(3, 13)
@@ -43,6 +45,84 @@ def spoiled(run, what, reason):
         if what.startswith("hello:") and target.says("round 1 is here"):
             run.wrong("pages came before it was refused")
         run.ends_well(source)
+
+
+def turned(run, what, reason, **how):
+    """One bit of the line turns, TYPE:N, bit N of each frame of a type. The target refuses it before it says that
+    all is here, and the guest continues at the source."""
+    with run.new_case(f"a bit that turns: {what}"):
+        if how:
+            run.make_disk(how["disk"])
+        options = ["--shared"] if how else []
+        source, target = run.begin_both(f"turn={what}", target_options=options, source_options=options, target_how=how,
+                                        source_how=how)
+        source.wait_for(f"{reason}.*: {CONTINUES}")
+        target.ends_with(1)
+        if target.says("all is here"):
+            run.wrong("the target took it")
+        run.ends_well(source)
+
+
+def all_turned(run, hello, hello_reason, state):
+    """A bit of each kind of frame: within HELLO and STATE as these say; in a piece of the stream; in END, in what it
+    has of a shared disk, and in its digest; in the length of a piece, of STATE and of END; and of the last words,
+    none of which becomes another one."""
+    refuses = "the target refuses: "
+    turned(run, hello, refuses + hello_reason)
+    turned(run, "welcome:70", "what listens there has another --word")
+    turned(run, "stream:24000", f"{refuses}VMIG_STREAM_")
+    turned(run, state, refuses + CHANGED)
+    turned(run, "end:66", refuses + CHANGED, **SHARED)
+    turned(run, "end:300", refuses + CHANGED)
+    turned(run, "end:32", "")
+    without_ready(run, "turn=ready:0")
+    without_go(run, "turn=go:0", True)
+    without_runs(run, "turn=runs:0")
+
+
+def without_ready(run, where):
+    """The word of the target is lost, or is none: the guest continues at the source. The target is told so, or
+    cannot know, and waits for its operator."""
+    with run.new_case(f"the line breaks at {where}"):
+        source, target = run.begin_both(where)
+        source.wait_for(CONTINUES)
+        target.wait_for("does not run|no guest is here")
+        target.signal(signal.SIGTERM)
+        target.ends_with(1)
+        run.ends_well(source)
+
+
+def without_go(run, where, starts_at_source):
+    """The source's last word is lost, or is none: neither runs the guest, and both say so. The operator's word
+    starts one of them."""
+    with run.new_case(f"the line breaks at {where}, and the operator starts it at the"
+                      f" {'source' if starts_at_source else 'target'}"):
+        source, target = run.begin_both(where)
+        source.wait_for("the guest is paused here")
+        target.wait_for("does not run")
+        for host in (source, target):
+            host.type(b"e")
+        time.sleep(0.2)
+        if run.count_sums():
+            run.wrong("one runs without a word of the operator")
+        one, other = (source, target) if starts_at_source else (target, source)
+        one.signal(signal.SIGUSR2)
+        one.wait_for(CONTINUES if starts_at_source else "by the word of the operator the guest runs here")
+        other.signal(signal.SIGTERM)
+        other.ends_with(1)
+        run.ends_well(one)
+
+
+def without_runs(run, where):
+    """The answer to the last word is lost, or is none: the guest runs at the target. The source cannot know, and
+    waits for its operator."""
+    with run.new_case(f"the line breaks at {where}"):
+        source, target = run.begin_both(where)
+        source.wait_for(f"the guest is paused here|{CONTINUES}")
+        target.wait_for("the guest runs here")
+        run.ends_well(target)
+        source.signal(signal.SIGTERM)
+        source.ends_with(1)
 
 
 def untaken(run, reason, spoil, **how):
@@ -191,10 +271,30 @@ def restore(run, saved, *options, **how):
     return run.begin("target", "--restore", saved, *options, **how)
 
 
+def with_digest(frames):
+    """A file ends with the SHA-256 of all before it."""
+    return frames + hashlib.sha256(frames).digest()
+
+
+def has_digest(whole):
+    return with_digest(whole[:-32]) == whole
+
+
+def frames_of(whole):
+    """The frames of a file, each with its type and its bytes."""
+    at = 0
+    while at < len(whole):
+        kind, length = (int.from_bytes(whole[at + part : at + part + 4], "little") for part in (0, 4))
+        yield kind, whole[at + 8 : at + 8 + length]
+        at += 8 + length
+
+
 def saved_and_continued(run):
     """Twice, as the disk that is mapped is in the file; once with a disk that is asked, which is in no file."""
     with run.new_case("saved"):
         saved = save(run)
+        if not has_digest(saved.read_bytes()):
+            run.wrong("the digest of the file is another one")
         for _ in range(2):
             run.drop()
             run.ends_well(restore(run, saved))
@@ -250,17 +350,19 @@ def not_restored(run, reason, saved, *options):
 
 
 def all_not_restored(run):
-    """Cut, changed, longer, no file, and of another machine. The last bytes are those of STATE, of END, 12, and
-    of CHECK, 12."""
+    """Cut, changed, longer, no file, and of another machine. The last bytes are those of STATE, and of END: 8, 4
+    and 32."""
     with run.new_case("a file that is spoiled"):
         whole = save(run).read_bytes()
         spoiled_file, size = run.work / "spoiled.saved", len(whole)
-        for at in (0, 7, 100, size // 2, size - 12, size - 1):
+        for at in (0, 7, 100, size // 2, size - 44, size - 1):
             spoiled_file.write_bytes(whole[:at])
             not_restored(run, "it is cut or changed", spoiled_file)
-        for at in (0, 4, 20, 104, size // 2, size - 100, size - 13, size - 12, size - 1):
+        for at in (0, 4, 20, 104, size // 2, size - 100, size - 45, size - 44, size - 36, size - 1):
             spoiled_file.write_bytes(whole[:at] + bytes([whole[at] ^ 1]) + whole[at + 1 :])
             not_restored(run, "it is cut or changed", spoiled_file)
+        spoiled_file.write_bytes(with_digest(whole[:20] + bytes([whole[20] ^ 1]) + whole[21:-32]))
+        not_restored(run, "a hypervisor for another processor", spoiled_file)
         spoiled_file.write_bytes(whole + b"x")
         not_restored(run, "it is cut or changed", spoiled_file)
         not_restored(run, "it is no file", "/dev/null")

@@ -2,7 +2,7 @@
 what it says of a case that is not as it should be. What a case begins ends with it, by its number.
 
 With TIMES in the environment it says how long each case took, and with FIRST it ends at the first thing that is
-wrong."""
+wrong. SLOW=n has it wait n times as long, as for programs with the checks of a compiler."""
 
 import concurrent.futures
 import contextlib
@@ -25,7 +25,8 @@ INCLUDE = EXAMPLES.parent / "bindings/include"
 
 # How long a loaded machine may take; how long one that is told to end may take, which is a second where the machine
 # is free; and how often to look.
-WAIT_SECONDS, SOON_SECONDS, LOOK_SECONDS, TYPE_SECONDS = 120, 2, 0.02, 0.5
+SLOW = float(os.environ.get("SLOW") or 1)
+WAIT_SECONDS, SOON_SECONDS, LOOK_SECONDS, TYPE_SECONDS = 120 * SLOW, 2 * SLOW, 0.02, 0.5
 
 DISK_SIZE = 65536
 SHARED = {"form": "--disk", "disk": "shared.disk"}
@@ -195,10 +196,19 @@ class Run:
             self.wrong(f"{type(why).__name__}: {why}")
         finally:
             self.drop()
+            self.look_at_checks()
             if "TIMES" in os.environ:
                 self.say(f"{time.monotonic() - began:.1f} s: {name}")
             for kept in (*self.work.glob("*.out"), *self.work.glob("*.err")):
                 kept.unlink()
+
+    def look_at_checks(self):
+        """What the checks of a compiler, where CFLAGS asks for them, found in a program."""
+        for kept in self.work.glob("*.err"):
+            said = kept.read_text(errors="replace")
+            found = re.search("runtime error: .*|(ERROR|WARNING): [A-Z][a-z]*Sanitizer.*", said)
+            if found:
+                self.wrong(found[0])
 
     def compile(self, name, *words):
         """Compiles a program with the compiler and its options as CC and CFLAGS have them. Sources whose

@@ -1,6 +1,6 @@
-/* A wait whose end passes as it begins: between two looks at the clock, as where the processors have more to do than they
- * can. It ends, and does not last as long as a line may be silent. The clock is this test's own: each look is two
- * milliseconds after the one before. */
+/* A wait whose end passes as it begins: between two looks at the clock, as where the processors have more to do than
+ * they can. It ends, and does not last as long as a line may be silent. The clock is this test's own: each look is
+ * two milliseconds after the one before. */
 #define _DEFAULT_SOURCE
 #include <poll.h>
 #include <stdarg.h>
@@ -11,7 +11,6 @@
 #include "clock.h"
 #include "line.h"
 #include "lookup.h"
-#include "saved.h"
 #include "say.h"
 #include "terminal.h"
 
@@ -31,13 +30,6 @@ const char *look_up(struct line *l, const char *where, struct addrinfo **found)
     (void)where;
     *found = NULL;
     return "no name is looked up here";
-}
-
-uint32_t saved_sum(uint32_t sum, const uint8_t *bytes, size_t length)
-{
-    (void)bytes;
-    (void)length;
-    return sum;
 }
 
 void say(const char *format, ...)
