@@ -6,8 +6,9 @@
 //! A stop goes over its two sets side by side, and searches each on only from the member that it has just sent: a search of
 //! both from each item on would go over the rest of a set that has one late member for each item of the other.
 
-ghost use Rattle.std.specs.Prelude.{◌≡◌, ◌≢◌, ◌<◌, ◌^◌, ◌-◌, ◌+◌, ◌*◌, ◌≤◌, ◌++◌, IfOk, IfErr, None, OnOk, Some, [], drop, false, length, min, take, true};
+ghost use Rattle.std.specs.Prelude.{◌≡◌, ◌≢◌, ◌<◌, ◌^◌, ◌-◌, ◌+◌, ◌*◌, ◌≤◌, ◌++◌, List, ℕ, IfOk, IfErr, None, OnOk, Some, [], drop, false, length, min, take, true};
 ghost use Rattle.guestmem.specs.Lent.{AreBelow};
+ghost use Rattle.sha2.specs.Sha256.{sha256};
 ghost use Rattle.dirtylog.specs.Members.{HasNone, IsLeastFrom, member_count};
 ghost use Rattle.machine.specs.declared.event.Event.TheVariants as events;
 ghost use Rattle.machine.specs.Calls.{CallsDisk};
@@ -30,14 +31,14 @@ use crate::measuring::devices_len;
 use crate::mig_error::MigError;
 use crate::numbering::{item_at, number_items, page_count};
 use crate::phase::Phase;
-use crate::saving::{send_item, write_devices, write_end};
+use crate::saving::{send_item, write_devices, write_seal};
 use dirtylog::BitSet;
 use guestmem::Both;
 use machine::{Disk, DiskFault, Event, Machine, Reply, Stepped};
 use region::Region;
 use std::alloc::{AllocError, Global};
 use std::marker::Model;
-use wire::{Digesting, Eager, Sink, Waiting, encode_header, encode_round};
+use wire::{Digesting, Eager, Sink, Told, Waiting, encode_header, encode_round};
 
 /// The last round that the record of a round's end can number. It can't be ended.
 const LAST_ROUND: u32 = u32::MAX;
@@ -60,6 +61,9 @@ pub type Live<D, W> = LiveOver<D, Eager<W>>;
 
 /// One whose bytes wait in memory until they are taken, and are digested no sooner than they must.
 pub type LiveWaiting<D> = LiveOver<D, Waiting>;
+
+/// One whose bytes wait in memory until they are taken, and whose digest is told by whoever takes them.
+pub type LiveTold<D> = LiveOver<D, Told>;
 
 impl<D: Disk, W: Digesting> Model for LiveOver<D, W> {
     ghost use Rattle.sender.specs.LiveState.{LiveSeen};
@@ -110,6 +114,41 @@ impl<D: Disk, W: Sink> LiveOver<D, Eager<W>> {
         ensures rest { self.new ≡ record self.old { out = W.state writer } }
     {
         self.writer.replace(writer)
+    }
+}
+
+impl<D: Disk> LiveOver<D, Told> {
+    /// A machine of which nothing is sent yet. Fails only if memory is refused.
+    pub fn new(
+        alloc: Global,
+        machine: Machine<D>,
+    ) -> Result<LiveTold<D>, (AllocError, Machine<D>)>
+        ensures machine { IfOk result (λ l. l.machine ≡ machine) }
+        ensures fresh { IfOk result (λ l. l.phase ≡ Phase.Fresh) }
+        ensures empty { IfOk result (λ l. HasNone l.due × HasNone l.dirty) }
+        ensures digest { IfOk result (λ l. Covers l.digest []) }
+        ensures places { IfOk result (λ l. HasPlaces l) }
+        ensures out { IfOk result (λ l. l.out ≡ over_writer (Some []) 0 false) }
+        ensures err { IfErr result (λ e. e.1 ≡ machine) }
+    {
+        let Ok((due, dirty)) = make_room(alloc, &machine) else {
+            return Err((AllocError, machine));
+        };
+        Ok(LiveOver::fresh(machine, Told::new(alloc), due, dirty))
+    }
+
+    /// The digest of all bytes before the record that closes the stream, once it stopped. No field changes: what is still to be taken holds that
+    /// record already, and now it can be taken. Fails only if memory is refused.
+    #[tactic(auto, using(wire::proofs::ToldSinks::same_state, wire::proofs::ToldSinks::same_sum))]
+    pub fn tell(&mut self, digest: &[u8; 32]) -> Result<(), AllocError>
+        requires stopped { self.old.phase ≡ Phase.Stopped }
+        requires digest { (bytes : List ℕ) → Covers self.old.digest bytes → digest.now ≡ sha256 bytes }
+        ensures { OnOk result (self.new ≡ self.old) }
+    {
+        if !self.writer.owes() {
+            return Ok(());
+        }
+        self.writer.tell(digest)
     }
 }
 
@@ -581,8 +620,7 @@ impl<D: Disk, W: Digesting> LiveOver<D, W> {
             self.phase = Phase::Failed;
             return Err(MigError::StreamFailed);
         }
-        let digest = self.writer.digest();
-        if let Err(_) = write_end(&digest, &mut self.writer) {
+        if let Err(_) = write_seal(&mut self.writer) {
             self.phase = Phase::Failed;
             return Err(MigError::StreamFailed);
         }

@@ -11,7 +11,7 @@ ghost use Rattle.machine.specs.Layout.{pages_of};
 ghost use Rattle.machine.specs.NextBad.{IsNextBad};
 ghost use Rattle.machine.specs.Seen.{state_of};
 ghost use Rattle.wire.specs.Records.{commit, spelled_record};
-ghost use Rattle.wire.specs.Sinks.{Appends, Takes};
+ghost use Rattle.wire.specs.Sinks.{Appends, Seals, Takes};
 ghost use Rattle.wire.specs.Stream.{device_texts, record_of, records_below, saved, texts, whole};
 ghost use Rattle.sender.specs.LiveState.{item_of};
 ghost use Rattle.sender.specs.Items.{disk_text, first_sector, front_text, sectors_text, size_on};
@@ -53,6 +53,15 @@ pub(crate) fn write_end<S: Sink>(digest: &[u8; 32], out: &mut S) -> Result<(), S
     ensures flushed { OnOk result ((S.state out.new).is_flushed ≡ true) }
 {
     encode_commit(digest, out)?;
+    out.flush()
+}
+
+/// Writes the digest that the writer makes, and flushes the writer.
+pub(crate) fn write_seal<W: Digesting>(out: &mut W) -> Result<(), SinkFault>
+    ensures out { Seals (W.sum out.old) (W.state out.old) result (W.state out.new) }
+    ensures flushed { OnOk result ((W.state out.new).is_flushed ≡ true) }
+{
+    out.seal()?;
     out.flush()
 }
 
