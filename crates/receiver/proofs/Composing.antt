@@ -5,14 +5,16 @@ use Rattle.std.proofs.lemmas.List.{length-append}
 use Rattle.blk.specs.Disk.{DiskState}
 use Rattle.machine.specs.Seen.{Marks}
 use Rattle.wire.specs.Header.{Begins, Opening}
-use Rattle.receiver.specs.Calls.{Feeds, WantsDevice}
+use Rattle.wire.specs.Stream.{texts}
+use Rattle.receiver.specs.Calls.{Feeds, IsUntouched, WantsDevice}
 use Rattle.receiver.specs.Disks.{MarksAfter, sizes_in}
 use Rattle.receiver.specs.Faults.{Fault}
-use Rattle.receiver.specs.Receiving.{HasBeenFed, HasDevice, IsGivenUp, IsTaken, ReaderSeen, Received, TellsNow, has_ended, has_failed, received_with}
+use Rattle.receiver.specs.Opened.{said_by}
+use Rattle.receiver.specs.Receiving.{HasBeenFed, HasDevice, HasHeaderFor, IsGivenUp, IsTaken, MayTouch, ReaderSeen, Received, TellsNow, has_ended, has_failed, received_with}
 use Rattle.receiver.specs.Sums.{Summed}
 use Rattle.receiver.specs.declared.ram_terms.RamTerms.{RamTerms}
 use Rattle.receiver.specs.declared.recv_error.RecvError.{RecvError}
-use Rattle.receiver.specs.declared.recv_error.RecvError.TheVariants.{AlreadyFailed, Trailing}
+use Rattle.receiver.specs.declared.recv_error.RecvError.TheVariants.{AlreadyFailed, NoMemory, Trailing}
 use Rattle.receiver.specs.declared.stage.Stage.{Stage}
 use Rattle.receiver.specs.declared.stage.Stage.TheVariants as stages
 use Rattle.receiver.proofs.Ending.{not_ended}
@@ -20,13 +22,14 @@ use Rattle.receiver.proofs.Feeding.{fed_on, told_more, true_false}
 use Rattle.receiver.proofs.Knowing.{come_of, no_fault_known}
 use Rattle.receiver.proofs.Prefixes.{stays}
 use Rattle.receiver.proofs.Stages.{trailing_piece}
+use Rattle.receiver.proofs.Untouched.{ended_header, header_on, may_touch, same_again, touch_on}
 use Rattle.receiver.proofs.Wanting.{device_on, ok_not_err}
 use Rattle.receiver.proofs.Working.{kept, tells_more}
 
 -- No bytes.
 pub feeds_nothing : (r : ReaderSeen) (held : List ℕ) → has_failed r.stage ≡ false → Feeds (received_with r held) [] (Ok tt) (received_with r held)
 feeds_nothing r held on =
-    fed_on r r held held [] tt (λ k. omega arith) refl refl (kept r.disks) on
+    fed_on r r held held [] tt (λ k. omega arith) refl refl (kept r.disks) on (λ head. same_again r)
     (λ b h. record { front = h.taken.front; whole = append-nil b ∙ h.taken.whole; known = h.taken.known })
 
 later_told : (ram : RamTerms) (sizes b p q : List ℕ) (e : RecvError) → TellsNow ram sizes (b ++ p) q e → TellsNow ram sizes b (p ++ q) e
@@ -47,6 +50,24 @@ wants_then a m p q ram sizes fed shorter wants b h opening rest begins from at =
     let there : HasDevice a.ram a.sizes ((b ++ p) ++ q) (length t.front) = rw (← ram, ← sizes) here in
     device_on a.ram a.sizes ((b ++ p) ++ q) [] (b ++ (p ++ q)) from (length t.front) there text low
 
+-- The second piece wants memory, and the first ends behind a header: so a device's record is whole in both.
+header_wants : (a m : Received) (p q b : List ℕ) → m.ram ≡ a.ram → m.sizes ≡ a.sizes → HasBeenFed m (b ++ p) → WantsDevice m q → HasHeaderFor a.ram a.sizes (b ++ p) → HasDevice a.ram a.sizes (b ++ (p ++ q)) 0
+header_wants a m p q b ram sizes fed wants header =
+    let t = fed.taken in
+    let here = wants (b ++ p) fed (said_by header.opening) (texts header.before ++ header.tail) header.front.begins (length t.front) (sym (length-append t.front m.held) ∙ ap length (sym t.whole)) in
+    let text : b ++ (p ++ q) ≡ ((b ++ p) ++ q) ++ [] = sym (append_assoc b p q) ∙ sym (append-nil ((b ++ p) ++ q)) in
+    let there : HasDevice a.ram a.sizes ((b ++ p) ++ q) (length t.front) = rw (← ram, ← sizes) here in
+    device_on a.ram a.sizes ((b ++ p) ++ q) [] (b ++ (p ++ q)) 0 (length t.front) there text (omega arith)
+
+-- So what the first piece touched may be touched where the second is refused.
+touches_then : (a m : Received) (p q b : List ℕ) (e : RecvError) → m.ram ≡ a.ram → m.sizes ≡ a.sizes → HasBeenFed m (b ++ p) → (e ≡ NoMemory → WantsDevice m q) → HasHeaderFor a.ram a.sizes (b ++ p) → MayTouch a.ram a.sizes (b ++ (p ++ q)) e
+touches_then a m p q b e ram sizes fed wants header =
+    may_touch a.ram a.sizes (b ++ (p ++ q)) e (header_on a.ram a.sizes (b ++ p) q (b ++ (p ++ q)) header (sym (append_assoc b p q)))
+    (λ is. header_wants a m p q b ram sizes fed (wants is) header)
+
+untouched_then : {a m c : Received} → IsUntouched a m → IsUntouched m c → IsUntouched a c
+untouched_then h k = record { disks = k.disks ∙ h.disks; aside = k.aside ∙ h.aside }
+
 pub feeds_then : (a m c : Received) (p q : List ℕ) (x : Unit {0}) (r : Result (Unit {0}) RecvError) → Feeds a p (Ok x) m → length m.held ≤ length a.held + length p → Feeds m q r c → Feeds a (p ++ q) r c
 feeds_then a m c p q x (Ok y) f shorter s = record {
   ram = s.ram ∙ f.ram;
@@ -59,6 +80,12 @@ feeds_then a m c p q x (Ok y) f shorter s = record {
   place = s.place ∙ f.place;
   already = λ e. absurd (ok_not_err (f.already e));
   memory = λ e. absurd (ok_not_err e);
+  gone = λ e. absurd (ok_not_err (f.already e));
+  waits = λ b h never.
+      let first : ¬ (HasHeaderFor a.ram a.sizes (b ++ p)) = λ header. never (header_on a.ram a.sizes (b ++ p) q (b ++ (p ++ q)) header (sym (append_assoc b p q))) in
+      let second : ¬ (HasHeaderFor m.ram m.sizes ((b ++ p) ++ q)) = rw (f.ram, f.sizes, append_assoc b p q) never in
+      untouched_then (f.waits b h first) (s.waits (b ++ p) (f.fed b h) second);
+  untouched = tt;
 }
 feeds_then a m c p q x (Err e) f shorter s = record {
   ram = s.ram ∙ f.ram;
@@ -71,6 +98,12 @@ feeds_then a m c p q x (Err e) f shorter s = record {
   place = s.place ∙ f.place;
   already = λ none. absurd (ok_not_err (f.already none));
   memory = λ is. wants_then a m p q f.ram f.sizes f.fed shorter (s.memory is);
+  gone = λ none. absurd (ok_not_err (f.already none));
+  waits = tt;
+  untouched = λ b h never.
+      let first : ¬ (HasHeaderFor a.ram a.sizes (b ++ p)) = λ header. never (touches_then a m p q b e f.ram f.sizes (f.fed b h) (λ is. s.memory (ap Err is)) header) in
+      let second : ¬ (MayTouch m.ram m.sizes ((b ++ p) ++ q) e) = rw (f.ram, f.sizes, append_assoc b p q) never in
+      untouched_then (f.waits b h first) (s.untouched (b ++ p) (f.fed b h) second);
 }
 
 more_told : (ram : RamTerms) (sizes b p q : List ℕ) (e : RecvError) → TellsNow ram sizes b p e → TellsNow ram sizes b (p ++ q) e
@@ -91,6 +124,9 @@ feeds_more a c p q e f = record {
   place = f.place;
   already = f.already;
   memory = λ is b h opening rest begins from at. device_on a.ram a.sizes (b ++ p) q (b ++ (p ++ q)) from from (f.memory is b h opening rest begins from at) (sym (append_assoc b p q)) (omega arith);
+  gone = f.gone;
+  waits = tt;
+  untouched = λ b h never. f.untouched b h (λ touch. never (touch_on a.ram a.sizes (b ++ p) q (b ++ (p ++ q)) e touch (sym (append_assoc b p q))));
 }
 
 -- After a refusal.
@@ -106,6 +142,9 @@ feeds_again r held piece failed = record {
   place = refl;
   already = λ f. refl;
   memory = λ e. absurd cc;
+  gone = λ f. record { disks = refl; aside = refl };
+  waits = tt;
+  untouched = λ b h. absurd (true_false _ failed h.goes_on);
 }
 
 -- Behind a whole stream.
@@ -127,4 +166,7 @@ feeds_trailing r held piece c done some g = record {
   place = g.place;
   already = λ f. absurd (true_false _ done (not_ended r.stage f));
   memory = λ e. absurd cc;
+  gone = λ f. absurd (true_false _ done (not_ended r.stage f));
+  waits = tt;
+  untouched = λ b h never. absurd (never (ended_header r.ram r.disks r.digest b held piece r.stage done h.taken));
 }

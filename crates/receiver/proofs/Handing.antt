@@ -3,7 +3,7 @@ use Rattle.std.proofs.Common.{◌≡◌, ℕ, Bool, true, false, Some, List, [],
 use Rattle.std.specs.Prelude.{Option, Result, Ok, Err}
 use Rattle.sha2.specs.Sha256.{sha256}
 use Rattle.blk.specs.Disk.{DiskState}
-use Rattle.receiver.specs.Calls.{Feeds}
+use Rattle.receiver.specs.Calls.{Feeds, IsUntouched}
 use Rattle.receiver.specs.Disks.{sizes_in}
 use Rattle.receiver.specs.Fed.{IsKnownIn}
 use Rattle.receiver.specs.Receiving.{HasBeenFed, IsKnown, IsReceiver, IsTaken, ReaderSeen, Received, has_ended, reads_in}
@@ -54,6 +54,9 @@ receiver_in_hand r held room lacking hand k = record {
 fed_in : (a : Received) (hand : Option (List ℕ)) (b : List ℕ) → HasBeenFed a b → HasBeenFed (record a { digest = in_hand a.digest hand }) b
 fed_in a hand b h = record { goes_on = h.goes_on; bytes = h.bytes; taken = taken_on a.ram a.disks a.digest (in_hand a.digest hand) b a.held a.stage (same_in a.digest hand) h.taken }
 
+as_before : (a c : Received) (x y : Option (List ℕ)) → IsUntouched (record a { digest = in_hand a.digest x }) c → IsUntouched a (record c { digest = in_hand c.digest y })
+as_before a c x y h = record { disks = h.disks; aside = h.aside }
+
 -- What a call promises with a digest in hand, it promises.
 pub feeds_in_hand : (a c : Received) (x y : Option (List ℕ)) (piece : List ℕ) (r : Result (Unit {0}) RecvError) → Feeds (record a { digest = in_hand a.digest x }) piece r c → Feeds a piece r (record c { digest = in_hand c.digest y })
 feeds_in_hand a c x y piece (Ok z) f = record {
@@ -67,6 +70,9 @@ feeds_in_hand a c x y piece (Ok z) f = record {
   place = f.place;
   already = f.already;
   memory = λ is b h. f.memory is b (fed_in a x b h);
+  gone = λ failed. as_before a c x y (f.gone failed);
+  waits = λ b h never. as_before a c x y (f.waits b (fed_in a x b h) never);
+  untouched = tt;
 }
 feeds_in_hand a c x y piece (Err e) f = record {
   ram = f.ram;
@@ -79,6 +85,9 @@ feeds_in_hand a c x y piece (Err e) f = record {
   place = f.place;
   already = f.already;
   memory = λ is b h. f.memory is b (fed_in a x b h);
+  gone = λ failed. as_before a c x y (f.gone failed);
+  waits = tt;
+  untouched = λ b h never. as_before a c x y (f.untouched b (fed_in a x b h) never);
 }
 
 -- The digest of all bytes that were worked off is in hand where its record comes.

@@ -120,7 +120,7 @@ returns-in-Err-work_off g c =
       untouched = λ front held k clear never.
           let up = ready_for c.args.self.now _ front held c.args.bytes.now c.in-Ok.start c.in-Records.intake k o c.in-Records.is in
           let there = clear_for _ _ _ _ _ _ front c.args.bytes.now c.in-Ok.start clear o.says o.ram o.disks in
-          absurd (never (work_touches c.args.self.now i.ram (map state i.disks.items) i.digest front c.args.bytes.now c.in-Ok.start c.in-Records.intake c.in-Err-work_off.error o.disks o.ram up
+          absurd (never (work_touches c.args.self.now i.ram (map state i.disks.items) (g.S.Summing.seen i.digest) front c.args.bytes.now c.in-Ok.start c.in-Records.intake c.in-Err-work_off.error o.disks o.ram up
           (λ is. rw (c.deref_mut.ensures.value, c.split_at.ensures.back) at (w.memory i.ram (front ++ take c.in-Ok.start c.args.bytes.now) (rw c.deref_mut.ensures.value up) (rw (c.deref_mut.ensures.value, c.split_at.ensures.back) there) (ap Err is)))));
       looked = λ front held k clear.
           let up = ready_for c.args.self.now _ front held c.args.bytes.now c.in-Ok.start c.in-Records.intake k o c.in-Records.is in
