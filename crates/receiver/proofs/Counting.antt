@@ -1,7 +1,7 @@
 -- The rounds that ended in what was read, and what a slice is refused for.
 use Rattle.std.proofs.Common.{◌≡◌, ℕ, ◌<◌, ◌⊎◌, inl, inr, Bool, true, false, List, [], ◌∷◌, ◌++◌, refl, sym, ap, ◌∙◌, append_assoc, append-nil}
 use Rattle.sha2.specs.Sha256.{sha256}
-use Rattle.sha2.specs.declared.Sha256.{Sha256}
+use Rattle.receiver.specs.Sums.{Summed}
 use Rattle.wire.specs.Records.{Record, spelled_record}
 use Rattle.wire.specs.Stream.{texts, rounds}
 use Rattle.blk.specs.Disk.{DiskState}
@@ -48,7 +48,7 @@ rounds_by ram sizes b o before tail n f none e = record {
   some = λ p others rest g nothing. e ∙ ap rounds (sym (same_records ram sizes b o p before others tail rest f none g nothing));
 }
 
-rounds_in_intake : (ended : Bool) (ram : RamTerms) (ds : List DiskState) (digest : Sha256) (front bytes held : List ℕ) (i : Intake) → bytes ≡ front ++ held → IsKnownIn ended ram ds digest front held i → HasRounds ram (sizes_in ds) bytes i.rounds
+rounds_in_intake : (ended : Bool) (ram : RamTerms) (ds : List DiskState) (digest : Summed) (front bytes held : List ℕ) (i : Intake) → bytes ≡ front ++ held → IsKnownIn ended ram ds digest front held i → HasRounds ram (sizes_in ds) bytes i.rounds
 rounds_in_intake false ram ds digest front bytes held i parts k =
     let r = k.1 in
     let o = r.open_at in
@@ -60,7 +60,7 @@ rounds_in_intake true ram ds digest front bytes held i parts k =
     let whole : bytes ≡ w.front ++ (5 ∷ sha256 w.front) = all ∙ w.whole ∙ ap (λ (x : List ℕ). w.front ++ x) (commit_text (sha256 w.front)) in
     rounds_by ram (sizes_in ds) bytes h.opening w.before (5 ∷ sha256 w.front) i.rounds (front_at h.based (front_of bytes (5 ∷ sha256 w.front) w.read whole)) (λ r y g e. no_other h.opening w.before (sha256 w.front) r y g e) w.read.rounds_are
 
-pub rounds_known : (ram : RamTerms) (ds : List DiskState) (digest : Sha256) (bytes held : List ℕ) (stage : Stage) → IsTaken ram ds digest bytes held stage → HasRounds ram (sizes_in ds) bytes (rounds_in stage)
+pub rounds_known : (ram : RamTerms) (ds : List DiskState) (digest : Summed) (bytes held : List ℕ) (stage : Stage) → IsTaken ram ds digest bytes held stage → HasRounds ram (sizes_in ds) bytes (rounds_in stage)
 rounds_known ram ds digest bytes held stages.Head t =
     let same : bytes ≡ held = t.whole ∙ ap (λ (x : List ℕ). x ++ held) t.known.0 in
     rw same (record { none = λ never. refl; some = λ o before tail g none. absurd (t.known.2.no_header (said_by o) (texts before ++ tail) g.begins) })

@@ -3,7 +3,7 @@ use Rattle.receiver.specs.declared.ram_terms.RamTerms.{RamTerms}
 use Rattle.std.proofs.Common.{◌≡◌, ℕ, Bool, true, false, List, [], ◌∷◌, ◌++◌, refl, ap, sym, subst, ◌∙◌, append_assoc, append-nil}
 use Rattle.std.proofs.lemmas.List.{append_cancel_left}
 use Rattle.sha2.specs.Sha256.{sha256}
-use Rattle.sha2.specs.declared.Sha256.{Sha256}
+use Rattle.receiver.specs.Sums.{Summed}
 use Rattle.sha2.proofs.Facts256.{length-sha256}
 use Rattle.blk.specs.Disk.{DiskState}
 use Rattle.guestmem.specs.Number.{IsBytes}
@@ -53,7 +53,7 @@ not_whole_reading ram ds read tail bytes i are parts r h =
     o.waits.no_record (commit sum) [] (length-sha256 (opened_header h.opening ++ texts h.before), digest_bytes (opened_header h.opening ++ texts h.before) sum bytes are whole) tt (sym same ∙ sym (append-nil end))
 
 -- A receiver that has not read the digest was fed no whole stream, and one that has was.
-pub not_whole_taken : (ram : RamTerms) (ds : List DiskState) (digest : Sha256) (bytes held : List ℕ) (stage : Stage) → IsBytes bytes → has_ended stage ≡ false → IsTaken ram ds digest bytes held stage → ¬ (IsWholeFor ram (sizes_in ds) bytes)
+pub not_whole_taken : (ram : RamTerms) (ds : List DiskState) (digest : Summed) (bytes held : List ℕ) (stage : Stage) → IsBytes bytes → has_ended stage ≡ false → IsTaken ram ds digest bytes held stage → ¬ (IsWholeFor ram (sizes_in ds) bytes)
 not_whole_taken ram ds digest bytes held stages.Head are not_yet t h =
     let same : bytes ≡ held = t.whole ∙ ap (λ (x : List ℕ). x ++ held) t.known.0 in
     not_whole_head ram (sizes_in ds) held t.known.2 (rw same at h)
@@ -62,7 +62,7 @@ not_whole_taken ram ds digest bytes held (stages.Records i) are not_yet t h =
     not_whole_reading ram ds t.front held bytes i are t.whole known.1 h
 not_whole_taken ram ds digest bytes held stages.Failed are not_yet t h = t.known
 
-pub whole_taken : (ram : RamTerms) (ds : List DiskState) (digest : Sha256) (bytes held : List ℕ) (stage : Stage) → has_ended stage ≡ true → IsTaken ram ds digest bytes held stage → IsWholeFor ram (sizes_in ds) bytes
+pub whole_taken : (ram : RamTerms) (ds : List DiskState) (digest : Summed) (bytes held : List ℕ) (stage : Stage) → has_ended stage ≡ true → IsTaken ram ds digest bytes held stage → IsWholeFor ram (sizes_in ds) bytes
 whole_taken ram ds digest bytes held stages.Head done t = absurd cc
 whole_taken ram ds digest bytes held (stages.Records i) done t = whole_come ram ds bytes i (come_of ram ds digest bytes held i done t)
 whole_taken ram ds digest bytes held stages.Failed done t = absurd cc
@@ -73,7 +73,7 @@ not_ended (stages.Records i) e = absurd cc
 not_ended stages.Failed e = refl
 
 -- What contracts see of a reader with these fields.
-abbrev pub seen_of : RamTerms → List DiskState → Option Memory → Option RoomSeen → Sha256 → Stage → ReaderSeen
+abbrev pub seen_of : RamTerms → List DiskState → Option Memory → Option RoomSeen → Summed → Stage → ReaderSeen
 seen_of ram disks aside room digest stage = record { ram = ram; disks = disks; aside = aside; room = room; digest = digest; stage = stage }
 
 -- A receiver that is given back.

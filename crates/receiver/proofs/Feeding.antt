@@ -3,7 +3,7 @@ use Rattle.std.proofs.Common.{◌≡◌, ℕ, ◌<◌, ◌≤◌, ◌⊎◌, inl
 use Rattle.std.specs.Prelude.{Ok, Err, Option, Result}
 use Rattle.std.proofs.lemmas.Bool.{cases_lt}
 use Rattle.std.proofs.lemmas.List.{take_at}
-use Rattle.sha2.specs.declared.Sha256.{Sha256}
+use Rattle.receiver.specs.Sums.{IsClear, Summed}
 use Rattle.blk.specs.Disk.{DiskState}
 use Rattle.guestmem.specs.Memory.{Memory}
 use Rattle.guestmem.specs.Number.{IsBytes}
@@ -31,7 +31,7 @@ use Rattle.receiver.proofs.Working.{tells_more}
 pub true_false : (b : Bool) → b ≡ true → b ≡ false → ⊥
 true_false b t f = let no : true ≡ false = sym t ∙ f in cc
 
-pub not_failed : (ram : RamTerms) (ds : List DiskState) (digest : Sha256) (front held : List ℕ) (stage : Stage) → IsKnown ram ds digest front held stage → has_failed stage ≡ false
+pub not_failed : (ram : RamTerms) (ds : List DiskState) (digest : Summed) (front held : List ℕ) (stage : Stage) → IsKnown ram ds digest front held stage → has_failed stage ≡ false
 not_failed ram ds digest front held stages.Head k = refl
 not_failed ram ds digest front held (stages.Records i) k = refl
 not_failed ram ds digest front held stages.Failed k = absurd k
@@ -44,7 +44,7 @@ later_by ram sizes old piece e at none f (inr le) = absurd (none e at (holds ram
 later : (ram : RamTerms) (sizes old piece : List ℕ) (e : RecvError) (at : ℕ) → NoFault ram sizes old → Fault ram sizes (old ++ piece) e at → length old < at
 later ram sizes old piece e at none f = later_by ram sizes old piece e at none f (cases_lt (length old) at)
 
-told_more : (ram : RamTerms) (sizes b piece : List ℕ) (e : RecvError) → TellsFault ram sizes (b ++ piece) e → NoFault ram sizes b → TellsNow ram sizes b piece e
+pub told_more : (ram : RamTerms) (sizes b piece : List ℕ) (e : RecvError) → TellsFault ram sizes (b ++ piece) e → NoFault ram sizes b → TellsNow ram sizes b piece e
 told_more ram sizes b piece e t none =
     tells_more ((at : ℕ) × Fault ram sizes (b ++ piece) e at) ((at : ℕ) × (length b < at) × Fault ram sizes (b ++ piece) e at) e (λ x. (x.0, later ram sizes b piece e x.0 none x.1, x.1)) t
 
@@ -120,19 +120,19 @@ not_failed_before old new before had piece held has p = by_flag (has_failed old.
     by_flag true e = absurd (ok_not_err (p.already e).0)
     by_flag false e = refl
 
-pub fed_as_taken : (r n : ReaderSeen) (held rest piece : List ℕ) (had has lacking x : ℕ) → IsBytes piece → IsReceiver r held had lacking → TakesPiece r held had piece (Ok x) n rest has → Feeds (received_with r held) piece (Ok tt) (received_with n rest)
-fed_as_taken r n held rest piece had has lacking x are kept p =
+pub fed_as_taken : (r n : ReaderSeen) (held rest piece : List ℕ) (had has lacking x : ℕ) → IsBytes piece → IsReceiver r held had lacking → ((front : List ℕ) → Knows r front held → IsClear r.digest r.ram (sizes_in r.disks) (front ++ (held ++ piece))) → TakesPiece r held had piece (Ok x) n rest has → Feeds (received_with r held) piece (Ok tt) (received_with n rest)
+fed_as_taken r n held rest piece had has lacking x are kept clear p =
     let on : has_failed r.stage ≡ false = not_failed_before r n held had piece rest has p in
     let some = kept.known on in
-    fed_on r n held rest piece tt are p.ram p.place (p.took some.0 some.1).0 on p.waits
-    (λ b h. subst (λ (x : List ℕ). IsTaken n.ram n.disks n.digest x rest n.stage) (sym (all_bytes h.taken.front held piece b h.taken.whole)) (p.took h.taken.front h.taken.known).1)
+    fed_on r n held rest piece tt are p.ram p.place (p.took some.0 some.1 (clear some.0 some.1)).0 on p.waits
+    (λ b h. subst (λ (x : List ℕ). IsTaken n.ram n.disks n.digest x rest n.stage) (sym (all_bytes h.taken.front held piece b h.taken.whole)) (p.took h.taken.front h.taken.known (clear h.taken.front h.taken.known)).1)
 
 -- A piece that was refused: now, or after a refusal before.
-refused_now : (old new : ReaderSeen) (before held none piece : List ℕ) (had has lacking : ℕ) (e : RecvError) → IsReceiver old before had lacking → TakesPiece old before had piece (Err e) new held has → has_failed old.stage ≡ false
+refused_now : (old new : ReaderSeen) (before held none piece : List ℕ) (had has lacking : ℕ) (e : RecvError) → IsReceiver old before had lacking → ((front : List ℕ) → Knows old front before → IsClear old.digest old.ram (sizes_in old.disks) (front ++ (before ++ piece))) → TakesPiece old before had piece (Err e) new held has → has_failed old.stage ≡ false
     → Feeds (received_with old before) piece (Err e) (received_with new none)
-refused_now old new before held none piece had has lacking e kept p on =
+refused_now old new before held none piece had has lacking e kept clear p on =
     let some = kept.known on in
-    let first = p.took some.0 some.1 in
+    let first = p.took some.0 some.1 (clear some.0 some.1) in
     record {
       ram = p.ram;
       sizes = first.0.sizes;
@@ -140,17 +140,17 @@ refused_now old new before held none piece had has lacking e kept p on =
       fed = tt;
       quiet = tt;
       told = λ b h.
-          let told : TellsFault old.ram (sizes_in old.disks) (b ++ piece) e = rw (all_bytes h.taken.front before piece b h.taken.whole) (p.took h.taken.front h.taken.known).1 in
+          let told : TellsFault old.ram (sizes_in old.disks) (b ++ piece) e = rw (all_bytes h.taken.front before piece b h.taken.whole) (p.took h.taken.front h.taken.known (clear h.taken.front h.taken.known)).1 in
           told_more old.ram (sizes_in old.disks) b piece e told (no_fault_known old.ram old.disks old.digest b before old.stage h.taken);
       failed = p.failed;
       place = p.place;
       already = λ f. absurd (true_false _ f on);
-      memory = λ is b fed opening rest begins from at. fed_wants old before piece b opening rest from (λ front known past. p.memory kept.roomy front known past (err_again is)) fed begins at;
+      memory = λ is b fed opening rest begins from at. fed_wants old before piece b opening rest from (λ front known past. p.memory kept.roomy front known (clear front known) past (err_again is)) fed begins at;
       gone = λ f. absurd (true_false _ f on);
       waits = tt;
       untouched = λ b h never.
           let all = all_bytes h.taken.front before piece b h.taken.whole in
-          seen_same old new before none (p.untouched kept.roomy h.taken.front h.taken.known (λ m. never (subst (λ (x : List ℕ). MayTouch old.ram (sizes_in old.disks) x e) (sym all) m)));
+          seen_same old new before none (p.untouched kept.roomy h.taken.front h.taken.known (clear h.taken.front h.taken.known) (λ m. never (subst (λ (x : List ℕ). MayTouch old.ram (sizes_in old.disks) x e) (sym all) m)));
     }
 
 refused_then : (old new : ReaderSeen) (before held none piece : List ℕ) (had has : ℕ) (e : RecvError) → TakesPiece old before had piece (Err e) new held has → has_failed old.stage ≡ true → Feeds (received_with old before) piece (Err e) (received_with new none)
@@ -173,12 +173,12 @@ refused_then old new before held none piece had has e p failed =
       untouched = λ b h. absurd (true_false _ failed h.goes_on);
     }
 
-pub fed_as_told : (old new : ReaderSeen) (before held none piece : List ℕ) (had has lacking : ℕ) (e : RecvError) → IsReceiver old before had lacking → TakesPiece old before had piece (Err e) new held has → Feeds (received_with old before) piece (Err e) (received_with new none)
-fed_as_told old new before held none piece had has lacking e kept p = by_flag (has_failed old.stage) refl
+pub fed_as_told : (old new : ReaderSeen) (before held none piece : List ℕ) (had has lacking : ℕ) (e : RecvError) → IsReceiver old before had lacking → ((front : List ℕ) → Knows old front before → IsClear old.digest old.ram (sizes_in old.disks) (front ++ (before ++ piece))) → TakesPiece old before had piece (Err e) new held has → Feeds (received_with old before) piece (Err e) (received_with new none)
+fed_as_told old new before held none piece had has lacking e kept clear p = by_flag (has_failed old.stage) refl
   where
     by_flag : (b : Bool) → has_failed old.stage ≡ b → Feeds (received_with old before) piece (Err e) (received_with new none)
     by_flag true failed = refused_then old new before held none piece had has e p failed
-    by_flag false on = refused_now old new before held none piece had has lacking e kept p on
+    by_flag false on = refused_now old new before held none piece had has lacking e kept clear p on
 
 -- A receiver that was fed nothing.
 pub first_new : {D : Type 0} {ram : RamTerms} {aside : Option Memory} (state : D → DiskState) (disks : List D) (r : ReaderSeen) (held : List ℕ) → IsFirst ram (map state disks) aside r → held ≡ [] → IsNew state disks ram aside (received_with r held)

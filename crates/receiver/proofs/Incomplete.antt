@@ -3,7 +3,7 @@ use Rattle.std.proofs.Common.{◌≡◌, ℕ, ◌+◌, ◌<◌, ◌≤◌, inl, 
 use Rattle.std.specs.Prelude.{Ok}
 use Rattle.std.proofs.lemmas.List.{length-append}
 use Rattle.sha2.specs.Sha256.{sha256}
-use Rattle.sha2.specs.declared.Sha256.{Sha256}
+use Rattle.receiver.specs.Sums.{Summed}
 use Rattle.sha2.proofs.Facts256.{length-sha256}
 use Rattle.blk.specs.Disk.{DiskState}
 use Rattle.guestmem.specs.Number.{IsBytes}
@@ -98,7 +98,7 @@ waits_on opening before stage held piece w waits = record {
 }
 
 -- What is known of the bytes stays known.
-known_in : (ended : Bool) (ram : RamTerms) (ds : List DiskState) (digest : Sha256) (front held piece : List ℕ) (i : Intake) → IsWithinBody (stages.Records i) held piece → IsKnownIn ended ram ds digest front held i → IsKnownIn ended ram ds digest front (held ++ piece) i
+known_in : (ended : Bool) (ram : RamTerms) (ds : List DiskState) (digest : Summed) (front held piece : List ℕ) (i : Intake) → IsWithinBody (stages.Records i) held piece → IsKnownIn ended ram ds digest front held i → IsKnownIn ended ram ds digest front (held ++ piece) i
 known_in false ram ds digest front held piece i w known =
     let reading = known.1 in
     let here = reading.open_at in (
@@ -111,7 +111,7 @@ known_in false ram ds digest front held piece i w known =
     )
 known_in true ram ds digest front held piece i w known = absurd (omega (arith, w.long, ap length known.0))
 
-known_on : (ram : RamTerms) (ds : List DiskState) (digest : Sha256) (front held piece : List ℕ) (stage : Stage) → IsWithinBody stage held piece → IsKnown ram ds digest front held stage → IsKnown ram ds digest front (held ++ piece) stage
+known_on : (ram : RamTerms) (ds : List DiskState) (digest : Summed) (front held piece : List ℕ) (stage : Stage) → IsWithinBody stage held piece → IsKnown ram ds digest front held stage → IsKnown ram ds digest front (held ++ piece) stage
 known_on ram ds digest front held piece stages.Head w known = absurd w.reads
 known_on ram ds digest front held piece (stages.Records i) w known = known_in i.ended ram ds digest front held piece i w known
 known_on ram ds digest front held piece stages.Failed w known = absurd w.reads

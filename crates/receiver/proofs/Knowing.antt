@@ -5,7 +5,7 @@ use Rattle.std.specs.Prelude.{All, ◌↔◌, is_some}
 use Rattle.std.proofs.lemmas.List.{length-append}
 use Rattle.std.proofs.lemmas.List.Elements.{All-from_recursion}
 use Rattle.sha2.specs.Sha256.{sha256}
-use Rattle.sha2.specs.declared.Sha256.{Sha256}
+use Rattle.receiver.specs.Sums.{Summed}
 use Rattle.sha2.proofs.Facts256.{length-sha256}
 use Rattle.guestmem.specs.Number.{IsBytes}
 use Rattle.wire.specs.DeviceBody.{body, IsDeviceOf}
@@ -103,21 +103,21 @@ no_fault_come ram ds bytes i h =
 pub none_held : (front held : List ℕ) → held ≡ [] → front ++ held ≡ front
 none_held front held none = ap (λ (x : List ℕ). front ++ x) none ∙ append-nil front
 
-no_fault_in : (ended : Bool) (ram : RamTerms) (ds : List DiskState) (digest : Sha256) (front held : List ℕ) (i : Intake) → IsKnownIn ended ram ds digest front held i → NoFault ram (sizes_in ds) (front ++ held)
+no_fault_in : (ended : Bool) (ram : RamTerms) (ds : List DiskState) (digest : Summed) (front held : List ℕ) (i : Intake) → IsKnownIn ended ram ds digest front held i → NoFault ram (sizes_in ds) (front ++ held)
 no_fault_in false ram ds digest front held i k = no_fault_reading ram ds front held i k.1
 no_fault_in true ram ds digest front held i k = rw (none_held front held k.0) (no_fault_come ram ds front i k.1)
 
 -- No fault stands in what was fed while no refusal came.
-no_fault_in_stage : (ram : RamTerms) (ds : List DiskState) (digest : Sha256) (front held : List ℕ) (stage : Stage) → IsKnown ram ds digest front held stage → NoFault ram (sizes_in ds) (front ++ held)
+no_fault_in_stage : (ram : RamTerms) (ds : List DiskState) (digest : Summed) (front held : List ℕ) (stage : Stage) → IsKnown ram ds digest front held stage → NoFault ram (sizes_in ds) (front ++ held)
 no_fault_in_stage ram ds digest front held stages.Head k = rw (k.0) (no_fault_head ram (sizes_in ds) held k.2)
 no_fault_in_stage ram ds digest front held (stages.Records i) k = no_fault_in i.ended ram ds digest front held i k
 no_fault_in_stage ram ds digest front held stages.Failed k = absurd k
 
-pub no_fault_known : (ram : RamTerms) (ds : List DiskState) (digest : Sha256) (bytes held : List ℕ) (stage : Stage) → IsTaken ram ds digest bytes held stage → NoFault ram (sizes_in ds) bytes
+pub no_fault_known : (ram : RamTerms) (ds : List DiskState) (digest : Summed) (bytes held : List ℕ) (stage : Stage) → IsTaken ram ds digest bytes held stage → NoFault ram (sizes_in ds) bytes
 no_fault_known ram ds digest bytes held stage t = rw (t.whole) (no_fault_in_stage ram ds digest t.front held stage t.known)
 
 -- All bytes of a stream that has ended.
-pub come_of : (ram : RamTerms) (ds : List DiskState) (digest : Sha256) (bytes held : List ℕ) (i : Intake) → i.ended ≡ true → IsTaken ram ds digest bytes held (stages.Records i) → IsReadWhole ram ds bytes i
+pub come_of : (ram : RamTerms) (ds : List DiskState) (digest : Summed) (bytes held : List ℕ) (i : Intake) → i.ended ≡ true → IsTaken ram ds digest bytes held (stages.Records i) → IsReadWhole ram ds bytes i
 come_of ram ds digest bytes held i done t =
     let known : IsKnownIn true ram ds digest t.front held i = subst (λ (b : Bool). IsKnownIn b ram ds digest t.front held i) done t.known in
     rw (t.whole ∙ none_held t.front held known.0) known.1

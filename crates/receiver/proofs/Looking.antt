@@ -2,10 +2,10 @@
 use Rattle.std.proofs.Common.{◌≡◌, ℕ, ◌+◌, ◌≤◌, Bool, true, false, List, [], ◌∷◌, ◌++◌, length, take, drop, refl, sym, ap, subst, ◌∙◌, append-nil, arith}
 use Rattle.std.specs.Prelude.{Result, Ok, Err}
 use Rattle.std.proofs.lemmas.List.{drop-drop}
-use Rattle.sha2.specs.Hashers.{Holds256}
+use Rattle.receiver.specs.Sums.{Sums}
 use Rattle.blk.specs.Disk.{DiskState}
 use Rattle.machine.specs.Room.{RoomSeen}
-use Rattle.sha2.specs.declared.Sha256.{Sha256}
+use Rattle.receiver.specs.Sums.{Summed}
 use Rattle.receiver.specs.Disks.{AreKept, AreRefused, sizes_in}
 use Rattle.receiver.specs.Faults.{Fault, WaitsHead}
 use Rattle.receiver.specs.Fed.{IsKnownIn, IsUpTo, Tells}
@@ -49,6 +49,7 @@ not_opened r bytes waits = record {
   failed = λ f. (refl, refl);
   stays = tt;
   waits = λ head. refl;
+  says = λ x h. h;
   opened = λ held head k. subst (λ (stage : Stage). HeaderAt r bytes (Ok 0) r stage) (sym head) (refl, (waits head).0, refl);
 }
 
@@ -65,11 +66,12 @@ open_refused r new bytes e head ram disks stage aside same t = record {
   failed = λ f. absurd (true_false _ f (head_not_failed r.stage head));
   stays = same;
   waits = tt;
+  says = tt;
   opened = λ held h k. (subst (λ (ds : List DiskState). AreRefused r.disks ds e) (sym disks) t.0, t.1);
 }
 
 -- What is known of an intake is known of what it has taken in.
-pub up_to : (ended : Bool) (ram : RamTerms) (ds : List DiskState) (digest : Sha256) (front held : List ℕ) (i : Intake) → IsKnownIn ended ram ds digest front held i → IsUpTo ended ram ds digest front i
+pub up_to : (ended : Bool) (ram : RamTerms) (ds : List DiskState) (digest : Summed) (front held : List ℕ) (i : Intake) → IsKnownIn ended ram ds digest front held i → IsUpTo ended ram ds digest front i
 up_to false ram ds digest front held i k = (k.0, record { opening = k.1.opening; based = k.1.based; before = k.1.open_at.before; read = k.1.open_at.read })
 up_to true ram ds digest front held i k = k.1
 
@@ -78,14 +80,16 @@ pub piece_of_nothing : (r : ReaderSeen) (before piece : List ℕ) (had : ℕ) �
 piece_of_nothing r before piece had none few on = record {
   ram = refl;
   few = few;
+  shorter = omega arith;
   roomy = λ roomy. roomy;
   failed = tt;
   place = refl;
   already = λ f. absurd (true_false _ f on);
-  memory = λ roomy front k past e. absurd cc;
+  says = λ x h. h;
+  memory = λ roomy front k clear past e. absurd cc;
   waits = λ head. record { disks = refl; aside = refl };
   untouched = tt;
-  took = λ front k. (kept r.disks, record { front = front; whole = ap (λ (x : List ℕ). front ++ x) (no_more before piece none); known = k });
+  took = λ front k clear. (kept r.disks, record { front = front; whole = ap (λ (x : List ℕ). front ++ x) (no_more before piece none); known = k });
 }
   where
     no_more : (xs ys : List ℕ) → length ys ≡ 0 → xs ++ ys ≡ xs
@@ -96,14 +100,16 @@ pub piece_refused_again : (r : ReaderSeen) (before piece : List ℕ) (had : ℕ)
 piece_refused_again r before piece had failed = record {
   ram = refl;
   few = tt;
+  shorter = tt;
   roomy = λ roomy. tt;
   failed = failed;
   place = refl;
   already = λ f. (refl, refl);
-  memory = λ roomy front k past e. absurd cc;
+  says = tt;
+  memory = λ roomy front k clear past e. absurd cc;
   waits = tt;
-  untouched = λ roomy front k never. record { disks = refl; aside = refl };
-  took = λ front k. absurd (subst (λ (stage : Stage). IsKnown r.ram r.disks r.digest front before stage) (failed_is r.stage failed) k);
+  untouched = λ roomy front k clear never. record { disks = refl; aside = refl };
+  took = λ front k clear. absurd (subst (λ (stage : Stage). IsKnown r.ram r.disks r.digest front before stage) (failed_is r.stage failed) k);
 }
 
 -- What was taken in when the records behind the header are looked at.
@@ -157,7 +163,7 @@ head_waits old mid front held bytes start k o was is =
     let knows : Knows old [] held = subst (λ (x : List ℕ). Knows old x held) known.0 k in
     let waits : HeaderAt old bytes (Ok start) mid stages.Head = subst (λ (stage : Stage). HeaderAt old bytes (Ok start) mid stage) is (o.opened held was knows) in (
       subst (λ (ds : List DiskState). AreKept old.disks ds) (sym o.disks) (kept old.disks),
-      subst (λ (stage : Stage). IsKnown mid.ram mid.disks mid.digest (front ++ take 0 bytes) (drop 0 bytes) stage) (sym is) (append-nil front ∙ known.0, subst (λ (d : Sha256). Holds256 d []) (sym waits.2) known.1, waits.1),
+      subst (λ (stage : Stage). IsKnown mid.ram mid.disks mid.digest (front ++ take 0 bytes) (drop 0 bytes) stage) (sym is) (append-nil front ∙ known.0, subst (λ (d : Summed). Sums d []) (sym waits.2) known.1, waits.1),
     )
 
 -- Where the head waits behind the look for it, it waited before.

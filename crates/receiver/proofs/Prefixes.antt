@@ -22,15 +22,15 @@ use Rattle.receiver.specs.declared.recv_error.RecvError.{RecvError}
 use Rattle.receiver.specs.declared.recv_error.RecvError.TheVariants as errors
 
 -- What is behind a known beginning.
-record Behind (x c y z : List ℕ) : Type 0 where
-  w : List ℕ
-  left : x ≡ y ++ w
-  right : z ≡ w ++ c
+pub record Behind (x c y z : List ℕ) : Type 0 where
+  pub w : List ℕ
+  pub left : x ≡ y ++ w
+  pub right : z ≡ w ++ c
 
 behind_more : (a b : ℕ) (xs c ys z : List ℕ) → a ≡ b → Behind xs c ys z → Behind (a ∷ xs) c (b ∷ ys) z
 behind_more a b xs c ys z e h = record { w = h.w; left = cons_same e h.left; right = h.right }
 
-behind : (x c y z : List ℕ) → x ++ c ≡ y ++ z → length y ≤ length x → Behind x c y z
+pub behind : (x c y z : List ℕ) → x ++ c ≡ y ++ z → length y ≤ length x → Behind x c y z
 behind x c [] z e le = record { w = x; left = refl; right = sym e }
 behind [] c (b ∷ ys) z e le = absurd (omega (arith, le))
 behind (a ∷ xs) c (b ∷ ys) z e le = behind_more a b xs c ys z (head_same e) (behind xs c ys z (tail_same e) (omega (arith, le)))

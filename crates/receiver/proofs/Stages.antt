@@ -3,7 +3,7 @@ use Rattle.std.proofs.Common.{◌≡◌, ◌≢◌, ℕ, ◌+◌, ◌*◌, ◌<�
 use Rattle.std.proofs.lemmas.List.{take_at, length-append, length-drop, length-replicate}
 use Rattle.std.proofs.Math.Seq.{take-add}
 use Rattle.sha2.specs.Sha256.{sha256}
-use Rattle.sha2.specs.declared.Sha256.{Sha256}
+use Rattle.receiver.specs.Sums.{Summed}
 use Rattle.receiver.specs.Opened.{BeginsOpened, HasPages, Opened, opened_header, opened_layout, said_by, terms_at}
 use Rattle.wire.specs.Records.{Record}
 use Rattle.wire.specs.Stream.{texts, rounds}
@@ -114,7 +114,7 @@ trailing_piece ram ds old piece i h some =
     (refused_kept ds errors.Trailing (λ same. cc), subst (λ (r : RamTerms). (k : ℕ) × Fault r (sizes_in ds) (old ++ piece) errors.Trailing k) h.based fault)
 
 -- A byte after the digest.
-pub trailing_in : (ram : RamTerms) (old ds : List DiskState) (i : Intake) (digest : Sha256) (front bytes : List ℕ) (at : ℕ) → i.ended ≡ true → at < length bytes → SoFar ram old ds i digest (front ++ take at bytes)
+pub trailing_in : (ram : RamTerms) (old ds : List DiskState) (i : Intake) (digest : Summed) (front bytes : List ℕ) (at : ℕ) → i.ended ≡ true → at < length bytes → SoFar ram old ds i digest (front ++ take at bytes)
     → AreRefused old ds errors.Trailing × ((k : ℕ) × Fault ram (sizes_in old) (front ++ bytes) errors.Trailing k)
 trailing_in ram old ds i digest front bytes at done more s =
     let come : IsReadWhole ram ds (front ++ take at bytes) i = subst (λ (b : Bool). IsUpTo b ram ds digest (front ++ take at bytes) i) done s.known in

@@ -5,7 +5,7 @@ use Rattle.std.specs.Vec.{vec_capacity}
 use Rattle.std.proofs.lemmas.Bool.{cases_lt}
 use Rattle.std.proofs.lemmas.List.{take-append-drop, take_at, length-append, length-take}
 use Rattle.sha2.specs.Sha256.{sha256}
-use Rattle.sha2.specs.declared.Sha256.{Sha256}
+use Rattle.receiver.specs.Sums.{Summed}
 use Rattle.sha2.proofs.Facts256.{length-sha256}
 use Rattle.guestmem.specs.Number.{IsBytes}
 use Rattle.receiver.specs.Opened.{opened_header, Opened}
@@ -359,7 +359,7 @@ anyway (Ok took) p = p
 anyway (Err e) p = tt
 
 -- A record that is not the digest: what its function promises is all of it.
-pub takes_one : (old ds : List DiskState) (i new : Intake) (digest : Sha256) (head : RecordHead) (behind : List ℕ) (r : Result Bool RecvError) → i.ended ≡ false → Keeps i new → IsShort head behind r → IsLong head behind r
+pub takes_one : (old ds : List DiskState) (i new : Intake) (digest : Summed) (head : RecordHead) (behind : List ℕ) (r : Result Bool RecvError) → i.ended ≡ false → Keeps i new → IsShort head behind r → IsLong head behind r
     → (r ≡ Err errors.NoMemory → IsWholeDevice head behind) → Enters old ds i new head behind r → TakesHead old ds i new digest digest head behind r
 takes_one old ds i new digest head behind r on keeps short long memory enters = record {
   short = short;
@@ -367,11 +367,11 @@ takes_one old ds i new digest head behind r on keeps short long memory enters = 
   untouched = λ e. anyway r refl;
   waits = λ e. keeps.ended ∙ on;
   memory = memory;
-  after = λ front tail opening before are d h o. followed_by old ds opening before new front tail behind head r (keeps.ended ∙ on) o long (enters front tail opening before are h o);
+  after = λ front tail opening before are d h o can. followed_by old ds opening before new front tail behind head r (keeps.ended ∙ on) o long (enters front tail opening before are h o);
 }
 
 -- One without a body.
-pub takes_whole : (ds : List DiskState) (i new : Intake) (digest : Sha256) (head : RecordHead) (behind : List ℕ) (r : Result Bool RecvError) → body_len head ≡ 0 → i.ended ≡ false → Keeps i new → OnOk r (r ≡ Ok true)
+pub takes_whole : (ds : List DiskState) (i new : Intake) (digest : Summed) (head : RecordHead) (behind : List ℕ) (r : Result Bool RecvError) → body_len head ≡ 0 → i.ended ≡ false → Keeps i new → OnOk r (r ≡ Ok true)
     → IfErr r (λ e. e ≢ errors.NoMemory) → Enters ds ds i new head behind r → TakesHead ds ds i new digest digest head behind r
 takes_whole ds i new digest head behind r none on keeps all memory enters =
     takes_one ds ds i new digest head behind r on keeps (all_short head behind r all) (all_long head behind r none) (λ e. absurd (never_memory r memory e)) enters

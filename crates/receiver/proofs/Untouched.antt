@@ -1,7 +1,6 @@
 -- Before a header for these disks and this RAM is whole, neither is touched.
 use Rattle.std.proofs.Common.{◌≡◌, ℕ, Bool, true, false, List, [], ◌++◌, length, take, drop, refl, sym, ap, subst, ◌∙◌, append_assoc, append-nil, arith}
 use Rattle.sha2.specs.Sha256.{sha256}
-use Rattle.sha2.specs.declared.Sha256.{Sha256}
 use Rattle.blk.specs.Disk.{DiskState}
 use Rattle.wire.specs.Records.{commit, spelled_record}
 use Rattle.wire.specs.Stream.{texts}
@@ -10,7 +9,8 @@ use Rattle.receiver.specs.Disks.{sizes_in}
 use Rattle.receiver.specs.Fed.{IsKnownIn, IsUpTo}
 use Rattle.receiver.specs.Opened.{opened_header}
 use Rattle.receiver.specs.Reading.{HasSameStore, StandsAside, WaitsOn}
-use Rattle.receiver.specs.Receiving.{HasDevice, HasHeaderFor, IsKnown, IsPastHead, IsTaken, MayTouch, ReaderSeen, received_with}
+use Rattle.receiver.specs.Receiving.{HasDevice, HasHeaderFor, IsKnown, IsPastHead, IsTaken, MayTouch, ReaderSeen, has_ended, received_with}
+use Rattle.receiver.specs.Sums.{Summed}
 use Rattle.receiver.specs.declared.intake.Intake.{Intake}
 use Rattle.receiver.specs.declared.ram_terms.RamTerms.{RamTerms}
 use Rattle.receiver.specs.declared.recv_error.RecvError.{RecvError}
@@ -37,12 +37,12 @@ seen_same old new before held h = record { disks = h.disks; aside = h.aside }
 pub stands_same : {old new : ReaderSeen} → StandsAside old new → ¬ (IsPastHead old.stage) → HasSameStore old new
 stands_same f never = record { disks = f.disks; aside = f.aside never }
 
-may_touch : (ram : RamTerms) (sizes bytes : List ℕ) (e : RecvError) → HasHeaderFor ram sizes bytes → (e ≡ NoMemory → HasDevice ram sizes bytes 0) → MayTouch ram sizes bytes e
+pub may_touch : (ram : RamTerms) (sizes bytes : List ℕ) (e : RecvError) → HasHeaderFor ram sizes bytes → (e ≡ NoMemory → HasDevice ram sizes bytes 0) → MayTouch ram sizes bytes e
 may_touch ram sizes bytes NoMemory h wants = wants refl
 may_touch ram sizes bytes _ h wants = h
 
 -- In more bytes.
-header_on : (ram : RamTerms) (sizes b c all : List ℕ) → HasHeaderFor ram sizes b → all ≡ b ++ c → HasHeaderFor ram sizes all
+pub header_on : (ram : RamTerms) (sizes b c all : List ℕ) → HasHeaderFor ram sizes b → all ≡ b ++ c → HasHeaderFor ram sizes all
 header_on ram sizes b c all h e =
     let head = opened_header h.opening in
     let parts : all ≡ head ++ (texts h.before ++ (h.tail ++ c)) =
@@ -54,12 +54,12 @@ header_on ram sizes b c all h e =
       front = record { begins = record { good = h.front.begins.good; whole = parts }; based = h.front.based; fits = h.front.fits; suits = h.front.suits; within = h.front.within; good = h.front.good };
     }
 
-touch_on : (ram : RamTerms) (sizes b c all : List ℕ) (e : RecvError) → MayTouch ram sizes b e → all ≡ b ++ c → MayTouch ram sizes all e
+pub touch_on : (ram : RamTerms) (sizes b c all : List ℕ) (e : RecvError) → MayTouch ram sizes b e → all ≡ b ++ c → MayTouch ram sizes all e
 touch_on ram sizes b c all NoMemory h is = device_on ram sizes b c all 0 0 h is (omega arith)
 touch_on ram sizes b c all _ h is = header_on ram sizes b c all h is
 
 -- What was taken in begins with the header.
-read_header : (ended : Bool) (ram : RamTerms) (ds : List DiskState) (digest : Sha256) (front tail bytes : List ℕ) (i : Intake) → IsUpTo ended ram ds digest front i → bytes ≡ front ++ tail → HasHeaderFor ram (sizes_in ds) bytes
+read_header : (ended : Bool) (ram : RamTerms) (ds : List DiskState) (digest : Summed) (front tail bytes : List ℕ) (i : Intake) → IsUpTo ended ram ds digest front i → bytes ≡ front ++ tail → HasHeaderFor ram (sizes_in ds) bytes
 read_header false ram ds digest front tail bytes i up is = let r = up.1 in record { opening = r.opening; before = r.before; tail = tail; front = front_at r.based (front_of bytes tail r.read is) }
 read_header true ram ds digest front tail bytes i up is =
     let w = up.ended in
@@ -67,15 +67,21 @@ read_header true ram ds digest front tail bytes i up is =
     let parts : bytes ≡ w.front ++ (end ++ tail) = is ∙ ap (λ (x : List ℕ). x ++ tail) w.whole ∙ append_assoc w.front end tail in
     record { opening = up.opening; before = w.before; tail = end ++ tail; front = front_at up.based (front_of bytes (end ++ tail) w.read parts) }
 
-known_up_to : (ended : Bool) (ram : RamTerms) (ds : List DiskState) (digest : Sha256) (front held : List ℕ) (i : Intake) → IsKnownIn ended ram ds digest front held i → IsUpTo ended ram ds digest front i
+known_up_to : (ended : Bool) (ram : RamTerms) (ds : List DiskState) (digest : Summed) (front held : List ℕ) (i : Intake) → IsKnownIn ended ram ds digest front held i → IsUpTo ended ram ds digest front i
 known_up_to false ram ds digest front held i k = (k.0, record { opening = k.1.opening; based = k.1.based; before = k.1.open_at.before; read = k.1.open_at.read })
 known_up_to true ram ds digest front held i k = k.1
 
-known_header : (ram : RamTerms) (ds : List DiskState) (digest : Sha256) (front held tail bytes : List ℕ) (i : Intake) → IsKnown ram ds digest front held (stages.Records i) → bytes ≡ front ++ tail → HasHeaderFor ram (sizes_in ds) bytes
+known_header : (ram : RamTerms) (ds : List DiskState) (digest : Summed) (front held tail bytes : List ℕ) (i : Intake) → IsKnown ram ds digest front held (stages.Records i) → bytes ≡ front ++ tail → HasHeaderFor ram (sizes_in ds) bytes
 known_header ram ds digest front held tail bytes i k is = read_header i.ended ram ds digest front tail bytes i (known_up_to i.ended ram ds digest front held i k) is
 
+-- A whole stream begins with one, and so do more bytes.
+pub ended_header : (ram : RamTerms) (ds : List DiskState) (digest : Summed) (b held piece : List ℕ) (stage : Stage) → has_ended stage ≡ true → IsTaken ram ds digest b held stage → HasHeaderFor ram (sizes_in ds) (b ++ piece)
+ended_header ram ds digest b held piece stages.Head done t = absurd cc
+ended_header ram ds digest b held piece (stages.Records i) done t = header_on ram (sizes_in ds) b piece (b ++ piece) (known_header ram ds digest t.front held held b i t.known t.whole) refl
+ended_header ram ds digest b held piece stages.Failed done t = absurd cc
+
 -- Records behind the header were looked at, and refused.
-pub work_touches : (old : ReaderSeen) (ram : RamTerms) (ds : List DiskState) (digest : Sha256) (front bytes : List ℕ) (start : ℕ) (i : Intake) (e : RecvError) → ds ≡ old.disks → ram ≡ old.ram → IsUpTo i.ended ram ds digest (front ++ take start bytes) i
+pub work_touches : (old : ReaderSeen) (ram : RamTerms) (ds : List DiskState) (digest : Summed) (front bytes : List ℕ) (start : ℕ) (i : Intake) (e : RecvError) → ds ≡ old.disks → ram ≡ old.ram → IsUpTo i.ended ram ds digest (front ++ take start bytes) i
     → (e ≡ NoMemory → HasDevice ram (sizes_in ds) ((front ++ take start bytes) ++ drop start bytes) (length (front ++ take start bytes))) → MayTouch old.ram (sizes_in old.disks) (front ++ bytes) e
 work_touches old ram ds digest front bytes start i e disks same up wants =
     let text : front ++ bytes ≡ (front ++ take start bytes) ++ drop start bytes = cut front bytes start in

@@ -3,7 +3,7 @@ use Rattle.std.proofs.Common.{◌≡◌, ℕ, ◌+◌, ◌≤◌, List, [], ◌+
 use Rattle.std.specs.Prelude.{Result, Ok, Err, OnErr, true}
 use Rattle.std.specs.Result.{is_err}
 use Rattle.std.proofs.lemmas.List.{length-append, length-take, take-append-drop}
-use Rattle.sha2.specs.declared.Sha256.{Sha256}
+use Rattle.receiver.specs.Sums.{Summed}
 use Rattle.blk.specs.Disk.{DiskState}
 use Rattle.wire.specs.Header.{Begins, Opening}
 use Rattle.receiver.specs.Opened.{Opened, opened_header}
@@ -80,7 +80,7 @@ device_on ram sizes b c all low from h e le =
     }
 
 -- A header is whole in what was fed: it was read.
-pub past_head : (ram : RamTerms) (ds : List DiskState) (digest : Sha256) (b held : List ℕ) (stage : Stage) (opening : Opening) (rest : List ℕ) → IsTaken ram ds digest b held stage → Begins b opening rest → IsPastHead stage
+pub past_head : (ram : RamTerms) (ds : List DiskState) (digest : Summed) (b held : List ℕ) (stage : Stage) (opening : Opening) (rest : List ℕ) → IsTaken ram ds digest b held stage → Begins b opening rest → IsPastHead stage
 past_head ram ds digest b held stages.Head opening rest t begins =
     let k = t.known in
     let same : b ≡ held = t.whole ∙ ap (λ (x : List ℕ). x ++ held) k.0 in
@@ -97,12 +97,12 @@ fed_wants r held piece b opening rest from memory fed begins at =
     let all : b ++ piece ≡ (t.front ++ (held ++ piece)) ++ [] = ap (λ (x : List ℕ). x ++ piece) t.whole ∙ append_assoc t.front held piece ∙ sym (append-nil (t.front ++ (held ++ piece))) in
     device_on r.ram (sizes_in r.disks) (t.front ++ (held ++ piece)) [] (b ++ piece) from (length t.front) d all (omega (arith, at, ap length t.whole, length-append t.front held))
 
-pub part_wants : (ram : RamTerms) (old ds : List DiskState) (digest : Sha256) (bytes held rest part after : List ℕ) (stage : Stage) (low : ℕ) → (p : IsPartly ram old ds digest bytes held rest stage) → rest ≡ part ++ after → low ≤ length p.front
+pub part_wants : (ram : RamTerms) (old ds : List DiskState) (digest : Summed) (bytes held rest part after : List ℕ) (stage : Stage) (low : ℕ) → (p : IsPartly ram old ds digest bytes held rest stage) → rest ≡ part ++ after → low ≤ length p.front
     → HasDevice ram (sizes_in ds) (p.front ++ (held ++ part)) (length p.front) → HasDevice ram (sizes_in old) bytes low
 part_wants ram old ds digest bytes held rest part after stage low p is le d =
     let all : bytes ≡ (p.front ++ (held ++ part)) ++ after = p.whole ∙ ap (λ (x : List ℕ). p.front ++ (held ++ x)) is ∙ regrouped p.front held part after in
     subst (λ (sizes : List ℕ). HasDevice ram sizes bytes low) p.same.sizes (device_on ram (sizes_in ds) (p.front ++ (held ++ part)) after bytes low (length p.front) d all le)
 
-pub not_before : (ram : RamTerms) (old ds : List DiskState) (digest : Sha256) (front first piece held rest : List ℕ) (stage : Stage) → (p : IsPartly ram old ds digest (front ++ (first ++ piece)) held rest stage) → length held + length rest ≤ length first + length piece → length front ≤ length p.front
+pub not_before : (ram : RamTerms) (old ds : List DiskState) (digest : Summed) (front first piece held rest : List ℕ) (stage : Stage) → (p : IsPartly ram old ds digest (front ++ (first ++ piece)) held rest stage) → length held + length rest ≤ length first + length piece → length front ≤ length p.front
 not_before ram old ds digest front first piece held rest stage p le =
     omega (arith, le, ap length p.whole, length-append front (first ++ piece), length-append first piece, length-append p.front (held ++ rest), length-append held rest)

@@ -2,9 +2,9 @@
 use Rattle.std.proofs.Common.{◌≡◌, ◌≢◌, ℕ, ◌+◌, ◌≤◌, inr, Bool, true, false, List, [], ◌∷◌, ◌++◌, length, take, drop, refl, sym, ap, subst, ◌∙◌, append_assoc, append-nil, arith}
 use Rattle.std.proofs.lemmas.List.{take-append-drop, take_at, length-drop}
 use Rattle.std.proofs.Math.Seq.{take-add}
-use Rattle.sha2.specs.Hashers.{Holds256}
+use Rattle.receiver.specs.Sums.{Sums}
 use Rattle.sha2.specs.Sha256.{sha256}
-use Rattle.sha2.specs.declared.Sha256.{Sha256}
+use Rattle.receiver.specs.Sums.{Summed}
 use Rattle.sha2.proofs.Facts256.{length-sha256}
 use Rattle.receiver.specs.Opened.{opened_header, Opened}
 use Rattle.wire.specs.Records.{Record, commit, spelled_record}
@@ -56,15 +56,15 @@ pub fault_refused : (ds : List DiskState) (opening : Opened) (before : List Reco
 fault_refused ds opening before tail e f = (refused_kept ds e (never_disk opening before tail e f.0 f.1), tells _ e f)
 
 -- What was known of an intake is known with the bytes that were worked off behind it.
-pub record SoFar (ram : RamTerms) (old ds : List DiskState) (i : Intake) (digest : Sha256) (front : List ℕ) : Type 0 where
+pub record SoFar (ram : RamTerms) (old ds : List DiskState) (i : Intake) (digest : Summed) (front : List ℕ) : Type 0 where
   pub same : AreKept old ds
   pub known : IsUpTo i.ended ram ds digest front i
 
-pub nothing_yet : (ram : RamTerms) (ds : List DiskState) (i : Intake) (digest : Sha256) (front bytes : List ℕ) → IsUpTo i.ended ram ds digest front i → SoFar ram ds ds i digest (front ++ take 0 bytes)
+pub nothing_yet : (ram : RamTerms) (ds : List DiskState) (i : Intake) (digest : Summed) (front bytes : List ℕ) → IsUpTo i.ended ram ds digest front i → SoFar ram ds ds i digest (front ++ take 0 bytes)
 nothing_yet ram ds i digest front bytes k = record { same = kept ds; known = subst (λ (x : List ℕ). IsUpTo i.ended ram ds digest x i) (sym (append-nil front)) k }
 
 -- So far no digest was read.
-pub reads_on : (ram : RamTerms) (ds : List DiskState) (i : Intake) (digest : Sha256) (front : List ℕ) → i.ended ≡ false → IsUpTo i.ended ram ds digest front i → Holds256 digest front × IsRead ram ds front i
+pub reads_on : (ram : RamTerms) (ds : List DiskState) (i : Intake) (digest : Summed) (front : List ℕ) → i.ended ≡ false → IsUpTo i.ended ram ds digest front i → Sums digest front × IsRead ram ds front i
 reads_on ram ds i digest front on k = subst (λ (b : Bool). IsUpTo b ram ds digest front i) on k
 
 pub more_taken : (front bytes : List ℕ) (at len : ℕ) → (front ++ take at bytes) ++ take len (drop at bytes) ≡ front ++ take (at + len) bytes
@@ -99,19 +99,19 @@ refused ram old ds new opening before i front bytes at e based same h t =
     (then_refused old ds new e same t.0, tells_more _ _ e (λ f. subst (λ sizes. (k : ℕ) × Fault ram sizes (front ++ bytes) e k) same.sizes (at_ram f)) t.1)
 
 -- The record at the front waits.
-pub waiting : (ram : RamTerms) (old ds new : List DiskState) (opening : Opened) (before : List Record) (i : Intake) (digest : Sha256) (front tail : List ℕ) → opening.ram ≡ ram → i.ended ≡ false → AreKept old ds → Holds256 digest front
+pub waiting : (ram : RamTerms) (old ds new : List DiskState) (opening : Opened) (before : List Record) (i : Intake) (digest : Summed) (front tail : List ℕ) → opening.ram ≡ ram → i.ended ≡ false → AreKept old ds → Sums digest front
     → AreKept ds new × HasRead new opening before i front × Waits opening before tail → AreKept old new × IsKnownIn i.ended ram new digest front tail i
 waiting ram old ds new opening before i digest front tail based on same d h =
     (then_kept old ds new same h.0, subst (λ (b : Bool). IsKnownIn b ram new digest front tail i) (sym on) (d, record { opening = opening; based = based; open_at = record { before = before; read = h.1; waits = h.2 } }))
 
 -- No bytes are left.
-left_in : (ended : Bool) (ram : RamTerms) (ds : List DiskState) (digest : Sha256) (front held : List ℕ) (i : Intake) → held ≡ [] → IsUpTo ended ram ds digest front i → IsKnownIn ended ram ds digest front held i
+left_in : (ended : Bool) (ram : RamTerms) (ds : List DiskState) (digest : Summed) (front held : List ℕ) (i : Intake) → held ≡ [] → IsUpTo ended ram ds digest front i → IsKnownIn ended ram ds digest front held i
 left_in false ram ds digest front held i none k =
     let r = k.1 in
     (k.0, record { opening = r.opening; based = r.based; open_at = record { before = r.before; read = r.read; waits = nothing_waits r.opening r.before held (ap length none) } })
 left_in true ram ds digest front held i none k = (none, k)
 
-pub at_end : (ram : RamTerms) (old ds : List DiskState) (i : Intake) (digest : Sha256) (front bytes : List ℕ) (at : ℕ) → SoFar ram old ds i digest (front ++ take at bytes) → length bytes ≤ at
+pub at_end : (ram : RamTerms) (old ds : List DiskState) (i : Intake) (digest : Summed) (front bytes : List ℕ) (at : ℕ) → SoFar ram old ds i digest (front ++ take at bytes) → length bytes ≤ at
     → AreKept old ds × IsKnownIn i.ended ram ds digest (front ++ take at bytes) (drop at bytes) i
 at_end ram old ds i digest front bytes at h le = (h.same, left_in i.ended ram ds digest (front ++ take at bytes) (drop at bytes) i (empty (drop at bytes) (omega (arith, le, length-drop at bytes))) h.known)
 
@@ -135,14 +135,14 @@ ended ds opening before i front tail h e = record {
 }
 
 -- One record more, or the digest.
-more_in : (ended : Bool) (ram : RamTerms) (ds : List DiskState) (opening : Opened) (before : List Record) (i : Intake) (digest : Sha256) (front tail : List ℕ) (len : ℕ) → opening.ram ≡ ram → (ended ≡ false → Holds256 digest (front ++ take len tail))
+more_in : (ended : Bool) (ram : RamTerms) (ds : List DiskState) (opening : Opened) (before : List Record) (i : Intake) (digest : Summed) (front tail : List ℕ) (len : ℕ) → opening.ram ≡ ram → (ended ≡ false → Sums digest (front ++ take len tail))
     → TookRecord ended ds opening before i front tail len → IsUpTo ended ram ds digest (front ++ take len tail) i
 more_in false ram ds opening before i digest front tail len based d t = (d refl, record { opening = opening; based = based; before = before ++ t.0 ∷ []; read = t.1 })
 more_in true ram ds opening before i digest front tail len based d t =
     record { opening = opening; based = based; ended = subst (λ (n : ℕ). IsEnded ds opening i (front ++ take n tail)) (sym t.0) (ended ds opening before i front tail t.1 t.2) }
 
-pub one_more : (ram : RamTerms) (old ds new : List DiskState) (opening : Opened) (before : List Record) (i : Intake) (digest : Sha256) (front bytes : List ℕ) (at len : ℕ) → opening.ram ≡ ram → AreKept old ds
-    → (i.ended ≡ false → Holds256 digest ((front ++ take at bytes) ++ take len (drop at bytes))) → AreKept ds new × TookRecord i.ended new opening before i (front ++ take at bytes) (drop at bytes) len → SoFar ram old new i digest (front ++ take (at + len) bytes)
+pub one_more : (ram : RamTerms) (old ds new : List DiskState) (opening : Opened) (before : List Record) (i : Intake) (digest : Summed) (front bytes : List ℕ) (at len : ℕ) → opening.ram ≡ ram → AreKept old ds
+    → (i.ended ≡ false → Sums digest ((front ++ take at bytes) ++ take len (drop at bytes))) → AreKept ds new × TookRecord i.ended new opening before i (front ++ take at bytes) (drop at bytes) len → SoFar ram old new i digest (front ++ take (at + len) bytes)
 one_more ram old ds new opening before i digest front bytes at len based same d h = record {
   same = then_kept old ds new same h.0;
   known = subst (λ (x : List ℕ). IsUpTo i.ended ram new digest x i) (more_taken front bytes at len) (more_in i.ended ram new opening before i digest (front ++ take at bytes) (drop at bytes) len based d h.1);

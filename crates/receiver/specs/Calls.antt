@@ -1,5 +1,5 @@
 -- What the calls of a receiver promise, each in one record. What is said of bytes is said of each list that may have been fed.
-use Rattle.std.specs.Prelude.{◌≡◌, ℕ, ◌+◌, List, [], ◌++◌, length, map, true, false, Result, Ok, Err, IfOk, IfErr, OnOk, OnErr, Option, Some}
+use Rattle.std.specs.Prelude.{◌≡◌, ◌≤◌, ℕ, ◌+◌, List, [], ◌∷◌, ◌++◌, take, drop, length, map, true, false, Result, Ok, Err, IfOk, IfErr, OnOk, OnErr, Option, Some}
 use Rattle.blk.specs.Disk.{DiskState}
 use Rattle.guestmem.specs.Memory.{Memory}
 use Rattle.machine.specs.First.{dealt_marks}
@@ -11,7 +11,8 @@ use Rattle.wire.specs.Header as told
 use Rattle.wire.specs.Stream.{IsStream, shapes_in}
 use Rattle.receiver.specs.Disks.{AreHonestDisks, MarksAfter, disk_marks_of, sizes_of}
 use Rattle.receiver.specs.Opened.{terms_at}
-use Rattle.receiver.specs.Receiving.{HasBeenFed, HasDevice, HasHeaderFor, IsArrived, IsFinish, IsGivenUp, IsReceived, IsWholeFor, MayTouch, NoFault, Received, RefusesSlice, TellsNow, end_error, place_aside, ram_len_in}
+use Rattle.receiver.specs.Receiving.{HasBeenFed, has_ended, reads_in, HasDevice, HasHeaderFor, IsArrived, IsFinish, IsGivenUp, IsReceived, IsWholeFor, MayTouch, NoFault, Received, RefusesSlice, TellsNow, end_error, place_aside, ram_len_in}
+use Rattle.receiver.specs.declared.receiver.Fed.{Fed}
 use Rattle.receiver.specs.declared.ram_terms.RamTerms.{RamTerms}
 use Rattle.receiver.specs.declared.recv_error.RecvError.{RecvError}
 use Rattle.receiver.specs.declared.terms.Terms.{Terms}
@@ -52,6 +53,19 @@ pub record Feeds (old : Received) (piece : List ℕ) (result : Result (Unit {0})
   pub gone : old.failed ≡ true → IsUntouched old new
   pub waits : OnOk result ((b : List ℕ) → HasBeenFed old b → ¬ (HasHeaderFor old.ram old.sizes (b ++ piece)) → IsUntouched old new)
   pub untouched : IfErr result (λ e. (b : List ℕ) → HasBeenFed old b → ¬ (MayTouch old.ram old.sizes (b ++ piece) e) → IsUntouched old new)
+
+-- The record of the digest has begun, or begins with these bytes.
+pub record IsDue (r : Received) (rest : List ℕ) : Type 0 where
+  pub reads : reads_in r.stage ≡ true
+  pub goes_on : has_ended r.stage ≡ false
+  pub more : List ℕ
+  pub begins : r.held ++ rest ≡ 5 ∷ more
+
+-- A piece was fed as far as the record of the digest: its first bytes were taken, and the others, if there are some, begin or go on with that
+-- record; or it was refused.
+abbrev pub FeedsSome : Received → List ℕ → Result Fed RecvError → Received → Type 0
+FeedsSome old piece (Ok fed) new = (fed.used ≤ length piece) × Feeds old (take fed.used piece) (Ok tt) new × (fed.is_due ≡ false → fed.used ≡ length piece) × (fed.is_due ≡ true → IsDue new (drop fed.used piece))
+FeedsSome old piece (Err e) new = Feeds old piece (Err e) new
 
 -- The result is a refusal for this reason. `why` reads it off what the refusal gives.
 abbrev pub FailsAs : {T E : Type 0} → (E → RecvError) → Result T E → RecvError → Type 0

@@ -1,9 +1,8 @@
 -- What a receiver has read of the bytes that it was fed.
 use Rattle.std.specs.Prelude.{All, ◌≡◌, ℕ, ◌+◌, ◌*◌, Bool, true, false, List, [], ◌∷◌, ◌++◌, length, take, drop, Option, Some, None, Result, Ok, Err}
 use Rattle.std.specs.List.{AllByRecursion}
-use Rattle.sha2.specs.Hashers.{Holds256}
+use Rattle.receiver.specs.Sums.{MayClose, Summed, Sums}
 use Rattle.sha2.specs.Sha256.{sha256}
-use Rattle.sha2.specs.declared.Sha256.{Sha256}
 use Rattle.wire.specs.DeviceBody.{body, IsDeviceOf}
 use Rattle.receiver.specs.Opened.{HasPages, opened_header, IsOpenedHeader, Opened, opened_layout}
 use Rattle.blk.specs.Disk.{DiskState}
@@ -96,9 +95,9 @@ After old disks opening before new front tail (Ok None) = AreKept old disks × H
 After old disks opening before new front tail (Ok (Some len)) = AreKept old disks × TookRecord new.ended disks opening before new front tail len
 After old disks opening before new front tail (Err e) = AreRefused old disks e × Tells e ((place : ℕ) × IsFault opening before tail e place)
 
--- The same for all bytes that were taken in before, which have this digest.
-abbrev pub TakesPart : List DiskState → List DiskState → Intake → Intake → Sha256 → List ℕ → Result (Option ℕ) RecvError → Type 0
-TakesPart old disks i new digest bytes result = (front : List ℕ) (opening : Opened) (before : List Record) → Holds256 digest front → HasRead old opening before i front
+-- The same for all bytes that were taken in before, which have this digest, if it can be compared where it comes.
+abbrev pub TakesPart : List DiskState → List DiskState → Intake → Intake → Summed → List ℕ → Result (Option ℕ) RecvError → Type 0
+TakesPart old disks i new digest bytes result = (front : List ℕ) (opening : Opened) (before : List Record) → Sums digest front → HasRead old opening before i front → MayClose digest front bytes
     → After old disks opening before new front bytes result
 
 -- The intake has taken in the front of the bytes, and waits for more.
@@ -135,16 +134,16 @@ pub record IsReadWhole (ram : RamTerms) (disks : List DiskState) (bytes : List �
   pub ended : IsEnded disks opening i bytes
 
 -- These bytes were taken in, and have this digest; or, with the digest that ends them, they are a whole stream.
-abbrev pub IsUpTo : Bool → RamTerms → List DiskState → Sha256 → List ℕ → Intake → Type 0
-IsUpTo false ram disks digest front i = Holds256 digest front × IsRead ram disks front i
+abbrev pub IsUpTo : Bool → RamTerms → List DiskState → Summed → List ℕ → Intake → Type 0
+IsUpTo false ram disks digest front i = Sums digest front × IsRead ram disks front i
 IsUpTo true ram disks digest front i = IsReadWhole ram disks front i
 
 -- What is known of the bytes of which those of `front` were taken in and those after it are held.
-abbrev pub IsKnownIn : Bool → RamTerms → List DiskState → Sha256 → List ℕ → List ℕ → Intake → Type 0
-IsKnownIn false ram disks digest front held i = Holds256 digest front × IsReading ram disks front held i
+abbrev pub IsKnownIn : Bool → RamTerms → List DiskState → Summed → List ℕ → List ℕ → Intake → Type 0
+IsKnownIn false ram disks digest front held i = Sums digest front × IsReading ram disks front held i
 IsKnownIn true ram disks digest front held i = (held ≡ []) × IsReadWhole ram disks front i
 
 -- The disks, the digest and the intake, after it worked through these bytes, which follow those of `front`, up to `at`.
-abbrev pub Worked : RamTerms → List DiskState → List DiskState → Intake → Sha256 → List ℕ → List ℕ → Result ℕ RecvError → Type 0
+abbrev pub Worked : RamTerms → List DiskState → List DiskState → Intake → Summed → List ℕ → List ℕ → Result ℕ RecvError → Type 0
 Worked ram old disks new digest front bytes (Ok at) = AreKept old disks × IsKnownIn new.ended ram disks digest (front ++ take at bytes) (drop at bytes) new
 Worked ram old disks new digest front bytes (Err e) = AreRefused old disks e × Tells e ((at : ℕ) × Fault ram (sizes_in old) (front ++ bytes) e at)

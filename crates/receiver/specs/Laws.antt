@@ -2,7 +2,7 @@
 --
 -- That what is saved is received is a law of its own, over `whole` and the faults, so that nobody has to put it together from
 -- what `save` and `receive` promise.
-use Rattle.std.specs.Prelude.{◌≡◌, ◌≤◌, ℕ, List, ◌++◌, length}
+use Rattle.std.specs.Prelude.{◌≡◌, ◌≤◌, ◌⊎◌, ℕ, List, ◌++◌, length, Result, Ok, Err}
 use Rattle.wire.specs.Stream.{IsStream, rounds, shapes_in, whole}
 use Rattle.machine.specs.Layout.{pages_of}
 use Rattle.machine.specs.Limits.{IsWithinLimits}
@@ -11,7 +11,8 @@ use Rattle.machine.specs.Sound.{IsSound}
 use Rattle.machine.specs.State.{MachineState, base_of}
 use Rattle.machine.specs.Shapes.{disk_sizes}
 use Rattle.receiver.specs.Disks.{IsUnsteady}
-use Rattle.receiver.specs.Receiving.{NoFault, HasRounds, RefusesSlice}
+use Rattle.receiver.specs.Calls.{Feeds}
+use Rattle.receiver.specs.Receiving.{HasBeenFed, NoFault, HasRounds, Received, RefusesSlice}
 use Rattle.receiver.specs.Faults.{Fault}
 use Rattle.receiver.specs.Opened.{HasPages}
 use Rattle.receiver.specs.declared.ram_terms.RamTerms.{RamTerms}
@@ -51,3 +52,21 @@ IsSpoilt marks _ = ⊥
 abbrev pub SavedIsReceived : Type 0
 SavedIsReceived = (terms : Terms) (sizes : List ℕ) (marks : List Marks) (m : MachineState) → IsSound m → IsWithinLimits terms.limits m → base_of m.devices ≡ terms.base → sizes ≡ disk_sizes (shapes_in m.devices)
     → ((e : RecvError) → RefusesSlice terms sizes marks (whole m) e → IsSpoilt marks e) × ((k : MachineState) → IsStream (whole m) k → base_of k.devices ≡ terms.base → k ≡ m)
+
+-- Memory was refused, or a disk failed.
+abbrev pub IsWant : RecvError → Type 0
+IsWant NoMemory = Unit {0}
+IsWant DiskFailed = Unit {0}
+IsWant _ = ⊥
+
+-- Two answers are the same, but for memory and disks.
+abbrev pub AreAlike : Result (Unit {0}) RecvError → Result (Unit {0}) RecvError → Type 0
+AreAlike (Ok x) (Ok y) = Unit {0}
+AreAlike (Ok x) (Err f) = IsWant f
+AreAlike (Err e) (Ok y) = IsWant e
+AreAlike (Err e) (Err f) = IsWant e ⊎ (IsWant f ⊎ (e ≡ f))
+
+-- Two receivers that were fed the same bytes, told the same of RAM and with disks of the same sizes, answer the same piece alike, whoever
+-- digests.
+abbrev pub TellingIsDigesting : Type 0
+TellingIsDigesting = (a b c d : Received) (bytes piece : List ℕ) (r s : Result (Unit {0}) RecvError) → b.ram ≡ a.ram → b.sizes ≡ a.sizes → HasBeenFed a bytes → HasBeenFed b bytes → Feeds a piece r c → Feeds b piece s d → AreAlike r s

@@ -10,6 +10,7 @@ use Rattle.receiver.specs.Faults.{Fault, WaitsHead}
 use Rattle.receiver.specs.Fed.{IsUpTo, Tells}
 use Rattle.receiver.specs.Receiving.{HasDevice, IsPastHead, IsTaken, Knows, MayTouch, ReaderSeen, has_failed, length_aside, place_in}
 use Rattle.receiver.specs.Standing.{IsSized}
+use Rattle.receiver.specs.Sums.{IsClear, SaysOn}
 use Rattle.receiver.specs.declared.ram_terms.RamTerms.{RamTerms}
 use Rattle.receiver.specs.declared.recv_error.RecvError.{RecvError}
 use Rattle.receiver.specs.declared.recv_error.RecvError.TheVariants.{AlreadyFailed, NoMemory}
@@ -69,6 +70,7 @@ pub record ReadsHeader (old : ReaderSeen) (bytes : List ℕ) (result : Result �
   pub failed : has_failed old.stage ≡ true → (result ≡ Ok 0) × (new ≡ old)
   pub stays : OnErr result (new ≡ old)
   pub waits : OnOk result (new.stage ≡ stages.Head → new ≡ old)
+  pub says : OnOk result (SaysOn old.digest new.digest)
   pub opened : (held : List ℕ) → old.stage ≡ stages.Head → Knows old [] held → HeaderAt old bytes result new new.stage
 
 -- After a look at bytes that follow those that were worked off: some of them are worked off, or they are refused.
@@ -83,10 +85,11 @@ pub record Looks (old : ReaderSeen) (bytes : List ℕ) (result : Result ℕ Recv
   pub failed : OnErr result (new.stage ≡ stages.Failed)
   pub past : IsPastHead old.stage → OnOk result (IsPastHead new.stage)
   pub place : place_of new ≡ place_of old
-  pub memory : (front held : List ℕ) → Knows old front held → IsPastHead old.stage → result ≡ Err NoMemory → HasDevice old.ram (sizes_in old.disks) (front ++ bytes) (length front)
+  pub says : OnOk result (SaysOn old.digest new.digest)
+  pub memory : (front held : List ℕ) → Knows old front held → IsClear old.digest old.ram (sizes_in old.disks) (front ++ bytes) → IsPastHead old.stage → result ≡ Err NoMemory → HasDevice old.ram (sizes_in old.disks) (front ++ bytes) (length front)
   pub waits : OnOk result (WaitsOn old new)
-  pub untouched : IfErr result (λ e. (front held : List ℕ) → Knows old front held → ¬ (MayTouch old.ram (sizes_in old.disks) (front ++ bytes) e) → HasSameStore old new)
-  pub looked : (front held : List ℕ) → Knows old front held → LookedAt old front bytes result new
+  pub untouched : IfErr result (λ e. (front held : List ℕ) → Knows old front held → IsClear old.digest old.ram (sizes_in old.disks) (front ++ bytes) → ¬ (MayTouch old.ram (sizes_in old.disks) (front ++ bytes) e) → HasSameStore old new)
+  pub looked : (front held : List ℕ) → Knows old front held → IsClear old.digest old.ram (sizes_in old.disks) (front ++ bytes) → LookedAt old front bytes result new
 
 -- After more bytes, which make these bytes in all.
 abbrev pub TookBytes : {A : Type 0} → ReaderSeen → List ℕ → Result A RecvError → ReaderSeen → List ℕ → Type 0
@@ -101,24 +104,27 @@ pub record TakesBytes (old : ReaderSeen) (before bytes : List ℕ) (result : Res
   pub failed : OnErr result (new.stage ≡ stages.Failed)
   pub past : IsPastHead old.stage → OnOk result (IsPastHead new.stage)
   pub place : place_of new ≡ place_of old
-  pub memory : (front : List ℕ) → Knows old front before → IsPastHead old.stage → result ≡ Err NoMemory
+  pub says : OnOk result (SaysOn old.digest new.digest)
+  pub memory : (front : List ℕ) → Knows old front before → IsClear old.digest old.ram (sizes_in old.disks) (front ++ (before ++ bytes)) → IsPastHead old.stage → result ≡ Err NoMemory
       → HasDevice old.ram (sizes_in old.disks) (front ++ (before ++ bytes)) (length front)
   pub waits : OnOk result (WaitsOn old new)
-  pub untouched : IfErr result (λ e. (front : List ℕ) → Knows old front before → ¬ (MayTouch old.ram (sizes_in old.disks) (front ++ (before ++ bytes)) e)
-      → HasSameStore old new)
-  pub took : (front : List ℕ) → Knows old front before → TookBytes old (front ++ (before ++ bytes)) result new held
+  pub untouched : IfErr result (λ e. (front : List ℕ) → Knows old front before → IsClear old.digest old.ram (sizes_in old.disks) (front ++ (before ++ bytes))
+      → ¬ (MayTouch old.ram (sizes_in old.disks) (front ++ (before ++ bytes)) e) → HasSameStore old new)
+  pub took : (front : List ℕ) → Knows old front before → IsClear old.digest old.ram (sizes_in old.disks) (front ++ (before ++ bytes)) → TookBytes old (front ++ (before ++ bytes)) result new held
 
 -- A whole piece was. `had` and `has` are the room of the buffer, before and after.
 pub record TakesPiece (old : ReaderSeen) (before : List ℕ) (had : ℕ) (piece : List ℕ) (result : Result ℕ RecvError) (new : ReaderSeen) (held : List ℕ) (has : ℕ) : Type 0 where
   pub ram : new.ram ≡ old.ram
   pub few : OnOk result (length held ≤ 131077)
+  pub shorter : OnOk result (length held ≤ length before + length piece)
   pub roomy : (IsPastHead old.stage → 131078 ≤ had) → OnOk result (IsPastHead new.stage → 131078 ≤ has)
   pub failed : OnErr result (has_failed new.stage ≡ true)
   pub place : place_of new ≡ place_of old
   pub already : has_failed old.stage ≡ true → (result ≡ Err AlreadyFailed) × (new ≡ old)
-  pub memory : (IsPastHead old.stage → 131078 ≤ had) → (front : List ℕ) → Knows old front before → IsPastHead old.stage → result ≡ Err NoMemory
+  pub says : OnOk result (SaysOn old.digest new.digest)
+  pub memory : (IsPastHead old.stage → 131078 ≤ had) → (front : List ℕ) → Knows old front before → IsClear old.digest old.ram (sizes_in old.disks) (front ++ (before ++ piece)) → IsPastHead old.stage → result ≡ Err NoMemory
       → HasDevice old.ram (sizes_in old.disks) (front ++ (before ++ piece)) (length front)
   pub waits : OnOk result (new.stage ≡ stages.Head → HasSameStore old new)
-  pub untouched : IfErr result (λ e. (IsPastHead old.stage → 131078 ≤ had) → (front : List ℕ) → Knows old front before
+  pub untouched : IfErr result (λ e. (IsPastHead old.stage → 131078 ≤ had) → (front : List ℕ) → Knows old front before → IsClear old.digest old.ram (sizes_in old.disks) (front ++ (before ++ piece))
       → ¬ (MayTouch old.ram (sizes_in old.disks) (front ++ (before ++ piece)) e) → HasSameStore old new)
-  pub took : (front : List ℕ) → Knows old front before → TookBytes old (front ++ (before ++ piece)) result new held
+  pub took : (front : List ℕ) → Knows old front before → IsClear old.digest old.ram (sizes_in old.disks) (front ++ (before ++ piece)) → TookBytes old (front ++ (before ++ piece)) result new held

@@ -1,9 +1,9 @@
 -- What a receiver knows of the bytes that it was fed.
 use Rattle.std.specs.Prelude.{◌≡◌, ◌<◌, ◌≤◌, ℕ, List, [], ◌++◌, length, Bool, true, false, Option, Some, None}
 use denote.RawPtr.{Ptr}
-use Rattle.sha2.specs.Hashers.{Holds256}
+use Rattle.receiver.specs.Sums.{Sums}
 use Rattle.sha2.specs.Sha256.{sha256}
-use Rattle.sha2.specs.declared.Sha256.{Sha256}
+use Rattle.receiver.specs.Sums.{Summed}
 use Rattle.guestmem.specs.Memory.{Memory}
 use Rattle.guestmem.specs.Number.{IsBytes}
 use Rattle.wire.specs.Header as told
@@ -29,8 +29,8 @@ use Rattle.receiver.specs.declared.recv_error.RecvError.TheVariants.{AlreadyFail
 
 -- What a receiver that was told this of RAM, with these disks, at this stage, knows of the bytes: those of `front` are worked off, and those after it are held.
 -- The digest is that of the front.
-abbrev pub IsKnown : RamTerms → List DiskState → Sha256 → List ℕ → List ℕ → Stage → Type 0
-IsKnown ram disks digest front held stages.Head = (front ≡ []) × Holds256 digest [] × WaitsHead ram.limits held
+abbrev pub IsKnown : RamTerms → List DiskState → Summed → List ℕ → List ℕ → Stage → Type 0
+IsKnown ram disks digest front held stages.Head = (front ≡ []) × Sums digest [] × WaitsHead ram.limits held
 IsKnown ram disks digest front held (stages.Records i) = IsKnownIn i.ended ram disks digest front held i
 IsKnown ram disks digest front held stages.Failed = ⊥
 
@@ -41,14 +41,14 @@ pub record ReaderSeen : Type 0 where
   pub disks : List DiskState
   pub aside : Option Memory
   pub room : Option RoomSeen
-  pub digest : Sha256
+  pub digest : Summed
   pub stage : Stage
 
 abbrev pub Knows : ReaderSeen → List ℕ → List ℕ → Type 0
 Knows r front held = IsKnown r.ram r.disks r.digest front held r.stage
 
 -- These are all bytes that were fed, and what of them is not worked off is held.
-pub record IsTaken (ram : RamTerms) (disks : List DiskState) (digest : Sha256) (bytes held : List ℕ) (stage : Stage) : Type 0 where
+pub record IsTaken (ram : RamTerms) (disks : List DiskState) (digest : Summed) (bytes held : List ℕ) (stage : Stage) : Type 0 where
   pub front : List ℕ
   pub whole : bytes ≡ front ++ held
   pub known : IsKnown ram disks digest front held stage
@@ -100,6 +100,12 @@ has_ended stages.Head = false
 has_ended (stages.Records i) = i.ended
 has_ended stages.Failed = false
 
+-- The header was read, and nothing was refused.
+abbrev pub reads_in : Stage → Bool
+reads_in stages.Head = false
+reads_in (stages.Records i) = true
+reads_in stages.Failed = false
+
 -- Where a RAM lies that stands aside, if that is memory of the caller.
 abbrev pub place_aside : Option Memory → Option Ptr
 place_aside None = None
@@ -130,7 +136,7 @@ pub record Received : Type 0 where
   pub failed : Bool
   pub disks : List DiskState
   pub stage : Stage
-  pub digest : Sha256
+  pub digest : Summed
   pub held : List ℕ
   pub aside : Option Memory
   pub place : Option Ptr

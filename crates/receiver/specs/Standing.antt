@@ -1,8 +1,7 @@
 -- Which head of a record may come next, after whole good records, and what comes of the record.
 use Rattle.std.specs.Prelude.{◌≡◌, ◌<◌, ◌≤◌, ℕ, ◌+◌, ◌*◌, All, Bool, true, false, List, ◌∷◌, [], ◌++◌, drop, take, map, length, IfOk, OnOk, Result, Ok, Err}
 use Rattle.std.specs.Vec.{vec_capacity}
-use Rattle.sha2.specs.Hashers.{Holds256}
-use Rattle.sha2.specs.declared.Sha256.{Sha256}
+use Rattle.receiver.specs.Sums.{CanSay, Summed, Sums}
 use Rattle.wire.specs.DeviceBody.{IsBodyOf}
 use Rattle.wire.specs.RecordHeads.{FitsHead, body_len, spelled_head}
 use Rattle.wire.specs.Records.{Record, device, record_with, spelled_record}
@@ -105,9 +104,9 @@ TookHead old disks opening before new front tail head (Ok false) = AreKept old d
 TookHead old disks opening before new front tail head (Err e) = AreRefused old disks e × Tells e ((place : ℕ) × IsFault opening before tail e place)
 
 -- The same for all bytes that were taken in before, which have this digest.
-abbrev pub Closes : List DiskState → Intake → Intake → Sha256 → List ℕ → Result Bool RecvError → Type 0
-Closes disks i new digest behind result = (front tail : List ℕ) (opening : Opened) (before : List Record) → IsBytes tail → Holds256 digest front → HasRead disks opening before i front
-    → OpensHead opening before tail heads.Commit behind → Closed disks opening before new front tail result
+abbrev pub Closes : List DiskState → Intake → Intake → Summed → List ℕ → Result Bool RecvError → Type 0
+Closes disks i new digest behind result = (front tail : List ℕ) (opening : Opened) (before : List Record) → IsBytes tail → Sums digest front → HasRead disks opening before i front
+    → OpensHead opening before tail heads.Commit behind → CanSay digest front → Closed disks opening before new front tail result
 
 -- Fewer bytes than the body has are behind the head.
 abbrev pub IsShort : RecordHead → List ℕ → Result Bool RecvError → Type 0
@@ -135,11 +134,11 @@ pub record BeginsDevice (tail : List ℕ) : Type 0 where
   pub whole : tail ≡ spelled_record (device number body) ++ more
 
 -- What taking the record of any head promises, the digest too. `was` and `digest` are the digest of what was taken in, before and after.
-pub record TakesHead (old disks : List DiskState) (i new : Intake) (was digest : Sha256) (head : RecordHead) (behind : List ℕ) (result : Result Bool RecvError) : Type 0 where
+pub record TakesHead (old disks : List DiskState) (i new : Intake) (was digest : Summed) (head : RecordHead) (behind : List ℕ) (result : Result Bool RecvError) : Type 0 where
   pub short : IsShort head behind result
   pub long : IsLong head behind result
   pub untouched : new.ended ≡ false → OnOk result (digest ≡ was)
   pub waits : result ≡ Ok false → new.ended ≡ false
   pub memory : result ≡ Err NoMemory → IsWholeDevice head behind
-  pub after : (front tail : List ℕ) (opening : Opened) (before : List Record) → IsBytes tail → Holds256 was front → HasRead old opening before i front
-      → OpensHead opening before tail head behind → TookHead old disks opening before new front tail head result
+  pub after : (front tail : List ℕ) (opening : Opened) (before : List Record) → IsBytes tail → Sums was front → HasRead old opening before i front
+      → OpensHead opening before tail head behind → (head ≡ heads.Commit → CanSay was front) → TookHead old disks opening before new front tail head result

@@ -9,7 +9,6 @@
 ghost use Rattle.std.specs.Prelude.{◌≡◌, ◌≢◌, ◌++◌, ◌+◌, ◌*◌, ◌≤◌, ◌<◌, ◌∷◌, ◌↔◌, [], ℕ, List, All, IsTrue, IfErr, IfOk, IfSome, OnOk, MatchOption, None, Ok, Err, false, is_some, length, map, slice_index_or, true};
 ghost use Rattle.receiver.specs.Opened.{Opened};
 ghost use Rattle.wire.specs.Records as records;
-ghost use Rattle.sha2.specs.Hashers.{Holds256};
 ghost use Rattle.sha2.specs.Sha256.{sha256};
 ghost use Rattle.wire.specs.declared.record_head.RecordHead.TheVariants as heads;
 ghost use Rattle.blk.specs.Disk.{DiskState};
@@ -18,6 +17,7 @@ ghost use Rattle.receiver.specs.Disks.{sizes_of};
 ghost use Rattle.receiver.specs.Faults.{IsLate, MayTag};
 ghost use Rattle.receiver.specs.Fed.{Checked, HasRead, IsUpTo, TakesPart, Worked};
 ghost use Rattle.receiver.specs.Receiving.{HasDevice};
+ghost use Rattle.receiver.specs.Sums.{CanSay, IsClear, SaysOn, Sums};
 ghost use Rattle.receiver.specs.Spots.{CallsOf, HasMarks, IsSpotIn, disks_before};
 ghost use Rattle.receiver.specs.Standing.{BeginsDevice, Closes, Enters, IsDeviceHead, IsLong, IsShort, IsSized, Keeps, TakesHead};
 ghost use Rattle.receiver.specs.declared.ram_terms.RamTerms.{RamTerms};
@@ -25,10 +25,10 @@ ghost use Rattle.receiver.specs.declared.recv_error.RecvError.TheVariants as err
 
 use crate::ram_terms::RamTerms;
 use crate::recv_error::RecvError;
+use crate::summing::Summing;
 use dirtylog::BitSet;
 use guestmem::{ArrivingRam, PAGE_SIZE};
 use machine::{DeviceState, Disk, SECTOR_SIZE, Shape};
-use sha2::{Digest, Sha256};
 use std::alloc::Global;
 use wire::{
     BODY_MAX, COMMIT_TAG, DEVICE_TAG, DecodeError, FIRST_VERSION, FoundHead, PAGE_TAG,
@@ -321,26 +321,31 @@ fn take_device(intake: &mut Intake, number: u8, len: u32, behind: &[u8]) -> Resu
 }
 
 /// Whether the digest is that of the bytes that were taken in. Nothing is taken in after it.
-fn is_digest(taken: &mut Sha256, digest: &[u8]) -> bool
-    ensures { (front : List ℕ) → Holds256 taken.old front → IsTrue result ↔ (digest.now ≡ sha256 front) }
+fn is_digest<S: Summing>(taken: &mut S, digest: &[u8]) -> bool
+    ensures is { (front : List ℕ) → Sums (S.seen taken.old) front → CanSay (S.seen taken.old) front → IsTrue result ↔ (digest.now ≡ sha256 front) }
+    ensures says { SaysOn (S.seen taken.old) (S.seen taken.new) }
 {
-    let sum = taken.finalize_reset();
-    sum.as_slice() == digest
+    taken.agrees(digest)
 }
 
 /// Takes the digest, which ends the stream. `taken` is the digest of all bytes before it.
-fn take_digest(intake: &mut Intake, taken: &mut Sha256, behind: &[u8]) -> Result<bool, RecvError>
+fn take_digest<S: Summing>(
+    intake: &mut Intake,
+    taken: &mut S,
+    behind: &[u8],
+) -> Result<bool, RecvError>
     requires sized { IsSized intake.old }
     ensures sized { IsSized intake.new }
     ensures shapes { intake.new.shapes.items ≡ intake.old.shapes.items }
     ensures place { intake.new.ram.place ≡ intake.old.ram.place }
     ensures ended { IfOk result (λ took. took ≡ true → intake.new.ended ≡ true) }
-    ensures untouched { intake.new.ended ≡ false → OnOk result (taken.new ≡ taken.old) }
+    ensures untouched { intake.new.ended ≡ false → OnOk result (S.seen taken.new ≡ S.seen taken.old) }
+    ensures says { SaysOn (S.seen taken.old) (S.seen taken.new) }
     ensures waits { result ≡ Ok false → intake.new.ended ≡ intake.old.ended }
     ensures short { IsShort heads.Commit behind.now result }
     ensures long { IsLong heads.Commit behind.now result }
     ensures memory { IfErr result (λ e. e ≢ errors.NoMemory) }
-    ensures closed { (ds : List DiskState) → Closes ds intake.old intake.new taken.old behind.now result }
+    ensures closed { (ds : List DiskState) → Closes ds intake.old intake.new (S.seen taken.old) behind.now result }
 {
     if behind.len() < DIGEST_LEN {
         return Ok(false);
@@ -354,10 +359,10 @@ fn take_digest(intake: &mut Intake, taken: &mut Sha256, behind: &[u8]) -> Result
 }
 
 /// Takes the record of this head, if the bytes behind the head have its body. `taken` is the digest of all bytes before it.
-fn take_record<D: Disk>(
+fn take_record<D: Disk, S: Summing>(
     intake: &mut Intake,
     disks: &mut [D],
-    taken: &mut Sha256,
+    taken: &mut S,
     head: RecordHead,
     behind: &[u8],
 ) -> Result<bool, RecvError>
@@ -370,7 +375,8 @@ fn take_record<D: Disk>(
     ensures shapes { intake.new.shapes.items ≡ intake.old.shapes.items }
     ensures place { intake.new.ram.place ≡ intake.old.ram.place }
     ensures calls { CallsOf D.called head intake.old.shapes.items result (map D.calls disks.old) (map D.calls disks.new) }
-    ensures takes { TakesHead (map D.state disks.old) (map D.state disks.new) intake.old intake.new taken.old taken.new head behind.now result }
+    ensures takes { TakesHead (map D.state disks.old) (map D.state disks.new) intake.old intake.new (S.seen taken.old) (S.seen taken.new) head behind.now result }
+    ensures says { SaysOn (S.seen taken.old) (S.seen taken.new) }
 {
     match head {
         RecordHead::Page { number } => take_page(intake, number, behind),
@@ -393,10 +399,10 @@ fn take_record<D: Disk>(
 
 /// Takes the record at the front of the bytes; returns how many bytes it has, or `None` if it is incomplete. `taken` is the digest of
 /// all bytes before it.
-fn take_part<D: Disk>(
+fn take_part<D: Disk, S: Summing>(
     intake: &mut Intake,
     disks: &mut [D],
-    taken: &mut Sha256,
+    taken: &mut S,
     bytes: &[u8],
 ) -> Result<Option<usize>, RecvError>
     requires sized { IsSized intake.old }
@@ -408,10 +414,11 @@ fn take_part<D: Disk>(
     ensures place { intake.new.ram.place ≡ intake.old.ram.place }
     ensures within { IfOk result (λ found. IfSome found (λ len. (0 < len) × (len ≤ length bytes.now))) }
     ensures few { IfOk result (λ found. is_some found ≡ false → length bytes.now ≤ 131077) }
-    ensures untouched { intake.new.ended ≡ false → OnOk result (taken.new ≡ taken.old) }
+    ensures untouched { intake.new.ended ≡ false → OnOk result (S.seen taken.new ≡ S.seen taken.old) }
+    ensures says { SaysOn (S.seen taken.old) (S.seen taken.new) }
     ensures waits { result ≡ Ok None → intake.new.ended ≡ false }
     ensures memory { result ≡ Err errors.NoMemory → BeginsDevice bytes.now }
-    ensures after { TakesPart (map D.state disks.old) (map D.state disks.new) intake.old intake.new taken.old bytes.now result }
+    ensures after { TakesPart (map D.state disks.old) (map D.state disks.new) intake.old intake.new (S.seen taken.old) bytes.now result }
 {
     let Some((tag, _)) = bytes.split_first() else {
         return Ok(None);
@@ -436,10 +443,10 @@ fn take_part<D: Disk>(
 
 /// Takes the complete records at the front of the bytes, and their bytes into the digest of all bytes before them. Returns how
 /// many bytes they have.
-pub fn work_off<D: Disk>(
+pub fn work_off<D: Disk, S: Summing>(
     intake: &mut Intake,
     disks: &mut [D],
-    taken: &mut Sha256,
+    taken: &mut S,
     bytes: &[u8],
 ) -> Result<usize, RecvError>
     requires sized { IsSized intake.old }
@@ -450,10 +457,11 @@ pub fn work_off<D: Disk>(
     ensures place { intake.new.ram.place ≡ intake.old.ram.place }
     ensures within { IfOk result (λ at. at ≤ length bytes.now) }
     ensures few { IfOk result (λ at. length bytes.now ≤ 131077 + at) }
-    ensures memory { (ram : RamTerms) (front : List ℕ) → IsUpTo intake.old.ended ram (map D.state disks.old) taken.old front intake.old
-        → result ≡ Err errors.NoMemory → HasDevice ram (sizes_of D.state disks.old) (front ++ bytes.now) (length front) }
-    ensures worked { (ram : RamTerms) (front : List ℕ) → IsUpTo intake.old.ended ram (map D.state disks.old) taken.old front intake.old
-        → Worked ram (map D.state disks.old) (map D.state disks.new) intake.new taken.new front bytes.now result }
+    ensures says { SaysOn (S.seen taken.old) (S.seen taken.new) }
+    ensures memory { (ram : RamTerms) (front : List ℕ) → IsUpTo intake.old.ended ram (map D.state disks.old) (S.seen taken.old) front intake.old
+        → IsClear (S.seen taken.old) ram (sizes_of D.state disks.old) (front ++ bytes.now) → result ≡ Err errors.NoMemory → HasDevice ram (sizes_of D.state disks.old) (front ++ bytes.now) (length front) }
+    ensures worked { (ram : RamTerms) (front : List ℕ) → IsUpTo intake.old.ended ram (map D.state disks.old) (S.seen taken.old) front intake.old
+        → IsClear (S.seen taken.old) ram (sizes_of D.state disks.old) (front ++ bytes.now) → Worked ram (map D.state disks.old) (map D.state disks.new) intake.new (S.seen taken.new) front bytes.now result }
 {
     let mut at = 0;
     while at < bytes.len() {
@@ -465,7 +473,7 @@ pub fn work_off<D: Disk>(
             return Ok(at);
         };
         let (record, _) = rest.split_at(len);
-        taken.update(record);
+        taken.add(record);
         at += len;
     }
     Ok(at)

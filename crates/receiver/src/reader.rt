@@ -16,10 +16,10 @@ use crate::opening::{check_fit, new_intake};
 use crate::ram_terms::RamTerms;
 use crate::recv_error::RecvError;
 use crate::stage::Stage;
+use crate::summing::{Own, Summing, Told};
 use crate::waiting::{lacking_of, next_len};
 use guestmem::ArrivingRam;
 use machine::{Disk, Room};
-use sha2::{Digest, Sha256};
 use std::alloc::Global;
 use std::marker::Model;
 use std::mem;
@@ -27,7 +27,7 @@ use wire::RECORD_MAX;
 
 /// What was worked off of a stream, and where it went.
 #[derive(Drop)]
-pub struct Reader<D: Disk> {
+pub struct Reader<D: Disk, S: Summing = Own> {
     pub alloc: Global,
 
     /// What the host says of the machine.
@@ -41,31 +41,36 @@ pub struct Reader<D: Disk> {
     pub room: Option<Room<D>>,
 
     /// The digest of the bytes that were worked off, until that which ends the stream was read.
-    pub digest: Sha256,
+    pub digest: S,
     pub stage: Stage,
 }
 
-impl<D: Disk> Model for Reader<D> {
+impl<D: Disk, S: Summing> Model for Reader<D, S> {
     ghost use Rattle.std.specs.Prelude.{map};
     ghost use Rattle.receiver.specs.Reading.{IsReader};
     ghost use Rattle.receiver.specs.Receiving.{ReaderSeen};
 
     ghost Value = { ReaderSeen };
 
-    ghost view = { λ r. record { ram = r.ram; disks = map D.state r.disks.items; aside = r.aside; room = r.room; digest = r.digest; stage = r.stage } };
+    ghost view = { λ r. record { ram = r.ram; disks = map D.state r.disks.items; aside = r.aside; room = r.room; digest = S.seen r.digest; stage = r.stage } };
 
     ghost invariant = { λ r. IsReader r.ram (map D.state r.disks.items) r.aside r.room r.stage };
 }
 
-impl<D: Disk + Drop> Reader<D> {
+impl<D: Disk + Drop, S: Summing> Reader<D, S> {
     ghost use Rattle.std.specs.Prelude.{◌≡◌, ◌≤◌, ◌<◌, ◌+◌, IfOk, length, map};
     ghost use Rattle.std.specs.Vec.{vec_capacity};
     ghost use Rattle.receiver.specs.Reading.{StandsAside, IsFirst, Looks, ReadsHeader, TakesBytes, TakesPiece};
-    ghost use Rattle.receiver.specs.Receiving.{has_ended, has_failed, length_aside, ram_len_in, rounds_in};
+    ghost use Rattle.receiver.specs.Receiving.{has_ended, has_failed, length_aside, ram_len_in, reads_in, rounds_in};
     ghost use Rattle.receiver.specs.Waiting.{LacksBytes};
 
     /// A reader that has read nothing. It takes no memory.
-    pub fn new(alloc: Global, disks: Vec<D>, ram: RamTerms, aside: Option<ArrivingRam>) -> Reader<D>
+    pub fn new(
+        alloc: Global,
+        disks: Vec<D>,
+        ram: RamTerms,
+        aside: Option<ArrivingRam>,
+    ) -> Reader<D, S>
         requires { ram.len ≡ length_aside aside }
         ensures { IsFirst ram (map D.state disks.items) aside result }
     {
@@ -75,16 +80,23 @@ impl<D: Disk + Drop> Reader<D> {
             disks,
             aside,
             room: None,
-            digest: Sha256::new(),
+            digest: S::none(),
             stage: Stage::Head,
         }
     }
 
     /// Whether the stream was refused.
-    fn has_failed(&self) -> bool
+    pub fn has_failed(&self) -> bool
         ensures { result ≡ has_failed self.now.stage }
     {
         self.stage.has_failed()
+    }
+
+    /// Whether the header was read, and nothing was refused.
+    pub fn reads(&self) -> bool
+        ensures { result ≡ reads_in self.now.stage }
+    {
+        self.stage.reads()
     }
 
     /// Whether the whole stream was read.
@@ -173,7 +185,7 @@ impl<D: Disk + Drop> Reader<D> {
             return Err(RecvError::NoMemory);
         };
         let (header, _) = bytes.split_at(len);
-        self.digest.update(header);
+        self.digest.add(header);
         drop(mem::replace(&mut self.room, Some(room)));
         drop(mem::replace(&mut self.stage, Stage::Records(intake)));
         Ok(len)
@@ -254,6 +266,43 @@ impl<D: Disk + Drop> Reader<D> {
             rest = after;
         }
         Ok(self.lacking(held))
+    }
+}
+
+impl<D: Disk + Drop> Reader<D> {
+    ghost use Rattle.receiver.specs.Sums.{IsOwn};
+
+    /// For proofs: it digests.
+    pub fn recall(&self)
+        ensures { IsOwn self.now.digest }
+    {
+        let _digest = &self.digest;
+    }
+}
+
+impl<D: Disk + Drop> Reader<D, Told> {
+    ghost use Rattle.std.specs.Prelude.{◌≡◌, None, Some};
+    ghost use Rattle.receiver.specs.Sums.{IsTold, in_hand};
+
+    /// For proofs: whoever feeds it digests.
+    pub fn recall_told(&self)
+        ensures { IsTold self.now.digest }
+    {
+        let _digest = &self.digest;
+    }
+
+    /// The digest of all bytes that were worked off.
+    pub fn tell(&mut self, digest: &[u8; 32])
+        ensures { self.new ≡ record self.old { digest = in_hand self.old.digest (Some digest.now) } }
+    {
+        self.digest.tell(digest);
+    }
+
+    /// No digest is in hand.
+    pub fn forget(&mut self)
+        ensures { self.new ≡ record self.old { digest = in_hand self.old.digest None } }
+    {
+        self.digest.forget();
     }
 }
 

@@ -7,7 +7,10 @@
 //! It is given a RAM and not a region: whoever has the region makes the RAM, and is refused memory there, with the region back.
 //! What the host says of it (`RamTerms`) is a parameter of all faults, as the sizes of the disks are.
 
-ghost use Rattle.std.specs.Prelude.{◌≡◌, map, true};
+ghost use Rattle.std.specs.Prelude.{◌≡◌, ◌∷◌, ◌<◌, ◌≤◌, ◌+◌, List, ℕ, false, length, map, true};
+ghost use Rattle.wire.specs.RecordHeads.{BeginsHead, body_len, spelled_head};
+ghost use Rattle.wire.specs.declared.record_head.RecordHead.{RecordHead};
+ghost use Rattle.receiver.specs.Sums.{NotFive};
 ghost use Rattle.receiver.specs.Disks.{disk_marks_of, sizes_of};
 ghost use Rattle.receiver.specs.Receiving.{place_aside};
 
@@ -17,25 +20,36 @@ use crate::ram_terms::RamTerms;
 use crate::reader::Reader;
 use crate::recv_error::RecvError;
 use crate::stage::Stage;
+use crate::summing::{Own, Summing, Told};
 use crate::terms::Terms;
 use guestmem::{ArrivingRam, Ram};
 use machine::{Disk, Machine};
-use sha2::{Digest, Sha256};
 use std::alloc::Global;
 use std::marker::Model;
+use wire::{COMMIT_TAG, FoundHead, read_head};
+
+/// What came of a piece that was fed to a receiver whose digest is told.
+#[derive(Clone, Copy, Debug, Drop, PartialEq, Eq)]
+pub struct Fed {
+    /// How many of its bytes were taken.
+    pub used: usize,
+
+    /// Whether the others begin, or go on, with the record that closes the stream.
+    pub is_due: bool,
+}
 
 /// A receiver that is fed a stream of a machine in any pieces. It knows the guest-physical address at which the machine's RAM begins,
 /// which no stream tells.
 #[derive(Drop)]
-pub struct Receiver<D: Disk> {
-    reader: Reader<D>,
+pub struct Receiver<D: Disk, S: Summing = Own> {
+    reader: Reader<D, S>,
     held: Vec<u8>,
 
     /// How many bytes the record at the front of `held` still lacks, if its head is held (`lacking_of`).
     lacking: usize,
 }
 
-impl<D: Disk> Model for Receiver<D> {
+impl<D: Disk, S: Summing> Model for Receiver<D, S> {
     ghost use Rattle.std.specs.Vec.{vec_capacity};
     ghost use Rattle.receiver.specs.Receiving.{IsReceiver, Received, received_with};
 
@@ -47,11 +61,9 @@ impl<D: Disk> Model for Receiver<D> {
 }
 
 impl<D: Disk + Drop> Receiver<D> {
-    ghost use Rattle.std.specs.Prelude.{◌≡◌, ℕ, List, ◌≤◌, IfSome, None, Some, length, map, true, false};
-    ghost use Rattle.receiver.specs.Calls.{Feeds, Finishes, FinishesOrBack, IsNew};
-    ghost use Rattle.receiver.specs.Disks.{sizes_of};
+    ghost use Rattle.std.specs.Prelude.{◌≡◌, None, Some};
+    ghost use Rattle.receiver.specs.Calls.{Feeds, IsNew};
     ghost use Rattle.receiver.specs.Opened.{given_at, ram_at, told_by};
-    ghost use Rattle.receiver.specs.Receiving.{HasBeenFed, HasRounds, IsPastHead, IsWholeFor, length_aside, ram_len_in};
 
     /// A receiver that was fed nothing, with these disks, of a machine whose RAM begins at the address 0, within the usual limits. It
     /// takes no memory.
@@ -89,6 +101,32 @@ impl<D: Disk + Drop> Receiver<D> {
     pub fn with_terms(alloc: Global, disks: Vec<D>, ram: Option<Ram>, terms: Terms) -> Receiver<D>
         ensures { IsNew D.state disks.items (told_by terms ram) ram result }
     {
+        Receiver::made(alloc, disks, ram, terms)
+    }
+
+    /// Takes the next piece. The good sectors in it are written to the disks. `DiskFailed` is returned exactly if a
+    /// disk failed. After the header `NoMemory` is returned only with the last byte of a device's record. Before a header for these
+    /// disks and this RAM is whole, and where memory for what it says is refused, no disk is written, and no page of the RAM.
+    pub fn feed(&mut self, piece: &[u8]) -> Result<(), RecvError>
+        ensures { Feeds self.old piece.now result self.new }
+    {
+        self.reader.recall();
+        self.feed_clear(piece)
+    }
+}
+
+impl<D: Disk + Drop, S: Summing> Receiver<D, S> {
+    ghost use Rattle.std.specs.Prelude.{◌≡◌, ◌++◌, ◌<◌, ◌+◌, ℕ, List, ◌≤◌, IfSome, None, OnOk, length, map, take, true, false};
+    ghost use Rattle.receiver.specs.Calls.{Feeds, Finishes, FinishesOrBack, IsDue, IsNew};
+    ghost use Rattle.receiver.specs.Disks.{sizes_of};
+    ghost use Rattle.receiver.specs.Opened.{given_at, ram_at, told_by};
+    ghost use Rattle.receiver.specs.Sums.{IsClear, SaysOn};
+    ghost use Rattle.receiver.specs.Receiving.{HasBeenFed, HasRounds, IsGivenUp, IsPastHead, IsTaken, IsWholeFor, has_ended, length_aside, ram_len_in};
+
+    /// As `with_terms`, whoever digests.
+    fn made(alloc: Global, disks: Vec<D>, ram: Option<Ram>, terms: Terms) -> Receiver<D, S>
+        ensures { IsNew D.state disks.items (told_by terms ram) ram result }
+    {
         let Terms { base, limits } = terms;
         match ram {
             None => Receiver::reading(
@@ -119,7 +157,7 @@ impl<D: Disk + Drop> Receiver<D> {
         disks: Vec<D>,
         ram: RamTerms,
         aside: Option<ArrivingRam>,
-    ) -> Receiver<D>
+    ) -> Receiver<D, S>
         requires { ram.len ≡ length_aside aside }
         ensures { IsNew D.state disks.items ram aside result }
     {
@@ -137,11 +175,12 @@ impl<D: Disk + Drop> Receiver<D> {
         self.reader.base()
     }
 
-    /// Takes the next piece. The good sectors in it are written to the disks. `DiskFailed` is returned exactly if a
-    /// disk failed. After the header `NoMemory` is returned only with the last byte of a device's record. Before a header for these
-    /// disks and this RAM is whole, and where memory for what it says is refused, no disk is written, and no page of the RAM.
-    pub fn feed(&mut self, piece: &[u8]) -> Result<(), RecvError>
-        ensures { Feeds self.old piece.now result self.new }
+    /// Takes the next piece, in which the digest comes only where it can be compared.
+    fn feed_clear(&mut self, piece: &[u8]) -> Result<(), RecvError>
+        requires clear { (b : List ℕ) → IsTaken self.old.ram self.old.disks self.old.digest b self.old.held self.old.stage → IsClear self.old.digest self.old.ram self.old.sizes (b ++ piece.now) }
+        ensures feeds { Feeds self.old piece.now result self.new }
+        ensures says { OnOk result (SaysOn self.old.digest self.new.digest) }
+        ensures shorter { OnOk result (length self.new.held ≤ length self.old.held + length piece.now) }
     {
         if piece.len() < self.lacking {
             self.held.extend_from_slice(piece).unwrap();
@@ -159,6 +198,38 @@ impl<D: Disk + Drop> Receiver<D> {
                 Err(error)
             }
         }
+    }
+
+    /// How many of the bytes that come next can be taken before the record of the digest begins: none only where it does.
+    fn clear_len(&self, rest: &[u8]) -> usize
+        requires some { 0 < length rest.now }
+        requires goes_on { has_ended self.now.stage ≡ false }
+        ensures within { result ≤ length rest.now }
+        ensures clear { 0 < result → (b : List ℕ) → IsTaken self.now.ram self.now.disks self.now.digest b self.now.held self.now.stage → IsClear self.now.digest self.now.ram self.now.sizes (b ++ take result rest.now) }
+        ensures due { result ≡ 0 → IsDue self.now rest.now }
+    {
+        if !self.reader.reads() {
+            return 1;
+        }
+        if begins_digest(&self.held) {
+            return 0;
+        }
+        if 0 < self.lacking {
+            return self.lacking.min(rest.len());
+        }
+        if !self.held.is_empty() {
+            return 1;
+        }
+        record_len(rest).min(rest.len())
+    }
+
+    /// Takes no more.
+    fn give_up(&mut self)
+        ensures { IsGivenUp self.old self.new }
+    {
+        self.reader.fail();
+        self.held.clear();
+        self.lacking = 0;
     }
 
     /// The number of bytes that are held: those that were fed since the end of the last whole header or record.
@@ -211,7 +282,7 @@ impl<D: Disk + Drop> Receiver<D> {
     }
 
     /// As `finish`, but a refusal gives a receiver back that takes no more, with the disks and the RAM.
-    pub fn finish_or_back(self) -> Result<Machine<D>, (RecvError, Receiver<D>)>
+    pub fn finish_or_back(self) -> Result<Machine<D>, (RecvError, Receiver<D, S>)>
         ensures { FinishesOrBack self result }
     {
         let Receiver {
@@ -226,9 +297,10 @@ impl<D: Disk + Drop> Receiver<D> {
             disks,
             aside,
             room,
-            digest: _,
+            digest,
             stage,
         } = reader;
+        drop(digest);
         recall_disks(&disks);
         match stage {
             Stage::Records(intake) => {
@@ -309,9 +381,10 @@ impl<D: Disk + Drop> Receiver<D> {
             disks,
             aside,
             room,
-            digest: _,
+            digest,
             stage,
         } = reader;
+        drop(digest);
         drop(room);
         drop(stage);
         match aside {
@@ -321,13 +394,106 @@ impl<D: Disk + Drop> Receiver<D> {
     }
 }
 
+impl<D: Disk + Drop> Receiver<D, Told> {
+    ghost use Rattle.std.specs.Prelude.{◌≡◌, ◌++◌, OnOk, length, take};
+    ghost use Rattle.sha2.specs.Sha256.{sha256};
+    ghost use Rattle.receiver.specs.Calls.{Feeds, FeedsSome, IsDue, IsNew};
+    ghost use Rattle.receiver.specs.Opened.{told_by};
+    ghost use Rattle.receiver.specs.Receiving.{HasBeenFed, has_ended};
+    ghost use Rattle.receiver.specs.Sums.{past_of};
+
+    /// As `with_terms`, of a receiver that digests nothing: whoever feeds it does, and tells the digest where it is due (`close`).
+    pub fn told(alloc: Global, disks: Vec<D>, ram: Option<Ram>, terms: Terms) -> Receiver<D, Told>
+        ensures { IsNew D.state disks.items (told_by terms ram) ram result }
+    {
+        Receiver::made(alloc, disks, ram, terms)
+    }
+
+    /// Takes the next piece as far as the record that closes the stream, of which it takes nothing. A fault is told as by `feed`.
+    pub fn feed_some(&mut self, piece: &[u8]) -> Result<Fed, RecvError>
+        ensures { FeedsSome self.old piece.now result self.new }
+    {
+        if self.reader.has_failed() {
+            return Err(RecvError::AlreadyFailed);
+        }
+        let mut used = 0;
+        while used < piece.len() {
+            let (_, rest) = piece.split_at(used);
+            if self.reader.has_ended() {
+                self.give_up();
+                return Err(RecvError::Trailing);
+            }
+            let count = self.clear_len(rest);
+            if count == 0 {
+                return Ok(Fed { used, is_due: true });
+            }
+            let (bytes, _) = rest.split_at(count);
+            if let Err(error) = self.feed_clear(bytes) {
+                return Err(error);
+            }
+            used += count;
+        }
+        Ok(Fed {
+            used,
+            is_due: false,
+        })
+    }
+
+    /// For proofs: which bytes were fed, until the stream is whole. So whoever fed them knows that it has the digest that `close` asks for.
+    pub fn recall_bytes(&self)
+        ensures { has_ended self.now.stage ≡ false → (b : List ℕ) → HasBeenFed self.now b → b ≡ past_of self.now.digest ++ self.now.held }
+    {
+        self.reader.recall_told();
+    }
+
+    /// The digest of all bytes that were fed, but those that are held, and the bytes of the record that closes the stream, or as many of
+    /// them as there are.
+    pub fn close(&mut self, digest: &[u8; 32], rest: &[u8]) -> Result<(), RecvError>
+        requires due { IsDue self.old rest.now }
+        requires digest { digest.now ≡ sha256 (past_of self.old.digest) }
+        ensures { Feeds self.old rest.now result self.new }
+    {
+        self.reader.tell(digest);
+        let result = self.feed_clear(rest);
+        self.reader.forget();
+        result
+    }
+}
+
+/// How many bytes the record has with which these begin, as far as its head is whole, and else one; none for that of the digest.
+fn record_len(rest: &[u8]) -> usize
+    requires { 0 < length rest.now }
+    ensures due { result ≡ 0 → (more : List ℕ) × (rest.now ≡ 5 ∷ more) }
+    ensures other { 0 < result → NotFive rest.now }
+    ensures within { 1 < result → (head : RecordHead) × BeginsHead rest.now head × (result ≤ length (spelled_head head) + body_len head) }
+{
+    if begins_digest(rest) {
+        return 0;
+    }
+    match read_head(rest) {
+        FoundHead::Whole(head) => head.head_len() + head.body_len(),
+        _ => 1,
+    }
+}
+
+/// Whether the bytes begin with the record of the digest.
+fn begins_digest(bytes: &[u8]) -> bool
+    ensures begins { result ≡ true → (more : List ℕ) × (bytes.now ≡ 5 ∷ more) }
+    ensures other { result ≡ false → NotFive bytes.now }
+{
+    match bytes.split_first() {
+        Some((tag, _)) => *tag == COMMIT_TAG,
+        None => false,
+    }
+}
+
 /// A receiver that was refused, with these disks, and this RAM aside. It takes no memory.
-fn given_up<D: Disk>(
+fn given_up<D: Disk, S: Summing>(
     alloc: Global,
     ram: RamTerms,
     disks: Vec<D>,
     aside: Option<ArrivingRam>,
-) -> Receiver<D>
+) -> Receiver<D, S>
     ensures ram { result.ram ≡ ram }
     ensures failed { result.failed ≡ true }
     ensures disks { result.disks ≡ map D.state disks.items }
@@ -342,7 +508,7 @@ fn given_up<D: Disk>(
         disks,
         aside,
         room: None,
-        digest: Sha256::new(),
+        digest: S::none(),
         stage: Stage::Failed,
     };
     Receiver {

@@ -7,6 +7,7 @@ mod changes;
 mod failing_sink;
 mod journey;
 mod refusal;
+mod told;
 
 use crate::journey::Journey;
 use crate::refusal::tells;

@@ -1,12 +1,16 @@
 //! Bytes, and what a receiver reports of them.
 
 use crate::changes::Streams;
+use crate::told::told_refusal;
 use anyhow::{Context, Result, ensure};
 use books::{Script, spelled};
 use machine::{FaultDisk, Limits, MemDisk};
 use receiver::{Receiver, Terms, read_heading_within};
 use scenarios::{PIECES, TestDisk, disks_of, refusal_in_pieces, refusal_of};
 use std::alloc::Global;
+
+/// The sizes of the pieces in which a receiver is fed that is told the digest.
+const TOLD_PIECES: [usize; 2] = [1, 511];
 
 /// Receives the stream of a line, which is followed by ` -> ` and the number of its refusal, or 0 where it is received. Fed in
 /// pieces of any size, it gets the same answer. After the number there may be ` AT ` and an offset: that many bytes show the
@@ -173,7 +177,8 @@ impl<'t> Refusals<'t> {
     fn tell_of(&self, alloc: Global, streams: &Streams, changed: Changed<'_>) -> Result<()> {
         self.tell_whole(alloc, streams, changed)?;
         let told_at = self.tell_bytes(alloc, streams, changed)?;
-        self.tell_in_pieces(alloc, streams, changed, told_at)
+        self.tell_in_pieces(alloc, streams, changed, told_at)?;
+        self.tell_told(alloc, streams, changed, told_at)
     }
 
     fn tell_whole(&self, alloc: Global, streams: &Streams, changed: Changed<'_>) -> Result<()> {
@@ -224,6 +229,35 @@ impl<'t> Refusals<'t> {
             let end = told_at.div_ceil(size).saturating_mul(size);
             let expected = (number, end.min(stream.len()));
             ensure!(told == expected, "pieces of {size} at {place}");
+        }
+        Ok(())
+    }
+
+    /// Fails if a receiver that is told the digest answers otherwise, or not at the piece in which the refusal shows.
+    fn tell_told(
+        &self,
+        alloc: Global,
+        streams: &Streams,
+        changed: Changed<'_>,
+        told_at: usize,
+    ) -> Result<()> {
+        let Changed {
+            stream,
+            number,
+            place,
+        } = changed;
+        for size in TOLD_PIECES {
+            let disks = self.disks_beside(alloc, streams)?;
+            let (told, fed) = told_refusal(alloc, stream, disks, self.terms, size)?;
+            let end = told_at
+                .div_ceil(size)
+                .saturating_mul(size)
+                .min(stream.len());
+            let expected = (number, end);
+            ensure!(
+                (told, fed.unwrap_or(end)) == expected,
+                "pieces of {size} at {place}, with a digest that is told"
+            );
         }
         Ok(())
     }

@@ -53,5 +53,5 @@ returns-in-Commit-clause-takes g c =
       untouched = k.untouched;
       waits = λ e. k.waits e ∙ c.requires.goes_on;
       memory = λ e. absurd (never_memory c.take_digest.result k.memory e);
-      after = λ front tail opening before are d h o. followed_end ds opening before _ front tail c.take_digest.result k.ended (k.closed ds front tail opening before are d h o);
+      after = λ front tail opening before are d h o can. followed_end ds opening before _ front tail c.take_digest.result k.ended (k.closed ds front tail opening before are d h o (can refl));
     })

@@ -2,6 +2,7 @@ use Rattle.std.proofs.Common.{ℕ, List, ◌≡◌, ◌≤◌, ◌++◌, ◌-◌
 use Rattle.receiver.specs.Disks.{sizes_of}
 use Rattle.receiver.specs.Fed.{IsUpTo}
 use Rattle.receiver.specs.Standing.{IsSized}
+use Rattle.receiver.specs.Sums.{IsClear, SaysOn}
 use Rattle.receiver.specs.declared.ram_terms.RamTerms.{RamTerms}
 use Rattle.receiver.proofs.Working.{SoFar}
 use Rattle.receiver.proofs.intake.work_off.Given as goal
@@ -13,8 +14,9 @@ invariant-loop-at g l = record {
   sizes : sizes_of g.D.Disk.state l.disks ≡ sizes_of g.D.Disk.state l.fn.disks;
   shapes : l.intake.shapes.items ≡ l.fn.intake.shapes.items;
   place : l.intake.ram.place ≡ l.fn.intake.ram.place;
-  read : (ram : RamTerms) (front : List ℕ) → IsUpTo l.fn.intake.ended ram (map g.D.Disk.state l.fn.disks) l.fn.taken front l.fn.intake
-      → SoFar ram (map g.D.Disk.state l.fn.disks) (map g.D.Disk.state l.disks) l.intake l.taken (front ++ take l.at l.bytes);
+  says : SaysOn (g.S.Summing.seen l.fn.taken) (g.S.Summing.seen l.taken);
+  read : (ram : RamTerms) (front : List ℕ) → IsUpTo l.fn.intake.ended ram (map g.D.Disk.state l.fn.disks) (g.S.Summing.seen l.fn.taken) front l.fn.intake
+      → IsClear (g.S.Summing.seen l.fn.taken) ram (sizes_of g.D.Disk.state l.fn.disks) (front ++ l.bytes) → SoFar ram (map g.D.Disk.state l.fn.disks) (map g.D.Disk.state l.disks) l.intake (g.S.Summing.seen l.taken) (front ++ take l.at l.bytes);
 }
 
 abbrev pub decreases-loop-at : goal.decreases-loop-at

@@ -1,7 +1,7 @@
 use Rattle.std.proofs.Common.{refl, arith, sym, ap, subst, ◌∙◌, Bool, Some, take, drop, map, length, []}
 use Rattle.std.proofs.lemmas.List.{length-map}
 use Rattle.std.proofs.lemmas.Result.{err_from_is_err_and}
-use Rattle.sha2.specs.Hashers.{Holds256}
+use Rattle.receiver.specs.Sums.{Sums}
 use Rattle.wire.specs.Header.{said}
 use Rattle.machine.specs.Shapes.{disk_sizes}
 use Rattle.receiver.specs.Disks.{sizes_of}
@@ -87,9 +87,10 @@ returns g c =
       failed = λ f. absurd (true_false _ f (head_not_failed i.stage head));
       stays = tt;
       waits = λ waits. absurd cc;
+      says = c.add.ensures.says;
       opened = λ held h k.
           let known = rw head at k in
-          let digested : Holds256 c.update.new.self (take len c.args.bytes.now) = rw c.split_at.ensures.front at (c.update.ensures [] known.1) in
-          subst (λ (ended : Bool). IsUpTo ended i.ram ds c.update.new.self (take len c.args.bytes.now) c.in-Ok-new_intake.intake) (sym c.in-Ok-new_intake.ensures.goes_on)
+          let digested : Sums (g.S.Summing.seen c.add.new.self) (take len c.args.bytes.now) = rw c.split_at.ensures.front at (c.add.ensures.sums [] known.1) in
+          subst (λ (ended : Bool). IsUpTo ended i.ram ds (g.S.Summing.seen c.add.new.self) (take len c.args.bytes.now) c.in-Ok-new_intake.intake) (sym c.in-Ok-new_intake.ensures.goes_on)
           (digested, record { opening = opened i.ram (said c.in-Some.heading); based = refl; before = []; read = rw front read });
     })

@@ -17,12 +17,13 @@ returns-then-is_empty-clause-takes g c =
       shorter = omega (arith, ap length left, length-drop c.in_ok-count.count c.args.bytes.now);
       failed = tt;
       past = l.past;
+      says = l.says;
       place = l.place;
-      memory = λ front k past e. absurd (ok_not_err e);
+      memory = λ front k clear past e. absurd (ok_not_err e);
       waits = l.waits;
       untouched = tt;
-      took = λ front k.
-          let t = l.looked front [] k in
+      took = λ front k clear.
+          let t = l.looked front [] k clear in
           looked c.look.new.self.ram _ _ c.look.new.self.digest front c.args.bytes.now _ c.in_ok-count.count c.look.new.self.stage t left;
     })
 
@@ -31,7 +32,7 @@ returns-in_err-count-clause-takes g c =
     let told = err_from_is_err_and c.from_residual.result c.from_residual.ensures.1 in
     let none : c.args.held.now.items ≡ [] = nil_from_length c.args.held.now.items (search rules) in
     let l = c.in_err-count.ensures in
-    rw (told.1, told.2, none) (record { ram = l.ram; few = tt; shorter = tt; failed = l.failed; past = λ past. tt; place = l.place; memory = λ front k past e. l.memory front [] k past (err_again e); waits = tt; untouched = λ front k never. l.untouched front [] k never; took = λ front k. l.looked front [] k })
+    rw (told.1, told.2, none) (record { ram = l.ram; few = tt; shorter = tt; failed = l.failed; past = λ past. tt; place = l.place; says = tt; memory = λ front k clear past e. l.memory front [] k clear past (err_again e); waits = tt; untouched = λ front k clear never. l.untouched front [] k clear never; took = λ front k clear. l.looked front [] k clear })
 
 pub returns-clause-takes : goal.returns-clause-takes
 returns-clause-takes g c =
@@ -44,12 +45,13 @@ returns-clause-takes g c =
       shorter = omega (arith, ap length left, length-drop c.in_ok-count-2.count (c.args.held.now.items ++ c.args.bytes.now), length-append c.args.held.now.items c.args.bytes.now);
       failed = tt;
       past = l.past;
+      says = l.says;
       place = l.place;
-      memory = λ front k past e. absurd (ok_not_err e);
+      memory = λ front k clear past e. absurd (ok_not_err e);
       waits = l.waits;
       untouched = tt;
-      took = λ front k.
-          let t = rw all at (l.looked front c.args.held.now.items k) in
+      took = λ front k clear.
+          let t = rw all at (l.looked front c.args.held.now.items k (rw all clear)) in
           looked c.look-2.new.self.ram _ _ c.look-2.new.self.digest front (c.args.held.now.items ++ c.args.bytes.now) _ c.in_ok-count-2.count c.look-2.new.self.stage t left;
     }
 
@@ -58,4 +60,4 @@ returns-in_err-count-2-clause-takes g c =
     let told = err_from_is_err_and c.from_residual-in_err-count-2.result c.from_residual-in_err-count-2.ensures.1 in
     let l = c.in_err-count-2.ensures in
     let all : c.deref.result.now ≡ c.args.held.now.items ++ c.args.bytes.now = search rules in
-    rw (told.1, told.2) (record { ram = l.ram; few = tt; shorter = tt; failed = l.failed; past = λ past. tt; place = l.place; memory = λ front k past e. rw all at (l.memory front c.args.held.now.items k past (err_again e)); waits = tt; untouched = λ front k never. (rw all at (l.untouched front c.args.held.now.items k)) never; took = λ front k. rw all at (l.looked front c.args.held.now.items k) })
+    rw (told.1, told.2) (record { ram = l.ram; few = tt; shorter = tt; failed = l.failed; past = λ past. tt; place = l.place; says = tt; memory = λ front k clear past e. rw all at (l.memory front c.args.held.now.items k (rw all clear) past (err_again e)); waits = tt; untouched = λ front k clear never. (rw all at (l.untouched front c.args.held.now.items k (rw all clear))) never; took = λ front k clear. rw all at (l.looked front c.args.held.now.items k (rw all clear)) })

@@ -27,7 +27,7 @@ use Rattle.receiver.proofs.receiver.Receiver.finish_or_back.Goals as goal
 pub restore_in-requires : goal.restore_in-requires
 restore_in-requires g c =
     let r = c.reader.inside in
-    let s = seen_of r.ram (map g.D.Disk.state r.disks.items) r.aside r.room r.digest r.stage in
+    let s = seen_of r.ram (map g.D.Disk.state r.disks.items) r.aside r.room (g.S.Summing.seen r.digest) r.stage in
     let h = (has_come s c.self.inside.held.items _ _ c.in-Records.intake (rw (← c.reader.view_is) at c.self.invariant) c.in-Records.is (not-false _ c.if-not-intake.false)).1 in
     let all = h.ended.complete.devices refl in
     let marks = h.ended.read.written.marks in
@@ -43,7 +43,7 @@ restore_in-requires g c =
 pub returns-else-not-intake : goal.returns-else-not-intake
 returns-else-not-intake g c =
     let r = c.reader.inside in
-    let s = seen_of r.ram (map g.D.Disk.state r.disks.items) r.aside r.room r.digest r.stage in
+    let s = seen_of r.ram (map g.D.Disk.state r.disks.items) r.aside r.room (g.S.Summing.seen r.digest) r.stage in
     let h = (has_come s c.self.inside.held.items _ _ c.in-Records.intake (rw (← c.reader.view_is) at c.self.invariant) c.in-Records.is (not-false _ c.if-not-intake.false)).1 in
     let come = λ (b : List ℕ) (t : IsTaken s.ram s.disks s.digest b c.self.inside.held.items s.stage). come_of s.ram s.disks s.digest b c.self.inside.held.items c.in-Records.intake (not-false _ c.if-not-intake.false) (subst (λ (stage : Stage). IsTaken s.ram s.disks s.digest b c.self.inside.held.items stage) c.in-Records.is t) in
     let on : has_failed r.stage ≡ false = ap has_failed c.in-Records.is in
@@ -80,7 +80,7 @@ returns-else-not-intake g c =
 pub returns-then-not-intake : goal.returns-then-not-intake
 returns-then-not-intake g c =
     let r = c.reader.inside in
-    let s = seen_of r.ram (map g.D.Disk.state r.disks.items) r.aside r.room r.digest r.stage in
+    let s = seen_of r.ram (map g.D.Disk.state r.disks.items) r.aside r.room (g.S.Summing.seen r.digest) r.stage in
     let held = c.self.inside.held.items in
     let new = c.given_up.ensures in
     let not_yet : has_ended s.stage ≡ false = ap has_ended c.in-Records.is ∙ (not-true _ c.if-not-intake.true) in
@@ -95,7 +95,7 @@ returns-then-not-intake g c =
 pub returns-in-Failed : goal.returns-in-Failed
 returns-in-Failed g c =
     let r = c.reader.inside in
-    let s = seen_of r.ram (map g.D.Disk.state r.disks.items) r.aside r.room r.digest r.stage in
+    let s = seen_of r.ram (map g.D.Disk.state r.disks.items) r.aside r.room (g.S.Summing.seen r.digest) r.stage in
     let held = c.self.inside.held.items in
     let new = c.given_up-in-Failed.ensures in
     rw (← c.self.view_is, ← c.reader.view_is)
@@ -104,7 +104,7 @@ returns-in-Failed g c =
 pub returns-in-Head : goal.returns-in-Head
 returns-in-Head g c =
     let r = c.reader.inside in
-    let s = seen_of r.ram (map g.D.Disk.state r.disks.items) r.aside r.room r.digest r.stage in
+    let s = seen_of r.ram (map g.D.Disk.state r.disks.items) r.aside r.room (g.S.Summing.seen r.digest) r.stage in
     let held = c.self.inside.held.items in
     let new = c.given_up-in-Head.ensures in
     rw (← c.self.view_is, ← c.reader.view_is)

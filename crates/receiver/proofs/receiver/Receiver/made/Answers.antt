@@ -2,7 +2,7 @@ use Rattle.std.proofs.Common.{rules, sym, ap, length, subst, ◌≡◌, Some}
 use Rattle.guestmem.specs.Memory.{Memory}
 use Rattle.receiver.specs.Calls.{IsNew}
 use Rattle.receiver.specs.Opened.{told_by}
-use Rattle.receiver.proofs.receiver.Receiver.with_terms.Goals as goal
+use Rattle.receiver.proofs.receiver.Receiver.made.Goals as goal
 
 pub returns-in-None : goal.returns-in-None
 returns-in-None g c = rw c.in-None.is c.reading.ensures
