@@ -56,6 +56,7 @@ pub use receiver::laws::no_fault_in_a_stream;
 pub use receiver::laws::one_fault;
 pub use receiver::laws::rounds_of_a_stream;
 pub use receiver::laws::saved_is_received;
+pub use receiver::laws::telling_is_digesting;
 pub use rehearsal::laws::applying_stays_reliable;
 pub use rehearsal::laws::arrived_is_moved;
 pub use rehearsal::laws::failing_stays_reliable;
