@@ -1,5 +1,5 @@
 -- The words of a block's rounds, as they are written one after another, and the rounds.
-use Rattle.std.proofs.Common.{◌≡◌, ℕ, suc, ◌+◌, ◌-◌, ◌*◌, ◌<◌, ◌≤◌, List, ◌∷◌, [], ◌++◌, length, take, slice_index, slice_set, refl, sym, ap, ◌∙◌, arith, add-one}
+use Rattle.std.proofs.Common.{◌≡◌, ℕ, suc, ◌+◌, ◌-◌, ◌*◌, ◌<◌, ◌≤◌, List, ◌∷◌, [], ◌++◌, length, take, slice_set, refl, ◌∙◌, arith, add-one}
 use Rattle.std.proofs.lemmas.List.{take_more_set, get_or-take}
 use Rattle.sha2.specs.Sha256.{first_words, next_word, schedule, word_at}
 

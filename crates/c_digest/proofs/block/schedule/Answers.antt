@@ -1,6 +1,6 @@
-use Rattle.std.proofs.Common.{rules, ◌≡◌, refl, ap, sym, arith, ◌∙◌, ◌-◌, ◌+◌}
-use Rattle.std.proofs.lemmas.List.{take_all, length-set}
-use Rattle.sha2.specs.Sha256.{first_words, schedule}
+use Rattle.std.proofs.Common.{rules, ◌≡◌, sym, arith, ◌∙◌}
+use Rattle.std.proofs.lemmas.List.{take_all}
+use Rattle.sha2.specs.Sha256.{first_words}
 use Rattle.c_digest.proofs.Words.{further_more, given_all, given_more}
 use Rattle.c_digest.proofs.block.schedule.Goals as goal
 

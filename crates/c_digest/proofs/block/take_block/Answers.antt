@@ -1,6 +1,5 @@
-use Rattle.std.proofs.Common.{rules, ◌≡◌, refl, ap, sym, arith, ◌∙◌}
-use Rattle.sha2.specs.Sha256.{add_state, compress, rounds, schedule}
-use Rattle.sha2.proofs.Schedule256.{rounds_next}
+use Rattle.std.proofs.Common.{rules, ◌≡◌, ◌+◌, ◌*◌, ap, arith, ◌∙◌}
+use Rattle.sha2.specs.Sha256.{add_state, compress, rounds}
 use Rattle.c_digest.proofs.block.take_block.Goals as goal
 
 pub rounds-init : goal.rounds-init
@@ -8,10 +7,12 @@ unfolding rounds
 rounds-init c = search rules
 
 pub rounds-preserved : goal.rounds-preserved
-rounds-preserved c = rw (rounds_next c.args.hash.now (schedule c.args.block.now 48) c.rounds.t, ← c.rounds.invariant, ← c.schedule-words.ensures) c.round-next.ensures
+rounds-preserved c =
+    let next : 8 * (c.rounds.n + 1) ≡ 8 * c.rounds.n + 8 = omega arith in
+    rw (next, ← c.schedule-words.ensures) (c.eight_rounds-next.ensures c.args.hash.now (rw c.schedule-words.ensures c.rounds.invariant))
 
 pub returns : goal.returns
 unfolding compress
 returns c =
-    let end : c.rounds.t ≡ 64 = omega arith in
+    let end : 8 * c.rounds.n ≡ 64 = omega arith in
     c.sum.ensures ∙ ap (add_state c.args.hash.now) (rw end at c.rounds.invariant)

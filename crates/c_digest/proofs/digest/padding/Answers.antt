@@ -1,4 +1,4 @@
-use Rattle.std.proofs.Common.{◌+◌, ◌-◌, ◌%◌, arith}
+use Rattle.std.proofs.Common.{◌-◌, ◌%◌, arith}
 use Rattle.sha2.proofs.Absorbing256.{padding-take}
 use Rattle.c_digest.proofs.digest.padding.Goals as goal
 

@@ -1,4 +1,4 @@
-use Rattle.std.proofs.Common.{◌≡◌, ℕ, List, ◌++◌, ◌+◌, ◌-◌, ◌%◌, ◌^◌, length, take, drop, refl, sym, arith, ◌∙◌, length-append}
+use Rattle.std.proofs.Common.{◌≡◌, ℕ, List, ◌++◌, ◌-◌, ◌%◌, ◌^◌, length, take, refl, arith, ◌∙◌, length-append}
 use Rattle.std.proofs.lemmas.List.{length-take-le, take_rest}
 use Rattle.sha2.specs.Sha256.{initial_hash_256}
 use Rattle.sha2.proofs.Absorbing256.{total_append}

@@ -1,4 +1,4 @@
-use Rattle.std.proofs.Common.{◌≡◌, ℕ, List, ◌*◌, ◌%◌, ◌^◌, length, ap, sym, arith, ◌∙◌}
+use Rattle.std.proofs.Common.{◌≡◌, ℕ, List, ◌*◌, ◌%◌, ◌^◌, length, ap, arith, ◌∙◌}
 use Rattle.sha2.specs.Sha256.{digest_bytes, sha256}
 use Rattle.c_digest.proofs.Taking.{padded}
 use Rattle.c_digest.proofs.digest.Digest.end.Goals as goal
