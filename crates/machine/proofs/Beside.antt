@@ -1,11 +1,10 @@
 -- A step of a machine over a window.
-use Rattle.std.specs.Prelude.{◌≡◌, ℕ, zero, suc, ◌+◌, ◌-◌, ◌^◌, ◌++◌, IsTrue, slice_index_or, ◌<◌, ◌≤◌, ◌*◌, ◌/◌, Bool, true, false, List, [], ◌∷◌, All, length, map, slice_get, slice_set, slice_index, Option, Some, None, refl, if◌then◌else◌}
-use Rattle.std.proofs.Common.{ap, sym, subst, ◌∙◌, arith, cond, get_or, set, inl, inr}
+use Rattle.std.specs.Prelude.{◌≡◌, ℕ, zero, suc, ◌+◌, ◌-◌, ◌^◌, ◌++◌, IsTrue, slice_index_or, ◌<◌, ◌≤◌, ◌/◌, Bool, true, false, List, [], ◌∷◌, All, length, map, slice_get, slice_set, Option, Some, None, refl, if◌then◌else◌}
+use Rattle.std.proofs.Common.{ap, sym, subst, ◌∙◌, arith, get_or, set, inl, inr}
 use Rattle.std.proofs.lemmas.Bool.{cases_eq, cases_lt, lt-ltb}
 use Rattle.std.proofs.lemmas.List.{get_or-set_same, get_or-set_other, get_or_past, length-set, map-set}
 use Rattle.std.proofs.lemmas.List.Elements.{All-head, All-set, All-tail}
 use Rattle.guestmem.proofs.WriteLaws.{length-set_all}
-use Rattle.guestmem.specs.Later.{IsLater}
 use Rattle.guestmem.specs.Memory.{Memory}
 use Rattle.guestmem.specs.Number.{IsBytes}
 use Rattle.guestmem.specs.Among.{Among}
@@ -29,13 +28,13 @@ use Rattle.region.specs.declared.region.Region.{Region}
 use Rattle.machine.specs.Parked.{IsParked, ParkedSeen, WasHeld, back_with, parked_sectors}
 use Rattle.machine.specs.Held.{IsHeld}
 use Rattle.machine.specs.declared.shape.Shape.{Shape}
-use Rattle.machine.specs.Footprint.{Publishing, asks_at, has_published, publishing, asks_by, asks_interrupt, device_word, raised, raised_if, reads_of, step_asks, step_reads, step_word, word_by}
+use Rattle.machine.specs.Footprint.{Publishing, asks_at, has_published, publishing, asks_by, asks_interrupt, device_word, raised, reads_of, step_asks, step_reads, word_by}
 use Rattle.machine.specs.Outcome.{Outcome, outcome_of}
 use Rattle.machine.specs.Seen.{DeviceSeen, Seen, state_of}
 use Rattle.machine.specs.Shapes.{made_as}
 use Rattle.machine.specs.Sound.{IsSound, IsSoundDevice, IsSoundKind}
 use Rattle.machine.specs.State.{DeviceState, MachineState, base_of}
-use Rattle.machine.specs.Step.{Answer, HasEffect, MaySeeAt, answer, disk_of, disk_or_none, step_device}
+use Rattle.machine.specs.Step.{Answer, HasEffect, MaySeeAt, disk_of, disk_or_none, step_device}
 use Rattle.machine.specs.declared.event.Event.TheVariants.{Step}
 use Rattle.machine.specs.declared.kind.Kind.{Kind}
 use Rattle.machine.specs.declared.kind.Kind.TheVariants.{Network, Block, Outside, Console, Entropy}

@@ -1,9 +1,7 @@
 -- A step of a device reads no byte outside of its pieces, and the driver's word last.
-use Rattle.std.specs.Prelude.{◌≡◌, ℕ, zero, suc, ◌+◌, ◌-◌, nat_lt, List, [], ◌∷◌, ◌++◌, length, take, drop, slice_get, slice_set, Bool, true, false, not, Option, Some, None, refl, if◌then◌else◌}
+use Rattle.std.specs.Prelude.{◌≡◌, ℕ, zero, suc, ◌-◌, nat_lt, List, [], ◌∷◌, ◌++◌, length, take, drop, slice_get, Bool, true, false, Option, Some, None, refl, if◌then◌else◌}
 use Rattle.std.proofs.Common.{ap, sym, ◌∙◌, cond}
 use Rattle.guestmem.specs.Writes.{Write, set_all}
-use Rattle.mmio.specs.State.{Registers, with_common}
-use Rattle.mmio.specs.Interrupts.{used_raised}
 use Rattle.chains.specs.State.{RingState}
 use Rattle.chains.specs.Places.{places}
 use Rattle.chains.specs.Publish.{after_take, is_interrupt_due}
@@ -12,7 +10,7 @@ use Rattle.chains.specs.Service.{Answer, Service, with_state}
 use Rattle.chains.specs.Service.{Empty, Malformed, Did, Taken, Dropped}
 use Rattle.chains.specs.Service as service
 use Rattle.chains.specs.Transmit.{message_of, send}
-use Rattle.chains.specs.Footprint.{AgreeAt, AgreeOn, event_piece, look_pieces, place_pieces}
+use Rattle.chains.specs.Footprint.{AgreeOn, event_piece, look_pieces, place_pieces}
 use Rattle.chains.specs.declared.chain.Chain.{Chain}
 use Rattle.chains.specs.declared.lacking.Piece.{Piece}
 use Rattle.chains.specs.declared.looking.Wanted.{Wanted}
@@ -23,7 +21,7 @@ use Rattle.chains.proofs.LookFootprint.{agree_first, agree_rest, refuses_local, 
 use Rattle.chains.proofs.ServiceFootprint.{due_local, written_same}
 use Rattle.blk.specs.Advance.{AdvanceStep, advance_one, after_move}
 use Rattle.blk.specs.Footprint.{advance_pieces, unit_pieces}
-use Rattle.blk.specs.Move.{Move, bad_sector, disk_failed, move_of, moved}
+use Rattle.blk.specs.Move.{bad_sector, disk_failed, move_of, moved}
 use Rattle.blk.specs.Request.{is_open, next_sector}
 use Rattle.blk.specs.Sectors.{Sector, is_bad, sector_in}
 use Rattle.blk.specs.declared.advancing.Advanced.{Advanced}
@@ -38,8 +36,8 @@ use Rattle.console.specs.Transmit.{text_form}
 use Rattle.net.specs.Header.{header}
 use Rattle.net.specs.Receive as net
 use Rattle.net.specs.Transmit.{frame_form}
-use Rattle.machine.specs.DeviceStep.{DeviceAnswer, advance_at, advance_on, advanced_at, after_advancing, after_serving, device_step, is_advance_due, looked_at, looked_step, network_with, reply_of, reply_to_advance, requests_of, serve, step_at, unmoved, wanted_of, MayLook}
-use Rattle.machine.specs.Footprint.{asks_at, asks_interrupt, chain_reads, device_reads, device_word, ending_at, ending_on, has_published, publishing, publishing_by, raised, raised_if, reads_at, request_reads, seen_on, seen_reads, word_of, Publishing}
+use Rattle.machine.specs.DeviceStep.{DeviceAnswer, advance_at, advance_on, advanced_at, after_advancing, after_serving, device_step, looked_at, network_with, reply_of, reply_to_advance, serve, step_at, unmoved, wanted_of, MayLook}
+use Rattle.machine.specs.Footprint.{asks_at, asks_interrupt, chain_reads, device_reads, device_word, ending_at, ending_on, has_published, publishing, publishing_by, raised_if, reads_at, request_reads, seen_on, seen_reads, word_of, Publishing}
 use Rattle.machine.specs.Outcome.{Outcome, fine, disk_failed as failing, no_memory, disk_does}
 use Rattle.machine.specs.State.{DeviceState}
 use Rattle.machine.specs.declared.kind.Kind.{Kind}

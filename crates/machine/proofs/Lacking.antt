@@ -1,9 +1,9 @@
 -- What is known for a step by the pieces that are held.
-use Rattle.std.specs.Prelude.{◌≡◌, ◌≢◌, ℕ, zero, suc, ◌-◌, ◌<◌, ◌≤◌, ◌^◌, List, [], ◌∷◌, ◌++◌, length, map, take, drop, Bool, true, false, Option, Some, None, Result, Ok, Err, IfOk, slice_get, refl, if◌then◌else◌}
-use Rattle.std.proofs.Common.{ap, sym, subst, ◌∙◌, arith, cond}
+use Rattle.std.specs.Prelude.{◌≡◌, ◌≢◌, ℕ, zero, suc, ◌-◌, ◌<◌, ◌≤◌, ◌^◌, List, [], ◌∷◌, ◌++◌, length, take, drop, Bool, true, false, Option, Some, None, Result, Ok, Err, IfOk, slice_get, refl, if◌then◌else◌}
+use Rattle.std.proofs.Common.{ap, sym, subst, ◌∙◌, arith}
 use Rattle.chains.specs.Footprint.{AgreeOn, Knows, look_pieces, place_pieces}
 use Rattle.chains.specs.Gives.{Gives}
-use Rattle.chains.specs.Look.{Sees, fits, seen_as}
+use Rattle.chains.specs.Look.{fits, seen_as}
 use Rattle.chains.specs.Places.{places}
 use Rattle.chains.specs.Ring.{Answers}
 use Rattle.chains.specs.State.{RingState, state_of as ring_of}
@@ -19,13 +19,12 @@ use Rattle.chains.proofs.ChainLaws.{answer_same}
 use Rattle.mmio.specs.State.{queue_at}
 use Rattle.mmio.specs.declared.queue.Queue.{Queue}
 use Rattle.guestmem.specs.Memory.{Memory}
-use Rattle.blk.specs.Block.{limits_of}
 use Rattle.blk.specs.Footprint.{advance_pieces}
 use Rattle.blk.specs.Outside.{AreSoundIn}
 use Rattle.blk.specs.declared.block.Block as blocks
 use Rattle.machine.specs.Beside.{KnowsReads}
 use Rattle.machine.specs.DeviceStep.{MayLook, advanced_at, advanced_by, advances, looked_at, requests_of, wanted_of}
-use Rattle.machine.specs.Footprint.{chain_reads, device_reads, reads_at, reads_of, request_reads, seen_reads}
+use Rattle.machine.specs.Footprint.{chain_reads, reads_at, reads_of, request_reads, seen_reads}
 use Rattle.machine.specs.Lacking.{CoversReads, KnowsDevice}
 use Rattle.machine.specs.Outcome.{Outcome, fine, disk_failed, no_memory}
 use Rattle.machine.specs.Seen.{DeviceSeen, state_of}

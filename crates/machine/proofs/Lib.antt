@@ -26,6 +26,7 @@ mod Stepping
 pub mod At
 pub mod Footprint
 pub mod Beside
+pub mod Asked
 pub mod Stored
 pub mod Lacking
 mod Raised

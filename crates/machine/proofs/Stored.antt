@@ -1,17 +1,16 @@
 -- A step writes into its pieces.
-use Rattle.std.specs.Prelude.{◌≡◌, ℕ, zero, suc, ◌+◌, ◌*◌, ◌-◌, ◌%◌, ◌<◌, ◌≤◌, ◌||◌, ◌==◌, nat_lt, List, [], ◌∷◌, ◌++◌, All, length, map, slice_get, take, drop, min, Bool, true, false, Option, Some, None, refl, if◌then◌else◌}
-use Rattle.std.proofs.Common.{ap, sym, subst, ◌∙◌, append_assoc, arith, cond, eqb, get_or, set, inl, inr}
+use Rattle.std.specs.Prelude.{◌≡◌, ℕ, zero, suc, ◌+◌, ◌*◌, ◌-◌, ◌%◌, ◌<◌, ◌||◌, nat_lt, List, [], ◌∷◌, ◌++◌, length, slice_get, take, drop, Bool, true, false, Option, Some, None, refl, if◌then◌else◌}
+use Rattle.std.proofs.Common.{ap, sym, ◌∙◌, append_assoc, arith, cond, eqb, get_or, set, inl, inr}
 use Rattle.std.proofs.lemmas.Bool.{cases_eq, eq-eqb, ne_eqb}
 use Rattle.std.proofs.lemmas.List.{ext_get_or, get_or-set_same, get_or-set_other, length-set, map-append}
 use Rattle.std.proofs.lemmas.List.Elements.{All-head, All-tail}
-use Rattle.guestmem.specs.Writes.{Write, byte_writes, set_all}
+use Rattle.guestmem.specs.Writes.{Write, set_all}
 use Rattle.guestmem.specs.Address.{index_of}
 use Rattle.guestmem.proofs.WriteLaws.{length-set_all}
 use Rattle.chains.specs.Footprint.{place_pieces}
 use Rattle.chains.specs.Places.{addresses, last_place, place_writes, places}
 use Rattle.chains.specs.Publish.{after_take, event_note, packed_note, packed_published, published, split_note, split_published}
 use Rattle.chains.specs.ReceiveBuffer.{give}
-use Rattle.chains.specs.Service.{Service}
 use Rattle.chains.specs.State.{RingState}
 use Rattle.chains.specs.declared.chain.Chain.{Chain}
 use Rattle.chains.specs.declared.lacking.Piece.{Piece}
@@ -34,14 +33,14 @@ use Rattle.net.specs.Receive as net
 use Rattle.machine.specs.DeviceStep.{MayLook, advance_at, advance_on, advanced_at, device_step, looked_at, reply_of, reply_to_advance, serve, step_at, wanted_of}
 use Rattle.machine.specs.Outcome.{Outcome, fine, disk_failed as failing, no_memory, disk_does}
 use Rattle.machine.specs.State.{DeviceState}
-use Rattle.machine.specs.Stored.{HasId, advance_writes, chain_writes, copied, device_writes, indexes_in, indexes_of, note_pieces, published_pieces, request_writes, seen_writes, stored, unit_writes, writes_at}
+use Rattle.machine.specs.Stored.{HasId, advance_writes, chain_writes, copied, device_writes, indexes_in, indexes_of, note_pieces, published_pieces, request_writes, seen_writes, unit_writes, writes_at}
 use Rattle.machine.specs.declared.kind.Kind.{Kind}
 use Rattle.machine.specs.declared.kind.Kind.TheVariants.{Network, Block, Outside, Console, Entropy}
 use Rattle.machine.specs.declared.reply.Reply.TheVariants as replies
 use Rattle.machine.proofs.Footprint.{readvanced, unit_answer}
 
 -- Whether an index is among these.
-abbrev is_in : ℕ → List ℕ → Bool
+abbrev pub is_in : ℕ → List ℕ → Bool
 is_in k [] = false
 is_in k (i ∷ is) = eqb k i || is_in k is
 
@@ -106,7 +105,7 @@ in_set w m (x ∷ ws) k same below among =
           in_set (set w x.index x.byte) (set m x.index x.byte) ws k longer (omega (arith, below, length-set m x.index x.byte)) rest
     ]
 
-out_set : (m : List ℕ) (ws : List Write) (k : ℕ) → is_in k (indexes_in ws) ≡ false → get_or (set_all m ws) k 0 ≡ get_or m k 0
+pub out_set : (m : List ℕ) (ws : List Write) (k : ℕ) → is_in k (indexes_in ws) ≡ false → get_or (set_all m ws) k 0 ≡ get_or m k 0
 out_set m [] k far = refl
 out_set m (x ∷ ws) k far =
     let parts = or_none (eqb k x.index) (is_in k (indexes_in ws)) far in

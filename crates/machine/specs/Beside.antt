@@ -18,7 +18,6 @@ use Rattle.machine.specs.Footprint.{Publishing, asks_at, has_published, publishi
 use Rattle.machine.specs.Outcome.{Outcome, outcome_of}
 use Rattle.machine.specs.Parked.{ParkedSeen, back_with}
 use Rattle.machine.specs.Seen.{DeviceSeen, Seen, state_of}
-use Rattle.machine.specs.Sound.{IsSound}
 use Rattle.machine.specs.State.{DeviceState, MachineState}
 use Rattle.machine.specs.Step.{HasEffect, MaySee}
 use Rattle.machine.specs.declared.event.Event.TheVariants.{Step}

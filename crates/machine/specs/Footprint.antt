@@ -16,7 +16,7 @@ use Rattle.blk.specs.declared.request.Request.{Request}
 use Rattle.console.specs.Transmit.{text_form}
 use Rattle.net.specs.Transmit.{frame_form}
 use Rattle.machine.specs.DeviceStep.{DeviceAnswer, advanced_at, looked_at, requests_of}
-use Rattle.machine.specs.Outcome.{Outcome, fine, disk_failed, no_memory}
+use Rattle.machine.specs.Outcome.{Outcome, fine}
 use Rattle.machine.specs.State.{DeviceState, MachineState}
 use Rattle.machine.specs.declared.kind.Kind.{Kind}
 use Rattle.machine.specs.declared.kind.Kind.TheVariants.{Network, Block, Outside, Console, Entropy}

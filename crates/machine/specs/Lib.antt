@@ -1,6 +1,7 @@
 pub mod AnyRing
 pub mod Rings
 pub mod Applied
+pub mod Asked
 pub mod AppliedLaws
 pub mod BadSectors
 pub mod Beside

@@ -1,5 +1,5 @@
 -- What the kind of a device determines, and what it was made as (its shape).
-use Rattle.std.specs.Prelude.{ℕ, ◌+◌, ◌^◌, ◌==◌, ◌||◌, nat_lt, not, if◌then◌else◌, Bool, false, List, [], ◌∷◌, Option, Some, None, replicate}
+use Rattle.std.specs.Prelude.{ℕ, ◌+◌, ◌^◌, ◌==◌, ◌||◌, nat_lt, if◌then◌else◌, Bool, false, List, [], ◌∷◌, Option, Some, None, replicate}
 use Rattle.blk.specs.Shape as blocks
 use Rattle.blk.specs.declared.shape.TheConstants.{OUTSIDE_GREATEST}
 use Rattle.blk.specs.Block.{first_block}

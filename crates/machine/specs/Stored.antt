@@ -1,5 +1,5 @@
 -- What a step writes, as pieces of RAM: a host whose guest runs stores them, from the window in which the step was made.
-use Rattle.std.specs.Prelude.{◌≡◌, ℕ, zero, suc, ◌+◌, ◌*◌, ◌-◌, ◌%◌, List, [], ◌∷◌, ◌++◌, length, map, take, drop, Option, Some, None, slice_get, slice_index, slice_set, if◌then◌else◌}
+use Rattle.std.specs.Prelude.{◌≡◌, ℕ, ◌+◌, ◌*◌, ◌-◌, ◌%◌, List, [], ◌∷◌, ◌++◌, length, map, take, drop, Option, Some, None, slice_get, slice_index, slice_set, if◌then◌else◌}
 use Rattle.guestmem.specs.Writes.{Write}
 use Rattle.chains.specs.Footprint.{place_pieces}
 use Rattle.chains.specs.Places.{addresses, last_place, places}

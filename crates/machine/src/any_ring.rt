@@ -3,15 +3,17 @@
 //! The layout is named by feature bit 34, which is fixed while a queue is ready; devices are generic over `Ring` and see
 //! neither. This type keeps the ring of a queue and is no `Ring` itself: each of its calls would tell the layout apart again.
 
-ghost use Rattle.std.specs.Prelude.{◌≡◌, ◌<◌, true, false, length, None};
-ghost use Rattle.chains.specs.Footprint.{Knows, look_pieces};
+ghost use Rattle.std.specs.Prelude.{◌≡◌, ◌<◌, ◌≤◌, ◌^◌, ℕ, List, take, true, false, length, None};
+ghost use Rattle.chains.specs.Footprint.{Knows, event_piece, look_pieces, quiet_word};
 ghost use Rattle.chains.specs.Gives.{Gives, GivesBounded};
+ghost use Rattle.chains.specs.Publish.{after_take, is_interrupt_due};
 ghost use Rattle.chains.specs.RingCore.{core_state};
 ghost use Rattle.guestmem.specs.Memory.{Memory};
 ghost use Rattle.chains.specs.Decoder.{Fits};
 ghost use Rattle.chains.specs.State.{AreAbove, HasAreas, MayRing, state_of};
 ghost use Rattle.mmio.specs.Bits.{has};
 ghost use Rattle.mmio.specs.declared.constants.TheConstants.{RING_PACKED};
+ghost use Rattle.machine.specs.Asked.{IsWordAt};
 ghost use Rattle.machine.specs.Rings.{emptied};
 ghost use Rattle.machine.specs.AnyRing.{ring_in, decoder_in, is_packed_in};
 
@@ -111,10 +113,53 @@ impl AnyRing {
         requires fits { Fits (decoder_in self.old) ram.now }
         ensures gives { Gives ram.now.bytes (ring_in self.old) result chain.new }
         ensures bounded { GivesBounded (length ram.now.bytes) (ring_in self.old) result chain.new }
+        ensures ring { ring_in self.new ≡ ring_in self.old }
     {
         match self {
             AnyRing::Split(ring) => ring.next_into(ram, chain),
             AnyRing::Packed(ring) => ring.next_into(ram, chain),
+        }
+    }
+
+    /// Takes the chain that was found (`Ring::take`).
+    pub fn take(&mut self, chain: &Chain)
+        requires slots { chain.now.slots ≤ (ring_in self.old).size }
+        ensures { ring_in self.new ≡ after_take (ring_in self.old) chain.now.slots }
+    {
+        match self {
+            AnyRing::Split(ring) => ring.take(chain),
+            AnyRing::Packed(ring) => ring.take(chain),
+        }
+    }
+
+    /// Where the driver's word about interrupts lies.
+    pub fn word(&self) -> Piece
+        requires near { (ring_in self.now).driver < 2 ^ 63 }
+        ensures { result ≡ event_piece (ring_in self.now) }
+    {
+        match self {
+            AnyRing::Split(ring) => ring.word(),
+            AnyRing::Packed(ring) => ring.word(),
+        }
+    }
+
+    /// A word that asks for no interrupt for what is published next, in as many bytes as the word has.
+    pub fn quiet(&self) -> [u8; 4]
+        ensures { take (event_piece (ring_in self.now)).count result ≡ quiet_word (ring_in self.now) }
+    {
+        match self {
+            AnyRing::Split(ring) => ring.quiet(),
+            AnyRing::Packed(ring) => ring.quiet(),
+        }
+    }
+
+    /// Whether this word of the driver asks for an interrupt for a chain of `slots` slots that is published at the used position.
+    pub fn is_asked(&self, slots: u16, word: [u8; 4]) -> bool
+        ensures { (ram : List ℕ) → IsWordAt ram (event_piece (ring_in self.now)) word → result ≡ is_interrupt_due (ring_in self.now) slots ram }
+    {
+        match self {
+            AnyRing::Split(ring) => ring.is_asked(word),
+            AnyRing::Packed(ring) => ring.is_asked(slots, word),
         }
     }
 }

@@ -6,10 +6,11 @@
 //! With eight requests outstanding a block device has no room, and so no work at its queue: pick 0 is idle, the queue is not looked at,
 //! and no event note is written, since the driver is not to kick for chains that are not looked at.
 
-ghost use Rattle.std.specs.Prelude.{◌≡◌, length, IfOk, true};
+ghost use Rattle.std.specs.Prelude.{◌≡◌, length, slice_get, IfOk, true};
 ghost use Rattle.chains.specs.Frame.{MayLook, HasLooked};
 ghost use Rattle.chains.specs.Served.{HasRun, scene};
 ghost use Rattle.blk.specs.Durable.{is_flush_owed};
+ghost use Rattle.machine.specs.Asked.{slots_in};
 ghost use Rattle.machine.specs.DeviceStep.{can_advance, has_work, serve, wanted_of, requests_of};
 ghost use Rattle.machine.specs.Shapes.{configuration_of, first_kind, made_as, net_as};
 ghost use Rattle.machine.specs.Sound.{AreSoundBeside};
@@ -19,7 +20,7 @@ ghost use Rattle.mmio.specs.RegisterRead.{register_read};
 
 use crate::reply::Refusal;
 use crate::shape::Shape;
-use blk::{Block, SyncOwed};
+use blk::{Block, Request, SyncOwed};
 use chains::{Ring, Served, Site, Unserved};
 use console::{ConsoleSize, HostBytes, emergency_byte, receive};
 use guestmem::{NoMemory, Ram, TouchLog};
@@ -165,6 +166,16 @@ impl Kind {
         match self {
             Kind::Block(block) | Kind::Outside(block) => block.requests.len(),
             Kind::Network { .. } | Kind::Console { .. } | Kind::Entropy(_) => 0,
+        }
+    }
+
+    /// The slots of the chain of the k-th outstanding request, from 0, if there is one.
+    pub(crate) fn request_slots(&self, k: usize) -> Option<u16>
+        ensures { result ≡ slots_in (slice_get (requests_of self.now) k) }
+    {
+        match self {
+            Kind::Block(block) | Kind::Outside(block) => slots_at(block.requests.as_slice(), k),
+            Kind::Network { .. } | Kind::Console { .. } | Kind::Entropy(_) => None,
         }
     }
 
@@ -318,6 +329,16 @@ pub(crate) fn is_first_ready(queues: &[Queue]) -> bool
 }
 
 /// What a network device was made as: for long frames, unless its longest has 1,514 bytes.
+/// The slots of the chain of the k-th request, from 0, if there is one.
+fn slots_at(requests: &[Request], k: usize) -> Option<u16>
+    ensures { result ≡ slots_in (slice_get requests.now k) }
+{
+    if k >= requests.len() {
+        return None;
+    }
+    Some(requests[k].slots)
+}
+
 fn net_shape(mac: [u8; 6], longest: u16) -> Shape
     ensures { result ≡ net_as mac longest }
 {

@@ -13,8 +13,8 @@ ghost use Rattle.machine.specs.EffectLaws.{UntouchedStays, TouchedExists, ShapeS
 ghost use Rattle.machine.specs.StepLaws.{EffectsAgree, StepsAgree, RunsAgree, StepStaysWithin, StepKeepsShape, StepStaysSound, RefusalsChangeNothing, MalformedIsContained, MalformedAsksForReset};
 
 pub use beside::{
-    applied_is_local, beside_is_step, device_steps_are_local, effects_are_local, held_is_beside,
-    stores_are_writes,
+    applied_is_local, asking_is_publishing, beside_is_step, device_steps_are_local,
+    effects_are_local, held_is_beside, held_stays_known, stores_are_writes,
 };
 pub use outside::{answers_are_their_parts, asked_is_taken, waiting_is_idle};
 pub use work::{idle_without_work, turn_is_steps, work_gets_on};

@@ -73,8 +73,13 @@
 //!   work, the lines, the states of the devices, and answers of disks outside that touch no RAM (`Parked::disk_did`, `disk_failed`). Each is
 //!   that of the machine with whatever its RAM holds meanwhile, and so of the machine as it was lent (`laws::parked_is_applied`,
 //!   `parked_is_flushed`, `parked_flush_fails`) and of the machine after the return (`laws::lent_call_is_made_after_the_return`): it makes no
-//!   difference whether the guest wrote before or after. RAM accesses, bytes that a disk outside gave, steps and what hands the machine on
-//!   want the RAM back.
+//!   difference whether the guest wrote before or after. RAM accesses, bytes that a disk outside gave and what hands the machine on want the
+//!   RAM back, and so do steps, but for those that are made over a window.
+//! - A step may be made while the RAM is lent and the guest runs: over a window, a second memory of RAM's size into which the caller copies
+//!   the pieces for which `Parked::lacks` asks. `Parked::asking` says before it which word of the driver is read last, which word is quiet
+//!   meanwhile, and whether the true one asks for an interrupt; `Parked::step_over` makes the step, and `Parked::end` ends it. It is that step
+//!   of the machine, whatever its RAM holds elsewhere (`laws::held_is_beside`, `beside_is_step`, `asking_is_publishing`), and reads and writes
+//!   no other pieces (`laws::device_steps_are_local`, `stores_are_writes`).
 //! - `are_disks_of` says whether disks are those of some devices, in their order.
 //! - `laws`: what an effect does not touch stays, what it touches exists, the shape stays. Equal outcomes give equal effects,
 //!   replies and machines, whatever a guest wrote into its rings. A step of a sound machine stays within it, keeps its shape
@@ -87,6 +92,7 @@
 #![tactic(auto)]
 
 mod any_ring;
+mod asking;
 mod board;
 mod device;
 mod event;
@@ -106,6 +112,7 @@ mod stepped;
 mod turn;
 mod work;
 
+pub use asking::Asking;
 pub use blk::{Disk, DiskFault, FaultDisk, FileDisk, MemDisk, SECTOR_SIZE, SECTORS_MAX, SyncOwed};
 pub use board::{Board, RamOf, Unmade};
 pub use chains::Piece;

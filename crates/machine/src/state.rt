@@ -5,6 +5,7 @@
 //!
 //! A look and an advance are made on a ring in its layout, a `SplitRing` or a `PackedRing`: `Device::step` tells them apart.
 
+mod asking;
 mod first_pick;
 mod lacking;
 mod outside;

@@ -5,6 +5,7 @@
 //! bytes; `reply_in` puts the two together.
 
 ghost use Rattle.std.specs.Prelude.{◌≡◌, ℕ, List};
+ghost use Rattle.machine.specs.Footprint.{has_published};
 ghost use Rattle.machine.specs.Stepped.{looked_reply, reply_in};
 
 use crate::reply::{Refusal, Reply};
@@ -65,6 +66,16 @@ impl Stepped {
             Err(Unserved::Empty) => Stepped::Idle,
             Err(Unserved::Malformed) => Stepped::NeedsReset,
             Err(Unserved::NoMemory) => Stepped::NoMemory,
+        }
+    }
+
+    /// Whether the step published a chain. Such a step reads the driver's word about interrupts last.
+    pub fn has_published(self) -> bool
+        ensures { (sent : List ℕ) → result ≡ has_published (reply_in self sent) }
+    {
+        match self {
+            Stepped::Completed(_) | Stepped::Sent => true,
+            _ => false,
         }
     }
 

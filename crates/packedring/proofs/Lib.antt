@@ -1,3 +1,4 @@
 mod Leading
 mod Finding
 mod Lists
+mod Word

@@ -3,6 +3,8 @@
 //! The flag WRITE of a used descriptor says whether bytes were written (VIRTIO 1.2, 2.8.3), so `publish` takes that beside the
 //! count.
 
+mod word;
+
 ghost use Rattle.std.specs.Prelude.{◌≡◌, ◌≤◌, ◌<◌, ◌+◌, ◌++◌, true, length, IsTrue, ◌↔◌, None};
 ghost use Rattle.guestmem.specs.Memory.{Memory};
 ghost use Rattle.chains.specs.Decoder.{Fits, empty_decoder};

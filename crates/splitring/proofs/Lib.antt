@@ -2,3 +2,4 @@ mod Spelled
 mod Leading
 mod Found
 mod Masks
+mod Word

@@ -1,5 +1,7 @@
 //! A split ring.
 
+mod word;
+
 ghost use Rattle.std.specs.Prelude.{◌≡◌, ◌+◌, ◌++◌, ◌≤◌, false, length, None};
 ghost use Rattle.guestmem.specs.Memory.{Memory};
 ghost use Rattle.chains.specs.Decoder.{Fits, HasDecoded, empty_decoder};

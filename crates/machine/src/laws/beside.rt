@@ -7,6 +7,7 @@ ghost use Rattle.guestmem.specs.Writes.{Write, set_all};
 ghost use Rattle.blk.specs.Sectors.{AreWhole, Sector};
 ghost use Rattle.chains.specs.Footprint.{AgreeOn};
 ghost use Rattle.chains.specs.declared.next.Next.{Next};
+ghost use Rattle.machine.specs.Asked.{AskedIsDue, AskingIsPublishing, HeldStaysKnown, PutIsElsewhere, QuietIsKept};
 ghost use Rattle.machine.specs.Beside.{AppliedIsLocal, AppliedWordIsLast, BesideIsStep, EffectsAreLocal, HeldIsBeside, OpenIsStep, QuietIsOpen, WordIsLast, WrittenIsThere};
 ghost use Rattle.machine.specs.DeviceStep.{MayLook, device_step, looked_at, wanted_of};
 ghost use Rattle.machine.specs.Footprint.{asks_interrupt, device_reads, device_word, raised_if};
@@ -60,4 +61,20 @@ pub fn stores_are_writes()
     ensures copied { (w m : List ℕ) (ws : List Write) → length w ≡ length m → copied (set_all w ws) m (indexes_in ws) ≡ set_all m ws }
     ensures pieces { (d : DeviceState) (ram : List ℕ) (content : List Sector) (pick : ℕ) (o : Outcome) (seen : Next) → HasId d.kind → AreWhole content → MayLook (wanted_of d.kind pick) (looked_at d pick) ram o seen
         → indexes_in (device_step d ram content pick o seen).writes ≡ indexes_of (device_writes d pick seen (device_step d ram content pick o seen).reply) }
+{}
+
+/// What was known of a step before it is what it publishes, if its reply says that it published a chain. So the driver's word, once it was
+/// read, says whether an interrupt is due; and where the window had the quiet word, into which the step wrote no byte, the step has asked for
+/// none: it is open, and is ended by the true word (`held_is_beside`, `beside_is_step`).
+pub fn asking_is_publishing()
+    ensures publishing { AskingIsPublishing }
+    ensures due { AskedIsDue }
+    ensures quiet { QuietIsKept }
+{}
+
+/// What is known of a step over a window is known of it over each one that agrees with it in the pieces that are held: so over one into which
+/// the quiet word was put, where none of them has a byte of it.
+pub fn held_stays_known()
+    ensures known { HeldStaysKnown }
+    ensures elsewhere { PutIsElsewhere }
 {}

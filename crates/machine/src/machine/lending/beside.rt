@@ -13,11 +13,13 @@ ghost use Rattle.std.specs.Prelude.{◌≡◌, ◌*◌, IfOk, None, length};
 ghost use Rattle.region.specs.Address.{address};
 ghost use Rattle.guestmem.specs.declared.limits.TheConstants.{PAGE_SIZE};
 ghost use Rattle.machine.specs.Applied.{MayItems};
+ghost use Rattle.machine.specs.Asked.{StepAsks};
 ghost use Rattle.machine.specs.Beside.{IsLoggedOver, KnowsReads, ended, window_memory};
 ghost use Rattle.machine.specs.Parked.{back_with};
 ghost use Rattle.machine.specs.Seen.{state_of};
 ghost use Rattle.machine.specs.Stepped.{reply_in};
 
+use crate::asking::Asking;
 use crate::machine::Machine;
 use crate::machine::lending::Parked;
 use crate::stepped::Stepped;
@@ -38,6 +40,19 @@ impl<D: Disk> Machine<D> {
         self.devices[dev]
             .state()
             .lacks(self.alloc, pick, &self.ram, held)
+    }
+
+    /// What the step of this pick publishes, if it publishes a chain.
+    fn asking(&self, dev: u8, pick: u8) -> Result<Option<Asking>, NoMemory>
+        ensures { IfOk result (λ asking. StepAsks (state_of self.now) dev pick asking) }
+    {
+        let dev = dev as usize;
+        if dev >= self.devices.len() {
+            return Ok(None);
+        }
+        self.devices[dev]
+            .state()
+            .asking(self.alloc, pick, &self.ram)
     }
 }
 
@@ -62,6 +77,29 @@ impl<D: Disk> Parked<D> {
         let lacking = machine.lacks(dev, pick, held);
         match machine.lend() {
             Ok((window, parked)) => (lacking, window, parked),
+            Err(_machine) => unreachable!(),
+        }
+    }
+
+    /// What the step of this pick publishes, if it publishes a chain, by the pieces that the window holds: they are all that the step reads
+    /// (`lacks`). It says which word of the driver is to be read last. Window and machine are handed out as they were. Memory may be refused,
+    /// as it is for the step.
+    pub fn asking(
+        self,
+        window: Region,
+        dev: u8,
+        pick: u8,
+    ) -> (Result<Option<Asking>, NoMemory>, Region, Parked<D>)
+        requires size { length window.content ≡ PAGE_SIZE * length self.versions }
+        ensures asking { IfOk result.0 (λ asking. StepAsks (state_of (back_with self (window_memory self window))) dev pick asking) }
+        ensures content { result.1.content ≡ window.content }
+        ensures place { address result.1 ≡ address window }
+        ensures machine { result.2 ≡ self }
+    {
+        let machine = self.give_back(window, &[], &mut NoLog);
+        let asking = machine.asking(dev, pick);
+        match machine.lend() {
+            Ok((window, parked)) => (asking, window, parked),
             Err(_machine) => unreachable!(),
         }
     }

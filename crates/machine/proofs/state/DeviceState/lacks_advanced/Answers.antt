@@ -1,4 +1,4 @@
-use Rattle.std.proofs.Common.{length, sym}
+use Rattle.std.proofs.Common.{length}
 use Rattle.machine.proofs.DiskAnswers.{requests_sound}
 use Rattle.machine.proofs.Lacking.{advanced_blocks, advanced_outside, block_sound}
 use Rattle.machine.proofs.Stepping.{held_device}

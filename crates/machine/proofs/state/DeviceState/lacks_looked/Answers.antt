@@ -1,9 +1,7 @@
-use Rattle.std.proofs.Common.{◌≡◌, ◌∙◌, ap, arith, refl, subst, sym, length}
-use Rattle.chains.specs.Footprint.{Knows}
+use Rattle.std.proofs.Common.{◌≡◌, ap, arith, sym, length}
 use Rattle.chains.specs.State.{RingState}
 use Rattle.chains.specs.declared.next.Next.TheVariants.{Empty, Malformed}
 use Rattle.machine.specs.AnyRing.{ring_in}
-use Rattle.machine.specs.Footprint.{chain_reads}
 use Rattle.machine.proofs.Lacking.{a_chain, knows_by}
 use Rattle.machine.proofs.Looking.{looked_is}
 use Rattle.machine.proofs.Rings.{looked_ring}

@@ -1,0 +1,66 @@
+//! The driver's word about interrupts, which a step that publishes a chain reads last, after all that it writes.
+//!
+//! A host that makes the step beside the guest (`Parked::step_over`) takes this value before it, and so knows where the word lies, which word
+//! asks for nothing, and, once the true word was read, whether that asks for an interrupt.
+
+ghost use Rattle.std.specs.Prelude.{◌≡◌, ◌<◌, ◌^◌, ℕ, List, take};
+ghost use Rattle.chains.specs.Footprint.{event_piece, quiet_word};
+ghost use Rattle.chains.specs.Publish.{is_interrupt_due};
+ghost use Rattle.machine.specs.AnyRing.{ring_in};
+ghost use Rattle.machine.specs.Asked.{IsWordAt};
+
+use crate::any_ring::AnyRing;
+use chains::Piece;
+use std::marker::Model;
+
+/// What a step publishes, if it publishes a chain: the ring as it is then, and the slots of the chain.
+#[derive(Drop)]
+pub struct Asking {
+    ring: AnyRing,
+    slots: u16,
+}
+
+impl Model for Asking {
+    ghost use Rattle.std.specs.Prelude.{◌<◌, ◌^◌};
+    ghost use Rattle.machine.specs.AnyRing.{ring_in};
+    ghost use Rattle.machine.specs.Footprint.{Publishing};
+
+    ghost Value = { Publishing };
+
+    ghost view = { λ a. record { ring = ring_in a.ring; slots = a.slots } };
+
+    ghost invariant = { λ a. (ring_in a.ring).driver < 2 ^ 63 };
+}
+
+impl Asking {
+    /// Of this ring, whose chain takes so many slots.
+    pub(crate) fn new(ring: AnyRing, slots: u16) -> Asking
+        requires near { (ring_in ring).driver < 2 ^ 63 }
+        ensures { result ≡ record { ring = ring_in ring; slots = slots } }
+    {
+        Asking { ring, slots }
+    }
+
+    /// The piece of RAM in which the word lies. Once the step has published its chain, and all that it wrote is stored, the word is to be
+    /// read there, and it is the last that the step reads.
+    pub fn word(&self) -> Piece
+        ensures { result ≡ event_piece self.now.ring }
+    {
+        self.ring.word()
+    }
+
+    /// A word that asks for no interrupt, in as many bytes as the piece of the word has.
+    pub fn quiet(&self) -> [u8; 4]
+        ensures { take (event_piece self.now.ring).count result ≡ quiet_word self.now.ring }
+    {
+        self.ring.quiet()
+    }
+
+    /// Whether this word asks for an interrupt for the chain that the step published. The word is in as many bytes as its piece has; those
+    /// after them make no difference.
+    pub fn is_due(&self, word: [u8; 4]) -> bool
+        ensures { (ram : List ℕ) → IsWordAt ram (event_piece self.now.ring) word → result ≡ is_interrupt_due self.now.ring self.now.slots ram }
+    {
+        self.ring.is_asked(self.slots, word)
+    }
+}
