@@ -6,8 +6,8 @@
 //! # What the layer above may rely on
 //! - A digest holds a message (`specs/Holding`): after `begin` the empty one, and after each `add` its bytes more. `end` gives `sha256` of it, as
 //!   the crate `sha2` defines it, and the digest begins anew.
-//! - A digest is words, and nothing else: a copy of it continues by itself, and any words are one. So no call requires anything. Words that no
-//!   digest is get bytes that nothing is said of.
+//! - A digest is words, and nothing else: a copy of it continues by itself. No call requires anything: over words that hold no message it is safe
+//!   and ends, and nothing more is said of it.
 //! - The count of a message is that of the standard, modulo 2^64 bits. `sha256` says what the digest of a longer message is.
 //!
 //! # Why it is so
