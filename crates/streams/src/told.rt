@@ -1,10 +1,10 @@
 //! Streams that are fed to a receiver which is told the digest.
 
-ghost use Rattle.std.specs.Prelude.{◌≡◌, List, ℕ, false, true};
+ghost use Rattle.std.specs.Prelude.{◌≡◌, ◌∷◌, List, ℕ, false, true};
 ghost use Rattle.sha2.specs.Hashers.{Holds256};
 ghost use Rattle.receiver.specs.Receiving.{HasBeenFed, has_ended, reads_in};
 
-use anyhow::{Context, Result, ensure};
+use anyhow::{Result, ensure};
 use receiver::{Receiver, RecvError, Terms, Told};
 use scenarios::TestDisk;
 use sha2::{Digest, Sha256};
@@ -52,18 +52,17 @@ fn closed(mut receiver: Receiver<TestDisk, Told>, sum: Sha256, closing: &[u8]) -
     requires goes_on { has_ended receiver.stage ≡ false }
     requires summed { (b : List ℕ) × HasBeenFed receiver b × Holds256 sum b }
 {
+    let (record, behind) = closing.split_at(COMMIT_RECORD.min(closing.len()));
+    ensure!(
+        is_closing(record),
+        "another record was taken for the closing one"
+    );
     ensure!(
         receiver.held() == 0,
         "a part of the closing record was taken"
     );
-    let (tag, _) = closing.split_first().context("nothing closes the stream")?;
-    ensure!(
-        *tag == COMMIT_TAG,
-        "another record was taken for the closing one"
-    );
     receiver.recall_bytes();
     let digest = sum.finalize();
-    let (record, behind) = closing.split_at(COMMIT_RECORD.min(closing.len()));
     if let Err(error) = receiver.close(&digest, record) {
         return Ok(error.code());
     }
@@ -71,4 +70,14 @@ fn closed(mut receiver: Receiver<TestDisk, Told>, sum: Sha256, closing: &[u8]) -
         return Ok(error.code());
     }
     Ok(ended(receiver))
+}
+
+/// Whether the bytes begin with the record that closes a stream.
+fn is_closing(bytes: &[u8]) -> bool
+    ensures { result ≡ true → (more : List ℕ) × (bytes.now ≡ 5 ∷ more) }
+{
+    match bytes.split_first() {
+        Some((tag, _)) => *tag == COMMIT_TAG,
+        None => false,
+    }
 }
