@@ -2,8 +2,8 @@
 //!
 //! A host whose guest runs copies pieces of the guest's memory into the RAM that a step is made over, one by one, as they are asked for here.
 //! The order is the rule: the driver's index, or the flags of a descriptor, is copied before what it hands over. These functions read what is
-//! held, and nothing else, and take no memory. What they return is a piece inside RAM; `None` says that the look reads no byte beside
-//! those that are held.
+//! held, and nothing else, and take no memory. `None` says that the look reads no byte beside those that are held. That a piece which is
+//! asked for lies inside RAM, and is not held, is how they are written; no clause says it.
 
 ghost use Rattle.std.specs.Prelude.{◌≡◌, ◌+◌, ◌-◌, ◌*◌, ◌<◌, ◌≤◌, List, ℕ, IsTrue, None, drop, false, length, min, take, true};
 ghost use Rattle.guestmem.specs.Address.{IsWithin, index_of};

@@ -33,7 +33,7 @@ impl Model for Asking {
 }
 
 impl Asking {
-    /// Of this ring, whose chain takes so many slots.
+    /// What a step publishes that publishes a chain of `slots` slots on this ring.
     pub(crate) fn new(ring: AnyRing, slots: u16) -> Asking
         requires near { (ring_in ring).driver < 2 ^ 63 }
         ensures { result ≡ record { ring = ring_in ring; slots = slots } }

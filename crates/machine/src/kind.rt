@@ -328,7 +328,6 @@ pub(crate) fn is_first_ready(queues: &[Queue]) -> bool
     matches!(queues, [first, ..] if first.is_ready)
 }
 
-/// What a network device was made as: for long frames, unless its longest has 1,514 bytes.
 /// The slots of the chain of the k-th request, from 0, if there is one.
 fn slots_at(requests: &[Request], k: usize) -> Option<u16>
     ensures { result ≡ slots_in (slice_get requests.now k) }
@@ -339,6 +338,7 @@ fn slots_at(requests: &[Request], k: usize) -> Option<u16>
     Some(requests[k].slots)
 }
 
+/// What a network device was made as: for long frames, unless its longest has 1,514 bytes.
 fn net_shape(mac: [u8; 6], longest: u16) -> Shape
     ensures { result ≡ net_as mac longest }
 {

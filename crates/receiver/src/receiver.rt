@@ -446,8 +446,9 @@ impl<D: Disk + Drop> Receiver<D, Told> {
         self.reader.recall_told();
     }
 
-    /// The digest of all bytes that were fed, but those that are held, and the bytes of the record that closes the stream, or as many of
-    /// them as there are.
+    /// Takes the record that closes the stream, or the next bytes of it, with the digest of all bytes that were fed but for those that are
+    /// held. A record that comes in parts is closed by as many calls, each with the same digest. Another digest than the record's is
+    /// `BadDigest`.
     pub fn close(&mut self, digest: &[u8; 32], rest: &[u8]) -> Result<(), RecvError>
         requires due { IsDue self.old rest.now }
         requires digest { digest.now ≡ sha256 (past_of self.old.digest) }

@@ -9,7 +9,7 @@ use receiver::{Receiver, Terms, read_heading_within};
 use scenarios::{PIECES, TestDisk, disks_of, refusal_in_pieces, refusal_of};
 use std::alloc::Global;
 
-/// The sizes of the pieces in which a receiver is fed that is told the digest.
+/// Those of `PIECES` in which a receiver is fed too that is told the digest.
 const TOLD_PIECES: [usize; 2] = [1, 511];
 
 /// Receives the stream of a line, which is followed by ` -> ` and the number of its refusal, or 0 where it is received. Fed in
@@ -177,8 +177,7 @@ impl<'t> Refusals<'t> {
     fn tell_of(&self, alloc: Global, streams: &Streams, changed: Changed<'_>) -> Result<()> {
         self.tell_whole(alloc, streams, changed)?;
         let told_at = self.tell_bytes(alloc, streams, changed)?;
-        self.tell_in_pieces(alloc, streams, changed, told_at)?;
-        self.tell_told(alloc, streams, changed, told_at)
+        self.tell_in_pieces(alloc, streams, changed, told_at)
     }
 
     fn tell_whole(&self, alloc: Global, streams: &Streams, changed: Changed<'_>) -> Result<()> {
@@ -210,7 +209,7 @@ impl<'t> Refusals<'t> {
     }
 
     /// Fails if the stream, fed in pieces of more bytes, gets another answer, or gets it in another piece than that of byte
-    /// `told_at`.
+    /// `told_at`. So it is of a receiver that is told the digest.
     fn tell_in_pieces(
         &self,
         alloc: Global,
@@ -224,40 +223,20 @@ impl<'t> Refusals<'t> {
             place,
         } = changed;
         for size in PIECES {
-            let disks = self.disks_beside(alloc, streams)?;
-            let told = refusal_in_pieces(alloc, stream, disks, self.terms, size)?;
             let end = told_at.div_ceil(size).saturating_mul(size);
             let expected = (number, end.min(stream.len()));
-            ensure!(told == expected, "pieces of {size} at {place}");
-        }
-        Ok(())
-    }
-
-    /// Fails if a receiver that is told the digest answers otherwise, or not at the piece in which the refusal shows.
-    fn tell_told(
-        &self,
-        alloc: Global,
-        streams: &Streams,
-        changed: Changed<'_>,
-        told_at: usize,
-    ) -> Result<()> {
-        let Changed {
-            stream,
-            number,
-            place,
-        } = changed;
-        for size in TOLD_PIECES {
             let disks = self.disks_beside(alloc, streams)?;
-            let (told, fed) = told_refusal(alloc, stream, disks, self.terms, size)?;
-            let end = told_at
-                .div_ceil(size)
-                .saturating_mul(size)
-                .min(stream.len());
-            let expected = (number, end);
-            ensure!(
-                (told, fed.unwrap_or(end)) == expected,
-                "pieces of {size} at {place}, with a digest that is told"
-            );
+            let told = refusal_in_pieces(alloc, stream, disks, self.terms, size)?;
+            ensure!(told == expected, "pieces of {size} at {place}");
+            if TOLD_PIECES.contains(&size) {
+                let disks = self.disks_beside(alloc, streams)?;
+                let (number, fed) = told_refusal(alloc, stream, disks, self.terms, size)?;
+                let told = (number, fed.unwrap_or(expected.1));
+                ensure!(
+                    told == expected,
+                    "a told digest, pieces of {size} at {place}"
+                );
+            }
         }
         Ok(())
     }

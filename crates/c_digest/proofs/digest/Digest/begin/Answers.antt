@@ -4,4 +4,4 @@ use Rattle.c_digest.proofs.digest.Digest.begin.Goals as goal
 
 pub returns : goal.returns
 unfolding hash_after
-returns c = (refl, (refl, refl))
+returns c = (refl, refl, (refl, refl))
