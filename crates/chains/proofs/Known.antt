@@ -1,5 +1,5 @@
 -- What is known of a RAM by the pieces that are held of it.
-use Rattle.std.specs.Prelude.{◌≡◌, ℕ, zero, suc, ◌+◌, ◌-◌, ◌*◌, ◌/◌, ◌%◌, ◌<◌, ◌≤◌, ◌==◌, ◌&&◌, nat_le, nat_lt, List, [], ◌∷◌, length, Bool, true, false, refl, if◌then◌else◌}
+use Rattle.std.specs.Prelude.{◌≡◌, ℕ, zero, suc, ◌+◌, ◌-◌, ◌*◌, ◌/◌, ◌%◌, ◌<◌, ◌≤◌, ◌==◌, ◌&&◌, nat_le, nat_lt, Option, Some, None, List, [], ◌∷◌, drop, length, Bool, true, false, refl, if◌then◌else◌}
 use Rattle.std.proofs.Common.{ap, sym, subst, ◌∙◌, arith, get_or}
 use Rattle.std.proofs.lemmas.Bool.{le-ltb, lt-leb, lt-ltb, eq-eqb}
 use Rattle.guestmem.specs.Address.{index_of}
@@ -9,7 +9,8 @@ use Rattle.chains.specs.declared.descriptor.Descriptor.{Descriptor}
 use Rattle.chains.specs.declared.lacking.Piece.{Piece}
 use Rattle.chains.specs.Descriptor.{decoded, descriptor_at, descriptor_in, words_of}
 use Rattle.chains.specs.declared.descriptor.Words.{Words}
-use Rattle.chains.specs.Footprint.{AgreeAt, AgreeOn, KnowsPiece, Knows, SlotsKnow, WalkKnows, is_available, packed_pieces, slot_pieces, whole_table, chain_pieces, entry_piece, index_piece, list_pieces, names_table, no_piece, split_pieces, table_pieces}
+use Rattle.chains.specs.Footprint.{AgreeAt, AgreeOn, KnowsPiece, Knows, is_available, packed_pieces, slot_pieces, whole_table, chain_pieces, entry_piece, index_piece, list_pieces, names_table, no_piece, split_pieces, table_pieces}
+use Rattle.chains.specs.Lacking.{IsLacking, LacksOr, LiesIn, LiesInNone, SlotsKnow, WalkKnows}
 use Rattle.chains.specs.declared.lacking.Walked.{Walked}
 use Rattle.chains.specs.declared.lacking.Walked.TheVariants.{Lacks, Ends, Breaks}
 
@@ -72,7 +73,7 @@ known_none behind held ram table entries (suc left) index is b h = absurd (omega
 -- A walk that goes on, whatever it comes to.
 pub walk_more : (held : List Piece) (ram : List ℕ) (table entries left less index : ℕ) (d : Descriptor) (w : Walked) → less ≡ left - 1 → d ≡ descriptor_at false ram table index → KnowsPiece held (entry_piece table index) → d.has_next ≡ true
     → WalkKnows held ram table entries less d.next w → WalkKnows held ram table entries left index w
-walk_more held ram table entries left less index d (Lacks piece) is same here goes rest = tt
+walk_more held ram table entries left less index d (Lacks piece) is same here goes rest = rest
 walk_more held ram table entries left less index d (Ends last) is same here goes rest = λ behind known. known_more behind held ram table entries left less index d is same here goes (rest behind known)
 walk_more held ram table entries left less index d Breaks is same here goes rest = λ behind. known_more behind held ram table entries left less index d is same here goes (rest behind)
 
@@ -139,7 +140,7 @@ slots_none behind held ram table size (suc left) slot is b h = absurd (omega (ar
 
 pub slots_walk : (held : List Piece) (ram : List ℕ) (table size left less slot : ℕ) (d : Descriptor) (w : Walked) → less ≡ left - 1 → d ≡ descriptor_at true ram table slot → KnowsPiece held (entry_piece table slot) → d.has_next ≡ true
     → SlotsKnow held ram table size less ((slot + 1) % size) w → SlotsKnow held ram table size left slot w
-slots_walk held ram table size left less slot d (Lacks piece) is same here goes rest = tt
+slots_walk held ram table size left less slot d (Lacks piece) is same here goes rest = rest
 slots_walk held ram table size left less slot d (Ends last) is same here goes rest = λ behind known. slots_more behind held ram table size left less slot d is same here goes (rest behind known)
 slots_walk held ram table size left less slot d Breaks is same here goes rest = λ behind. slots_more behind held ram table size left less slot d is same here goes (rest behind)
 
@@ -176,3 +177,18 @@ many_entries held ram q d many b h =
 -- An empty piece is known.
 pub none_known : (held : List Piece) (piece : Piece) → piece.count ≡ 0 → KnowsPiece held piece
 none_known held piece none = λ a b h k below. absurd (omega (arith, none, below))
+
+-- A piece that is lacking.
+pub is_lacking : (size : ℕ) (held : List Piece) (piece : Piece) → 0 < piece.count → piece.at + piece.count ≤ size → LiesInNone piece held → IsLacking size held piece
+is_lacking size held piece some inside fresh = record { some = some; inside = inside; fresh = fresh }
+
+-- What is known by the rest of a walk.
+pub lacks_then : {P Q : Type 0} (size : ℕ) (held : List Piece) (answer : Option Piece) → (P → Q) → LacksOr size held P answer → LacksOr size held Q answer
+lacks_then size held None f known = f known
+lacks_then size held (Some piece) f lacking = lacking
+
+pub none_behind : (piece : Piece) (held : List Piece) (i : ℕ) → length held ≤ i → LiesInNone piece (drop i held)
+none_behind piece [] zero few = tt
+none_behind piece [] (suc i) few = tt
+none_behind piece (p ∷ held) zero few = absurd (omega (arith, few))
+none_behind piece (p ∷ held) (suc i) few = none_behind piece held i (omega (arith, few))

@@ -7,8 +7,6 @@ use Rattle.chains.specs.declared.descriptor.Descriptor.{Descriptor}
 use Rattle.chains.specs.declared.descriptor.TheConstants.{DESCRIPTOR_SIZE}
 use Rattle.chains.specs.State.{RingState}
 use Rattle.chains.specs.declared.lacking.Piece.{Piece}
-use Rattle.chains.specs.declared.lacking.Walked.{Walked}
-use Rattle.chains.specs.declared.lacking.Walked.TheVariants.{Lacks, Ends, Breaks}
 use Rattle.chains.specs.Descriptor.{descriptor_at}
 use Rattle.chains.specs.SplitChain.{available_index, waiting, head}
 
@@ -122,16 +120,3 @@ quiet_word q =
     if q.is_packed then 0 ∷ 0 ∷ 1 ∷ 0 ∷ []
     else if q.has_event_index then (let next = (q.used.place + 1) % 65536 in next % 256 ∷ next / 256 ∷ [])
     else 1 ∷ 0 ∷ []
-
--- What is known once a walk of a list has stopped: all that it read. Where it came to the end of the list, that is all but what is read
--- after the last descriptor.
-abbrev pub WalkKnows : List Piece → List ℕ → ℕ → ℕ → ℕ → ℕ → Walked → Type 0
-WalkKnows held ram table entries room index (Lacks piece) = Unit {0}
-WalkKnows held ram table entries room index (Ends last) = (behind : Descriptor → List Piece) → Knows held ram (behind last) → Knows held ram (list_pieces behind ram table entries room index)
-WalkKnows held ram table entries room index Breaks = (behind : Descriptor → List Piece) → Knows held ram (list_pieces behind ram table entries room index)
-
--- The same of a walk of consecutive slots.
-abbrev pub SlotsKnow : List Piece → List ℕ → ℕ → ℕ → ℕ → ℕ → Walked → Type 0
-SlotsKnow held ram table size room slot (Lacks piece) = Unit {0}
-SlotsKnow held ram table size room slot (Ends last) = (behind : Descriptor → List Piece) → Knows held ram (behind last) → Knows held ram (slot_pieces behind ram table size room slot)
-SlotsKnow held ram table size room slot Breaks = (behind : Descriptor → List Piece) → Knows held ram (slot_pieces behind ram table size room slot)

@@ -19,3 +19,4 @@ pub mod Look
 pub mod Service
 pub mod Served
 pub mod Footprint
+pub mod Lacking

@@ -2,12 +2,13 @@
 //!
 //! A host whose guest runs copies pieces of the guest's memory into the RAM that a step is made over, one by one, as they are asked for here.
 //! The order is the rule: the driver's index, or the flags of a descriptor, is copied before what it hands over. These functions read what is
-//! held, and nothing else, and take no memory. `None` says that the look reads no byte beside those that are held. That a piece which is
-//! asked for lies inside RAM, and is not held, is how they are written; no clause says it.
+//! held, and nothing else, and take no memory. `None` says that the look reads no byte beside those that are held. A piece that is asked for
+//! lies inside RAM and in no piece that is held: so no piece is asked for twice, and a host that copies each comes to an end.
 
-ghost use Rattle.std.specs.Prelude.{◌≡◌, ◌+◌, ◌-◌, ◌*◌, ◌<◌, ◌≤◌, List, ℕ, IsTrue, None, drop, false, length, min, take, true};
+ghost use Rattle.std.specs.Prelude.{◌≡◌, ◌+◌, ◌-◌, ◌*◌, ◌<◌, ◌≤◌, List, ℕ, IsTrue, drop, false, length, min, take, true};
 ghost use Rattle.guestmem.specs.Address.{IsWithin, index_of};
-ghost use Rattle.chains.specs.Footprint.{AgreeAt, Knows, KnowsPiece, SlotsKnow, WalkKnows, chain_pieces, is_available, packed_pieces, place_pieces, slot_pieces, split_pieces, table_pieces, whole_table};
+ghost use Rattle.chains.specs.Footprint.{AgreeAt, KnowsPiece, chain_pieces, is_available, packed_pieces, place_pieces, slot_pieces, split_pieces, table_pieces, whole_table};
+ghost use Rattle.chains.specs.Lacking.{LiesIn, LiesInNone, SlotsKnow, TellsLacking, WalkKnows};
 ghost use Rattle.chains.specs.Places.{AreSegmentsInside, places};
 ghost use Rattle.chains.specs.RingCore.{core_state};
 ghost use Rattle.chains.specs.State.{HasAreas};
@@ -31,7 +32,8 @@ impl Piece {
     /// Whether another piece lies in this one.
     #[tactic(auto, using(crate::proofs::Known::lies_in))]
     fn has(&self, other: Piece) -> bool
-        ensures { IsTrue result → (a b : List ℕ) → AgreeAt a b self.now → AgreeAt a b other }
+        ensures known { IsTrue result → (a b : List ℕ) → AgreeAt a b self.now → AgreeAt a b other }
+        ensures outside { result ≡ false → LiesIn other self.now → ⊥ }
     {
         if other.at < self.at || self.count < other.count {
             return false;
@@ -43,7 +45,9 @@ impl Piece {
 /// Whether a piece lies in one of those that are held, or is empty.
 #[tactic(auto, using(crate::proofs::Known::one_held, crate::proofs::Known::none_known))]
 pub fn is_held(held: &[Piece], piece: Piece) -> bool
-    ensures { IsTrue result → KnowsPiece held.now piece }
+    ensures known { IsTrue result → KnowsPiece held.now piece }
+    ensures some { result ≡ false → 0 < piece.count }
+    ensures fresh { result ≡ false → LiesInNone piece held.now }
 {
     if piece.count == 0 {
         return true;
@@ -99,7 +103,7 @@ fn walk_held(held: &[Piece], ram: &Ram, table: u64, entries: u32, first: u16, ro
 /// The first piece that a look at a split queue lacks, if it lacks one.
 pub fn lacks_split(core: &RingCore, ram: &Ram, held: &[Piece]) -> Option<Piece>
     requires areas { HasAreas (length ram.now.bytes) (core_state false core.now) }
-    ensures { result ≡ None → Knows held.now ram.now.bytes (split_pieces ram.now.bytes (core_state false core.now)) }
+    ensures { TellsLacking held.now ram.now.bytes (split_pieces ram.now.bytes (core_state false core.now)) result }
 {
     ram.recall();
     let index = Piece {
@@ -122,7 +126,7 @@ pub fn lacks_split(core: &RingCore, ram: &Ram, held: &[Piece]) -> Option<Piece>
 /// The first piece that is lacking of the chain at the taking position of a split queue.
 fn lacks_chain(core: &RingCore, ram: &Ram, held: &[Piece]) -> Option<Piece>
     requires areas { HasAreas (length ram.now.bytes) (core_state false core.now) }
-    ensures { result ≡ None → Knows held.now ram.now.bytes (chain_pieces ram.now.bytes (core_state false core.now)) }
+    ensures { TellsLacking held.now ram.now.bytes (chain_pieces ram.now.bytes (core_state false core.now)) result }
 {
     ram.recall();
     let slot = core.taking.place % core.size;
@@ -150,7 +154,7 @@ fn lacks_chain(core: &RingCore, ram: &Ram, held: &[Piece]) -> Option<Piece>
 
 /// The first piece that is lacking of the table that the last descriptor of a list names, if it names one.
 fn lacks_table(core: &RingCore, ram: &Ram, held: &[Piece], last: Descriptor) -> Option<Piece>
-    ensures { result ≡ None → Knows held.now ram.now.bytes (table_pieces ram.now.bytes (core_state false core.now) last) }
+    ensures { TellsLacking held.now ram.now.bytes (table_pieces ram.now.bytes (core_state false core.now) last) result }
 {
     if !last.is_indirect || !core.has_indirect() || !is_table(&last, core.base, ram) {
         return None;
@@ -192,7 +196,7 @@ fn walk_slots(core: &RingCore, ram: &Ram, held: &[Piece]) -> Walked
 pub fn lacks_packed(core: &RingCore, ram: &Ram, held: &[Piece]) -> Option<Piece>
     requires areas { HasAreas (length ram.now.bytes) (core_state true core.now) }
     requires slot { core.now.taking.place < core.now.size }
-    ensures { result ≡ None → Knows held.now ram.now.bytes (packed_pieces ram.now.bytes (core_state true core.now)) }
+    ensures { TellsLacking held.now ram.now.bytes (packed_pieces ram.now.bytes (core_state true core.now)) result }
 {
     ram.recall();
     let first_entry = Piece {
@@ -224,7 +228,7 @@ fn is_available_at(descriptor: &Descriptor, wrap: bool) -> bool
 fn lacks_slots(core: &RingCore, ram: &Ram, held: &[Piece]) -> Option<Piece>
     requires areas { HasAreas (length ram.now.bytes) (core_state true core.now) }
     requires slot { core.now.taking.place < core.now.size }
-    ensures { result ≡ None → Knows held.now ram.now.bytes (slot_pieces (whole_table ram.now.bytes (core_state true core.now)) ram.now.bytes core.now.descriptors core.now.size core.now.size core.now.taking.place) }
+    ensures { TellsLacking held.now ram.now.bytes (slot_pieces (whole_table ram.now.bytes (core_state true core.now)) ram.now.bytes core.now.descriptors core.now.size core.now.size core.now.taking.place) result }
 {
     match walk_slots(core, ram, held) {
         Walked::Lacks(piece) => Some(piece),
@@ -235,7 +239,7 @@ fn lacks_slots(core: &RingCore, ram: &Ram, held: &[Piece]) -> Option<Piece>
 
 /// The table that the last descriptor of a packed chain names, if it is lacking. A table of more entries than there are slots is not read.
 fn lacks_entries(core: &RingCore, ram: &Ram, held: &[Piece], last: Descriptor) -> Option<Piece>
-    ensures { result ≡ None → Knows held.now ram.now.bytes (whole_table ram.now.bytes (core_state true core.now) last) }
+    ensures { TellsLacking held.now ram.now.bytes (whole_table ram.now.bytes (core_state true core.now) last) result }
 {
     if !last.is_indirect || !core.has_indirect() || !is_table(&last, core.base, ram) {
         return None;
@@ -264,7 +268,7 @@ pub fn lacks_bytes(
     count: u64,
 ) -> Option<Piece>
     requires inside { AreSegmentsInside base (length ram.now.bytes) segs.now }
-    ensures { result ≡ None → Knows held.now ram.now.bytes (place_pieces base (take count (drop skip (places segs.now)))) }
+    ensures { TellsLacking held.now ram.now.bytes (place_pieces base (take count (drop skip (places segs.now)))) result }
 {
     ram.recall();
     let mut skip = skip;

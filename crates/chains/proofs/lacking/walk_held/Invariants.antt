@@ -1,5 +1,5 @@
 use Rattle.std.proofs.Common.{◌-◌}
-use Rattle.chains.specs.Footprint.{WalkKnows}
+use Rattle.chains.specs.Lacking.{WalkKnows}
 use Rattle.chains.specs.declared.lacking.Walked.{Walked}
 use Rattle.chains.proofs.lacking.walk_held.Given as goal
 

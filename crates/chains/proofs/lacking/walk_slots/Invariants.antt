@@ -1,5 +1,5 @@
 use Rattle.std.proofs.Common.{◌-◌, ◌<◌}
-use Rattle.chains.specs.Footprint.{SlotsKnow}
+use Rattle.chains.specs.Lacking.{SlotsKnow}
 use Rattle.chains.specs.declared.lacking.Walked.{Walked}
 use Rattle.chains.proofs.lacking.walk_slots.Given as goal
 
