@@ -1,5 +1,5 @@
 -- What is known of a RAM by the pieces that are held of it.
-use Rattle.std.specs.Prelude.{◌≡◌, ℕ, zero, suc, ◌+◌, ◌-◌, ◌*◌, ◌/◌, ◌%◌, ◌<◌, ◌≤◌, ◌==◌, ◌&&◌, nat_le, nat_lt, Option, Some, None, List, [], ◌∷◌, drop, length, Bool, true, false, refl, if◌then◌else◌}
+use Rattle.std.specs.Prelude.{◌≡◌, ℕ, zero, suc, ◌+◌, ◌-◌, ◌*◌, ◌/◌, ◌%◌, ◌<◌, ◌≤◌, ◌==◌, ◌&&◌, nat_le, nat_lt, List, [], ◌∷◌, length, Bool, true, false, refl, if◌then◌else◌}
 use Rattle.std.proofs.Common.{ap, sym, subst, ◌∙◌, arith, get_or}
 use Rattle.std.proofs.lemmas.Bool.{le-ltb, lt-leb, lt-ltb, eq-eqb}
 use Rattle.guestmem.specs.Address.{index_of}
@@ -10,7 +10,7 @@ use Rattle.chains.specs.declared.lacking.Piece.{Piece}
 use Rattle.chains.specs.Descriptor.{decoded, descriptor_at, descriptor_in, words_of}
 use Rattle.chains.specs.declared.descriptor.Words.{Words}
 use Rattle.chains.specs.Footprint.{AgreeAt, AgreeOn, KnowsPiece, Knows, is_available, packed_pieces, slot_pieces, whole_table, chain_pieces, entry_piece, index_piece, list_pieces, names_table, no_piece, split_pieces, table_pieces}
-use Rattle.chains.specs.Lacking.{IsLacking, LacksOr, LiesIn, LiesInNone, SlotsKnow, WalkKnows}
+use Rattle.chains.specs.Lacking.{SlotsKnow, WalkKnows}
 use Rattle.chains.specs.declared.lacking.Walked.{Walked}
 use Rattle.chains.specs.declared.lacking.Walked.TheVariants.{Lacks, Ends, Breaks}
 
@@ -177,18 +177,3 @@ many_entries held ram q d many b h =
 -- An empty piece is known.
 pub none_known : (held : List Piece) (piece : Piece) → piece.count ≡ 0 → KnowsPiece held piece
 none_known held piece none = λ a b h k below. absurd (omega (arith, none, below))
-
--- A piece that is lacking.
-pub is_lacking : (size : ℕ) (held : List Piece) (piece : Piece) → 0 < piece.count → piece.at + piece.count ≤ size → LiesInNone piece held → IsLacking size held piece
-is_lacking size held piece some inside fresh = record { some = some; inside = inside; fresh = fresh }
-
--- What is known by the rest of a walk.
-pub lacks_then : {P Q : Type 0} (size : ℕ) (held : List Piece) (answer : Option Piece) → (P → Q) → LacksOr size held P answer → LacksOr size held Q answer
-lacks_then size held None f known = f known
-lacks_then size held (Some piece) f lacking = lacking
-
-pub none_behind : (piece : Piece) (held : List Piece) (i : ℕ) → length held ≤ i → LiesInNone piece (drop i held)
-none_behind piece [] zero few = tt
-none_behind piece [] (suc i) few = tt
-none_behind piece (p ∷ held) zero few = absurd (omega (arith, few))
-none_behind piece (p ∷ held) (suc i) few = none_behind piece held i (omega (arith, few))

@@ -18,4 +18,5 @@ pub mod LookFootprint
 pub mod ServiceFootprint
 pub mod QuietWord
 mod Known
+pub mod LackLaws
 mod KnownParts

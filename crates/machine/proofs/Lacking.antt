@@ -3,6 +3,7 @@ use Rattle.std.specs.Prelude.{◌≡◌, ◌≢◌, ℕ, zero, suc, ◌-◌, ◌
 use Rattle.std.proofs.Common.{ap, sym, subst, ◌∙◌, arith}
 use Rattle.chains.specs.Footprint.{AgreeOn, Knows, look_pieces, place_pieces}
 use Rattle.chains.specs.Gives.{Gives}
+use Rattle.chains.specs.Lacking.{LacksOr}
 use Rattle.chains.specs.Look.{fits, seen_as}
 use Rattle.chains.specs.Places.{places}
 use Rattle.chains.specs.Ring.{Answers}
@@ -16,6 +17,7 @@ use Rattle.chains.specs.declared.next_kind.NextKind.{NextKind}
 use Rattle.chains.specs.declared.next_kind.NextKind.TheVariants as kinds
 use Rattle.chains.specs.declared.position.Positions.{Positions}
 use Rattle.chains.proofs.ChainLaws.{answer_same}
+use Rattle.chains.proofs.LackLaws.{lacks_then}
 use Rattle.mmio.specs.State.{queue_at}
 use Rattle.mmio.specs.declared.queue.Queue.{Queue}
 use Rattle.guestmem.specs.Memory.{Memory}
@@ -182,9 +184,9 @@ none_read held m ds dev pick h =
     let There : Option DeviceState → Type 0 = λ f. (o : Outcome) (seen : Next) → MaySeeAt f m.bytes pick o seen → Knows held m.bytes (reads_of f m.bytes pick o seen) in
     subst There (sym (past ds dev h)) (λ o seen may b ok. tt)
 
-pub if_known : {E : Type 0} (P Q : Type 0) (result : Result (Option Piece) E) → (P → Q) → IfOk result (λ lacking. lacking ≡ None → P) → IfOk result (λ lacking. lacking ≡ None → Q)
-if_known P Q (Ok lacking) f known = λ none. f (known none)
-if_known P Q (Err error) f known = known
+pub if_known : {E : Type 0} (P Q : Type 0) (size : ℕ) (held : List Piece) (result : Result (Option Piece) E) → (P → Q) → IfOk result (LacksOr size held P) → IfOk result (LacksOr size held Q)
+if_known P Q size held (Ok lacking) f known = lacks_then size held lacking f known
+if_known P Q size held (Err error) f known = known
 
 pub advanced_blocks : (d : DeviceState) (held : List Piece) (ram : List ℕ) (pick : ℕ) (block : blocks.Block) → d.kind ≡ Block block → looked_at d pick ≡ None → Knows held ram (advance_pieces d.registers.ram_base (slice_get block.requests (pick - 1))) → KnowsDevice held d ram pick
 advanced_blocks d held ram pick block is none known = advanced_known d held ram pick none (rw is known)

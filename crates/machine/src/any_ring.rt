@@ -4,7 +4,8 @@
 //! neither. This type keeps the ring of a queue and is no `Ring` itself: each of its calls would tell the layout apart again.
 
 ghost use Rattle.std.specs.Prelude.{◌≡◌, ◌<◌, ◌≤◌, ◌^◌, ℕ, List, take, true, false, length, None};
-ghost use Rattle.chains.specs.Footprint.{Knows, event_piece, look_pieces, quiet_word};
+ghost use Rattle.chains.specs.Footprint.{event_piece, look_pieces, quiet_word};
+ghost use Rattle.chains.specs.Lacking.{TellsLacking};
 ghost use Rattle.chains.specs.Gives.{Gives, GivesBounded};
 ghost use Rattle.chains.specs.Publish.{after_take, is_interrupt_due};
 ghost use Rattle.chains.specs.RingCore.{core_state};
@@ -99,7 +100,7 @@ impl AnyRing {
     /// The first piece of RAM that a look lacks, where these pieces are held, if it lacks one.
     pub fn lacks(&self, ram: &Ram, held: &[Piece]) -> Option<Piece>
         requires { HasAreas (length ram.now.bytes) (ring_in self.now) }
-        ensures { result ≡ None → Knows held.now ram.now.bytes (look_pieces ram.now.bytes (ring_in self.now)) }
+        ensures { TellsLacking held.now ram.now.bytes (look_pieces ram.now.bytes (ring_in self.now)) result }
     {
         match self {
             AnyRing::Split(ring) => ring.lacks(ram, held),

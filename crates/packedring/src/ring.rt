@@ -5,10 +5,11 @@
 
 mod word;
 
-ghost use Rattle.std.specs.Prelude.{◌≡◌, ◌≤◌, ◌<◌, ◌+◌, ◌++◌, true, length, IsTrue, ◌↔◌, None};
+ghost use Rattle.std.specs.Prelude.{◌≡◌, ◌≤◌, ◌<◌, ◌+◌, ◌++◌, true, length, IsTrue, ◌↔◌};
 ghost use Rattle.guestmem.specs.Memory.{Memory};
 ghost use Rattle.chains.specs.Decoder.{Fits, empty_decoder};
-ghost use Rattle.chains.specs.Footprint.{Knows, look_pieces};
+ghost use Rattle.chains.specs.Footprint.{look_pieces};
+ghost use Rattle.chains.specs.Lacking.{TellsLacking};
 ghost use Rattle.chains.specs.RingCore.{core_state};
 ghost use Rattle.chains.specs.State.{state_of, MayRing, HasAreas};
 ghost use Rattle.chains.specs.PackedChain.{IsAvailable};
@@ -122,7 +123,7 @@ impl PackedRing {
     /// The first piece of RAM that a look lacks, where these pieces are held, if it lacks one.
     pub fn lacks(&self, ram: &Ram, held: &[Piece]) -> Option<Piece>
         requires { HasAreas (length ram.now.bytes) self.now.state }
-        ensures { result ≡ None → Knows held.now ram.now.bytes (look_pieces ram.now.bytes self.now.state) }
+        ensures { TellsLacking held.now ram.now.bytes (look_pieces ram.now.bytes self.now.state) result }
     {
         lacks_packed(&self.core, ram, held)
     }

@@ -2,10 +2,11 @@
 
 mod word;
 
-ghost use Rattle.std.specs.Prelude.{◌≡◌, ◌+◌, ◌++◌, ◌≤◌, false, length, None};
+ghost use Rattle.std.specs.Prelude.{◌≡◌, ◌+◌, ◌++◌, ◌≤◌, false, length};
 ghost use Rattle.guestmem.specs.Memory.{Memory};
 ghost use Rattle.chains.specs.Decoder.{Fits, HasDecoded, empty_decoder};
-ghost use Rattle.chains.specs.Footprint.{Knows, look_pieces};
+ghost use Rattle.chains.specs.Footprint.{look_pieces};
+ghost use Rattle.chains.specs.Lacking.{TellsLacking};
 ghost use Rattle.chains.specs.RingCore.{core_state};
 ghost use Rattle.chains.specs.State.{state_of, MayRing, HasAreas};
 ghost use Rattle.chains.specs.SplitChain.{available_index};
@@ -126,7 +127,7 @@ impl SplitRing {
     /// The first piece of RAM that a look lacks, where these pieces are held, if it lacks one.
     pub fn lacks(&self, ram: &Ram, held: &[Piece]) -> Option<Piece>
         requires { HasAreas (length ram.now.bytes) self.now.state }
-        ensures { result ≡ None → Knows held.now ram.now.bytes (look_pieces ram.now.bytes self.now.state) }
+        ensures { TellsLacking held.now ram.now.bytes (look_pieces ram.now.bytes self.now.state) result }
     {
         lacks_split(&self.core, ram, held)
     }

@@ -3,7 +3,7 @@
 
 ghost use Rattle.std.specs.Prelude.{◌≡◌, ◌==◌, ◌<◌, ◌^◌, IfOk, None, Some, if◌then◌else◌, length};
 ghost use Rattle.chains.specs.Decoder.{Fits};
-ghost use Rattle.chains.specs.Footprint.{Knows};
+ghost use Rattle.chains.specs.Lacking.{LacksOr, TellsLacking};
 ghost use Rattle.chains.specs.Places.{AreSegmentsInside, places};
 ghost use Rattle.machine.specs.AnyRing.{decoder_in, ring_in};
 ghost use Rattle.machine.specs.DeviceStep.{looked_at};
@@ -35,7 +35,7 @@ impl DeviceState {
         held: &[Piece],
     ) -> Result<Option<Piece>, NoMemory>
         requires sound { IsSoundDevice self.now.registers.ram_base (length ram.now.bytes) self.now }
-        ensures { IfOk result (λ lacking. lacking ≡ None → KnowsDevice held.now self.now ram.now.bytes pick) }
+        ensures { IfOk result (LacksOr (length ram.now.bytes) held.now (KnowsDevice held.now self.now ram.now.bytes pick)) }
     {
         let mut ring = AnyRing::new(alloc);
         if self.looked_ring(alloc, pick, &mut ring) {
@@ -56,7 +56,7 @@ impl DeviceState {
         requires sound { IsSoundDevice self.now.registers.ram_base (length ram.now.bytes) self.now }
         requires looked { looked_at self.now pick ≡ Some (ring_in ring.old) }
         requires fits { Fits (decoder_in ring.old) ram.now }
-        ensures { IfOk result (λ lacking. lacking ≡ None → KnowsDevice held.now self.now ram.now.bytes pick) }
+        ensures { IfOk result (LacksOr (length ram.now.bytes) held.now (KnowsDevice held.now self.now ram.now.bytes pick)) }
     {
         if let Some(piece) = ring.lacks(ram, held) {
             return Ok(Some(piece));
@@ -74,7 +74,7 @@ impl DeviceState {
     fn lacks_chain(&self, pick: u8, ram: &Ram, chain: &Chain, held: &[Piece]) -> Option<Piece>
         requires inside { AreSegmentsInside self.now.registers.ram_base (length ram.now.bytes) chain.now.readable }
         requires total { length (places chain.now.readable) < 2 ^ 32 }
-        ensures { result ≡ None → Knows held.now ram.now.bytes (chain_reads self.now.kind pick self.now.registers.ram_base chain.now) }
+        ensures { TellsLacking held.now ram.now.bytes (chain_reads self.now.kind pick self.now.registers.ram_base chain.now) result }
     {
         let base = self.registers.ram_base();
         let count = most_read(&self.kind, pick);
@@ -85,7 +85,7 @@ impl DeviceState {
     fn lacks_advanced(&self, pick: u8, ram: &Ram, held: &[Piece]) -> Option<Piece>
         requires sound { IsSoundDevice self.now.registers.ram_base (length ram.now.bytes) self.now }
         requires unlooked { looked_at self.now pick ≡ None }
-        ensures { result ≡ None → KnowsDevice held.now self.now ram.now.bytes pick }
+        ensures { LacksOr (length ram.now.bytes) held.now (KnowsDevice held.now self.now ram.now.bytes pick) result }
     {
         if !self.advances(pick) {
             return None;

@@ -4,9 +4,10 @@
 //! page of which the step only reads does not become dirty: where its bytes are not those of the history, the guest wrote it, and the return
 //! names it.
 
-ghost use Rattle.std.specs.Prelude.{◌≡◌, ◌*◌, IfOk, None, length};
+ghost use Rattle.std.specs.Prelude.{◌≡◌, ◌*◌, IfOk, length};
 ghost use Rattle.region.specs.Address.{address};
 ghost use Rattle.guestmem.specs.declared.limits.TheConstants.{PAGE_SIZE};
+ghost use Rattle.chains.specs.Lacking.{LacksOr};
 ghost use Rattle.machine.specs.Beside.{KnowsReads, window_memory};
 ghost use Rattle.machine.specs.Parked.{back_with};
 ghost use Rattle.machine.specs.Seen.{state_of};
@@ -30,7 +31,7 @@ impl<D: Disk, W: Digesting> LiveParked<D, W> {
         held: &[Piece],
     ) -> (Result<Option<Piece>, NoMemory>, Region, LiveParked<D, W>)
         requires size { length window.content ≡ PAGE_SIZE * length self.parked.versions }
-        ensures known { IfOk result.0 (λ lacking. lacking ≡ None → KnowsReads held.now (state_of (back_with self.parked (window_memory self.parked window))) dev pick) }
+        ensures lacking { IfOk result.0 (LacksOr (length window.content) held.now (KnowsReads held.now (state_of (back_with self.parked (window_memory self.parked window))) dev pick)) }
         ensures content { result.1.content ≡ window.content }
         ensures place { address result.1 ≡ address window }
         ensures machine { result.2 ≡ self }

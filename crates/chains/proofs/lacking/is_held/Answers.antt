@@ -1,8 +1,8 @@
-use Rattle.std.proofs.Common.{◌≡◌, ◌+◌, ◌∷◌, List, drop, get_or, refl, subst, sym}
+use Rattle.std.proofs.Common.{◌≡◌, ◌+◌, ◌∷◌, drop, get_or, subst, sym}
 use Rattle.std.proofs.lemmas.List.{drop_more}
 use Rattle.chains.specs.declared.lacking.Piece.{Piece}
 use Rattle.chains.specs.Lacking.{LiesInNone}
-use Rattle.chains.proofs.Known.{none_behind}
+use Rattle.chains.proofs.LackLaws.{none_behind}
 use Rattle.chains.proofs.lacking.is_held.Goals as goal
 
 pub loop-one-preserved : goal.loop-one-preserved

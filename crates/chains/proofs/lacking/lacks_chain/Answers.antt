@@ -2,7 +2,7 @@ use Rattle.std.proofs.Common.{false, length, refl, subst, ◌≡◌, ℕ}
 use Rattle.chains.specs.Footprint.{Knows, list_pieces, table_pieces}
 use Rattle.chains.specs.RingCore.{core_state}
 use Rattle.chains.specs.SplitChain.{head}
-use Rattle.chains.proofs.Known.{lacks_then}
+use Rattle.chains.proofs.LackLaws.{lacks_then}
 use Rattle.chains.proofs.lacking.lacks_chain.Goals as goal
 
 pub returns-in-Breaks : goal.returns-in-Breaks
@@ -21,5 +21,5 @@ returns-in-Ends c =
     let first : c.u16_at-first.result ≡ head ram q = c.u16_at-first.ensures in
     let Walks : ℕ → Type 0 = λ index. Knows held ram (list_pieces (table_pieces ram q) ram q.descriptors q.size q.size index) in
     lacks_then (length ram) held c.lacks_table.result
-        (λ table b h. (c.if-not-is_held.ensures.known refl ram b h, subst Walks first (c.in-Ends.ensures (table_pieces ram q) table) b h))
-        c.lacks_table.ensures
+    (λ table b h. (c.if-not-is_held.ensures.known refl ram b h, subst Walks first (c.in-Ends.ensures (table_pieces ram q) table) b h))
+    c.lacks_table.ensures

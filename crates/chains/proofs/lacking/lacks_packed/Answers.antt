@@ -1,6 +1,7 @@
 use Rattle.std.proofs.Common.{length, true, refl, sym, ◌∙◌}
 use Rattle.chains.specs.RingCore.{core_state}
-use Rattle.chains.proofs.Known.{known_slots, lacks_then, known_waiting, read_packed}
+use Rattle.chains.proofs.Known.{known_slots, known_waiting, read_packed}
+use Rattle.chains.proofs.LackLaws.{lacks_then}
 use Rattle.chains.proofs.lacking.lacks_packed.Goals as goal
 
 pub returns-then-not-is_available_at : goal.returns-then-not-is_available_at

@@ -1,7 +1,7 @@
 use Rattle.std.proofs.Common.{length, true}
 use Rattle.chains.specs.Footprint.{whole_table}
 use Rattle.chains.specs.RingCore.{core_state}
-use Rattle.chains.proofs.Known.{lacks_then}
+use Rattle.chains.proofs.LackLaws.{lacks_then}
 use Rattle.chains.proofs.lacking.lacks_slots.Goals as goal
 
 pub returns-in-Breaks : goal.returns-in-Breaks

@@ -1,6 +1,7 @@
 use Rattle.std.proofs.Common.{false, length, refl}
 use Rattle.chains.specs.RingCore.{core_state}
-use Rattle.chains.proofs.Known.{known_chain, lacks_then}
+use Rattle.chains.proofs.Known.{known_chain}
+use Rattle.chains.proofs.LackLaws.{lacks_then}
 use Rattle.chains.proofs.lacking.lacks_split.Goals as goal
 
 pub returns : goal.returns

@@ -9,9 +9,10 @@
 //! for no interrupt: it is open then, and `Parked::end` raises the interrupt if the word that was read asks for it. Where the window has the
 //! true word, the step is closed at once.
 
-ghost use Rattle.std.specs.Prelude.{◌≡◌, ◌*◌, IfOk, None, length};
+ghost use Rattle.std.specs.Prelude.{◌≡◌, ◌*◌, IfOk, length};
 ghost use Rattle.region.specs.Address.{address};
 ghost use Rattle.guestmem.specs.declared.limits.TheConstants.{PAGE_SIZE};
+ghost use Rattle.chains.specs.Lacking.{LacksOr};
 ghost use Rattle.machine.specs.Applied.{MayItems};
 ghost use Rattle.machine.specs.Asked.{StepAsks};
 ghost use Rattle.machine.specs.Beside.{IsLoggedOver, KnowsReads, ended, window_memory};
@@ -31,7 +32,7 @@ use region::Region;
 impl<D: Disk> Machine<D> {
     /// The first piece of RAM that the step of this pick lacks, where these pieces are held, if it lacks one.
     fn lacks(&self, dev: u8, pick: u8, held: &[Piece]) -> Result<Option<Piece>, NoMemory>
-        ensures { IfOk result (λ lacking. lacking ≡ None → KnowsReads held.now (state_of self.now) dev pick) }
+        ensures { IfOk result (LacksOr (length self.now.memory.bytes) held.now (KnowsReads held.now (state_of self.now) dev pick)) }
     {
         let dev = dev as usize;
         if dev >= self.devices.len() {
@@ -58,8 +59,9 @@ impl<D: Disk> Machine<D> {
 
 impl<D: Disk> Parked<D> {
     /// The first piece of RAM that the step of this pick lacks, if it lacks one, where these pieces are held: they were copied into the
-    /// window. The driver's word about interrupts is not asked for. Copy the piece, add it to those that are held, and ask again. Window and
-    /// machine are handed out as they were. Memory may be refused, as it is for the step.
+    /// window. The driver's word about interrupts is not asked for. Copy the piece, add it to those that are held, and ask again. The piece lies
+    /// inside RAM and in none of those that are held, so this comes to an end. Window and machine are handed out as they were. Memory may be
+    /// refused, as it is for the step.
     pub fn lacks(
         self,
         window: Region,
@@ -68,7 +70,7 @@ impl<D: Disk> Parked<D> {
         held: &[Piece],
     ) -> (Result<Option<Piece>, NoMemory>, Region, Parked<D>)
         requires size { length window.content ≡ PAGE_SIZE * length self.versions }
-        ensures known { IfOk result.0 (λ lacking. lacking ≡ None → KnowsReads held.now (state_of (back_with self (window_memory self window))) dev pick) }
+        ensures lacking { IfOk result.0 (LacksOr (length window.content) held.now (KnowsReads held.now (state_of (back_with self (window_memory self window))) dev pick)) }
         ensures content { result.1.content ≡ window.content }
         ensures place { address result.1 ≡ address window }
         ensures machine { result.2 ≡ self }

@@ -1,4 +1,5 @@
 use Rattle.std.proofs.Common.{length}
+use Rattle.chains.proofs.LackLaws.{lacks_then}
 use Rattle.machine.proofs.DiskAnswers.{requests_sound}
 use Rattle.machine.proofs.Lacking.{advanced_blocks, advanced_outside, block_sound}
 use Rattle.machine.proofs.Stepping.{held_device}
@@ -15,13 +16,19 @@ lacks-requires-in-Outside c =
     rw c.ram_base-base.ensures (record { sound = requests_sound (length c.args.ram.now.bytes) (held_device i.kind i.registers i.positions) c.in-Outside.block c.in-Outside.is (rw (← c.self.view_is) at c.requires.sound) })
 
 pub returns-in-Block : goal.returns-in-Block
-returns-in-Block c = λ none.
+returns-in-Block c =
     let i = c.self.inside in
     let d = held_device i.kind i.registers i.positions in
-    rw (← c.self.view_is) (advanced_blocks d c.args.held.now c.args.ram.now.bytes c.args.pick c.in-Block.block c.in-Block.is (rw (← c.self.view_is) at c.requires.unlooked) (rw c.ram_base-base.ensures at (c.lacks.ensures none)))
+    let ram = c.args.ram.now.bytes in
+    let held = c.args.held.now in
+    let known = advanced_blocks d held ram c.args.pick c.in-Block.block c.in-Block.is (rw (← c.self.view_is) at c.requires.unlooked) in
+    rw (← c.self.view_is) (lacks_then (length ram) held c.lacks.result known (rw c.ram_base-base.ensures at c.lacks.ensures))
 
 pub returns-in-Outside : goal.returns-in-Outside
-returns-in-Outside c = λ none.
+returns-in-Outside c =
     let i = c.self.inside in
     let d = held_device i.kind i.registers i.positions in
-    rw (← c.self.view_is) (advanced_outside d c.args.held.now c.args.ram.now.bytes c.args.pick c.in-Outside.block c.in-Outside.is (rw (← c.self.view_is) at c.requires.unlooked) (rw c.ram_base-base.ensures at (c.lacks-in-Outside.ensures none)))
+    let ram = c.args.ram.now.bytes in
+    let held = c.args.held.now in
+    let known = advanced_outside d held ram c.args.pick c.in-Outside.block c.in-Outside.is (rw (← c.self.view_is) at c.requires.unlooked) in
+    rw (← c.self.view_is) (lacks_then (length ram) held c.lacks-in-Outside.result known (rw c.ram_base-base.ensures at c.lacks-in-Outside.ensures))

@@ -1,8 +1,8 @@
 use Rattle.machine.proofs.Beside.{lent_again, place_again}
 use Rattle.machine.proofs.machine.lending.Parked.lacks.Goals as goal
 
-pub returns-clause-known : goal.returns-clause-known
-returns-clause-known g c = rw c.give_back-machine.ensures.machine at c.lacks-lacking.ensures
+pub returns-clause-lacking : goal.returns-clause-lacking
+returns-clause-lacking g c = rw c.give_back-machine.ensures.machine at c.lacks-lacking.ensures
 
 pub returns-clause-content : goal.returns-clause-content
 returns-clause-content g c = rw c.give_back-machine.ensures.machine at c.in-Ok.ensures.lent.lent.bytes
