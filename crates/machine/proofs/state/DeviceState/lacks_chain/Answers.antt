@@ -16,5 +16,5 @@ returns c =
     let base : c.ram_base-base.result ≡ d.registers.ram_base = c.ram_base-base.ensures ∙ ap (λ (d : DeviceState). d.registers.ram_base) c.self.view_is in
     let covers : CoversReads d.kind c.args.pick c.most_read-count.result = subst (λ (k : Kind). CoversReads k c.args.pick c.most_read-count.result) (ap (λ (d : DeviceState). d.kind) c.self.view_is) c.most_read-count.ensures in
     lacks_then (length c.args.ram.now.bytes) c.args.held.now c.lacks_bytes.result
-        (covers c.args.held.now c.args.ram.now.bytes d.registers.ram_base c.args.chain.now c.requires.total)
-        (rw (base, c.as_slice.ensures) at c.lacks_bytes.ensures)
+    (covers c.args.held.now c.args.ram.now.bytes d.registers.ram_base c.args.chain.now c.requires.total)
+    (rw (base, c.as_slice.ensures) at c.lacks_bytes.ensures)

@@ -39,5 +39,5 @@ returns c =
     let held = c.args.held.now in
     let look_known = all_known (length ram) held c.lacks.result c.in_default.is c.lacks.ensures in
     lacks_then (length ram) held c.lacks_chain.result
-        (a_chain c.args.self.now held ram c.args.pick q c.next_into.result c.next_into.new.chain c.requires.looked c.next_into.ensures.gives c.in-Chain.is look_known)
-        (rw base at c.lacks_chain.ensures)
+    (a_chain c.args.self.now held ram c.args.pick q c.next_into.result c.next_into.new.chain c.requires.looked c.next_into.ensures.gives c.in-Chain.is look_known)
+    (rw base at c.lacks_chain.ensures)
