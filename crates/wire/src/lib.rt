@@ -43,6 +43,7 @@ mod kind_reading;
 pub mod laws;
 mod lengths;
 mod numbers;
+mod past;
 mod record;
 mod record_head;
 mod registers_text;
@@ -52,6 +53,7 @@ mod sector_writing;
 mod shape_spelling;
 mod sink;
 mod size_text;
+mod telling;
 mod waiting;
 mod writing;
 
@@ -75,6 +77,7 @@ pub use record_head::{
 pub use sector_writing::encode_sector;
 pub use shape_spelling::{shape_at, shape_len};
 pub use sink::{Sink, SinkFault, WriteSink};
+pub use telling::Told;
 pub use waiting::Waiting;
 pub use writing::{
     encode_commit, encode_device, encode_header, encode_page, encode_round, encode_zero_page,

@@ -1,0 +1,40 @@
+//! Bytes that were put into a sink and that it no longer has. They exist only in proofs.
+
+ghost use Rattle.std.specs.Prelude.{◌≡◌, ◌++◌, List, ℕ, []};
+ghost use Rattle.std.specs.Coded.{coded_list, coded_ℕ};
+ghost use base.Fml.{ftrue};
+
+use std::marker::Model;
+
+/// Bytes that exist only in proofs.
+#[derive(Drop)]
+pub(crate) struct Past {
+    pub ghost bytes: { List ℕ } by { coded_list coded_ℕ },
+}
+
+impl Model for Past {
+    ghost also_owns = { λ _. ftrue };
+}
+
+/// Bytes that follow.
+#[derive(Clone, Copy, Drop)]
+pub(crate) struct Piece<'a> {
+    pub(crate) bytes: &'a [u8],
+}
+
+impl Past {
+    /// None.
+    pub(crate) fn new() -> Past
+        ensures { result.bytes ≡ [] }
+    {
+        Past {}
+    }
+
+    /// These, and the piece after them.
+    #[inline(always)]
+    pub(crate) fn then(&self, _piece: &Piece<'_>) -> Past
+        ensures { result.bytes ≡ self.now.bytes ++ _piece.now.bytes.now }
+    {
+        Past {}
+    }
+}
