@@ -1,4 +1,4 @@
-//! Sinks that digest what they take.
+//! Sinks that close a stream by the digest of what they took.
 
 ghost use Rattle.std.specs.Prelude.{◌≡◌, List, ℕ};
 ghost use Rattle.sha2.specs.Hashers.{Holds256};
@@ -9,12 +9,13 @@ use crate::writing::encode_commit;
 use sha2::{Digest, Sha256};
 use std::mem;
 
-/// A sink that digests what it takes. When it does so is its own affair: one that keeps its bytes may do it later than at the
-/// `put`, at the latest when the digest is asked for.
+/// A sink that closes a stream by the digest of what it took. Who digests, and when, is its own affair: one that keeps its bytes may do it
+/// later than at the `put`, at the latest when the stream is closed, or be told the digest after that.
 pub trait Digesting: Sink {
     ghost use Rattle.wire.specs.Sinks.{Seals};
 
-    /// Puts the record that closes a stream: the digest of what was put since it was begun.
+    /// Appends the record that closes a stream: the digest of what was put since it was begun. Whatever it does to the digest, nothing more
+    /// belongs to that stream.
     fn seal(&mut self) -> Result<(), SinkFault>
         ensures { Seals (Self.sum self.old) (Self.state self.old) result (Self.state self.new) };
 }

@@ -1,4 +1,4 @@
-//! Bytes that were put into a sink and that it no longer has. They exist only in proofs.
+//! Bytes that were put into a sink, or worked off, and that no one has any more. They exist only in proofs.
 
 ghost use Rattle.std.specs.Prelude.{◌≡◌, ◌++◌, List, ℕ, []};
 ghost use Rattle.std.specs.Coded.{coded_list, coded_ℕ};
@@ -8,7 +8,7 @@ use std::marker::Model;
 
 /// Bytes that exist only in proofs.
 #[derive(Drop)]
-pub(crate) struct Past {
+pub struct Past {
     pub ghost bytes: { List ℕ } by { coded_list coded_ℕ },
 }
 
@@ -18,13 +18,13 @@ impl Model for Past {
 
 /// Bytes that follow.
 #[derive(Clone, Copy, Drop)]
-pub(crate) struct Piece<'a> {
-    pub(crate) bytes: &'a [u8],
+pub struct Piece<'a> {
+    pub bytes: &'a [u8],
 }
 
 impl Past {
     /// None.
-    pub(crate) fn new() -> Past
+    pub fn new() -> Past
         ensures { result.bytes ≡ [] }
     {
         Past {}
@@ -32,7 +32,7 @@ impl Past {
 
     /// These, and the piece after them.
     #[inline(always)]
-    pub(crate) fn then(&self, _piece: &Piece<'_>) -> Past
+    pub fn then(&self, _piece: &Piece<'_>) -> Past
         ensures { result.bytes ≡ self.now.bytes ++ _piece.now.bytes.now }
     {
         Past {}

@@ -1,41 +1,46 @@
-//! A sink whose bytes wait until they are taken, and which digests nothing: whoever takes them does, and tells it.
+//! A sink whose bytes wait until they are taken, and which digests nothing: whoever takes them does, and tells the digest.
 //!
 //! A stream is closed by `seal` as ever. The record of the digest is then owed: as a sink it holds it already, and it can be taken once the
 //! digest was told. So the digest is made where and when the host likes, of the very bytes that it took.
+//!
+//! A slow reader makes no call fail: a put fails only if memory is refused, or once the stream is closed. Taking n bytes costs O(n),
+//! amortized; the memory can hold up to twice what waits.
 
-ghost use Rattle.std.specs.Prelude.{◌≡◌, ◌++◌, ◌+◌, ◌%◌, ◌^◌, IsErr, OnOk, [], drop, false, length, min, take, true};
+ghost use Rattle.std.specs.Prelude.{◌≡◌, ◌++◌, ◌+◌, ◌%◌, ◌^◌, IsErr, [], drop, false, length, min, take, true};
 ghost use Rattle.sha2.specs.Sha256.{sha256};
+ghost use Rattle.wire.specs.Records.{commit, spelled_record};
 ghost use Rattle.wire.specs.Telling.{Gains, IsTold};
 
 use crate::digesting::Digesting;
 use crate::past::{Past, Piece};
-use crate::record_head::COMMIT_TAG;
+use crate::record_head::{COMMIT_RECORD, COMMIT_TAG};
 use crate::sink::{Sink, SinkFault};
-use std::alloc::{AllocError, Global};
+use std::alloc::Global;
 use std::marker::Model;
 
-/// Bytes that wait until they are taken, as in a `Waiting`. Their digest is told.
+/// Bytes that wait until they are taken, as in a `Waiting`, and whose digest is told.
 #[derive(Drop)]
 pub struct Told {
     bytes: Vec<u8>,
     gone: usize,
     // All that was put.
     past: Past,
-    // The record of the digest comes after the bytes, and was not told yet.
+    // The record of the digest comes after the bytes, and the digest was not told yet. The vector has room for it.
     owed: bool,
     failed: u64,
     flushed: bool,
 }
 
 impl Model for Told {
-    ghost use Rattle.std.specs.Prelude.{◌≤◌, drop, length};
+    ghost use Rattle.std.specs.Prelude.{◌≡◌, ◌+◌, ◌≤◌, drop, length, true, vec_capacity, vec_len};
     ghost use Rattle.wire.specs.Telling.{ToldSeen};
+    ghost use Rattle.wire.specs.declared.record_head.TheConstants.{COMMIT_RECORD};
 
     ghost Value = { ToldSeen };
 
     ghost view = { λ w. record { ready = drop w.gone w.bytes.items; owed = w.owed; past = w.past.bytes; failures = w.failed; is_flushed = w.flushed } };
 
-    ghost invariant = { λ w. w.gone ≤ length w.bytes.items };
+    ghost invariant = { λ w. (w.gone ≤ length w.bytes.items) × (w.owed ≡ true → vec_len w.bytes + COMMIT_RECORD ≤ vec_capacity w.bytes) };
 }
 
 impl Told {
@@ -77,21 +82,24 @@ impl Told {
         self.owed
     }
 
-    /// The digest of all that was put, of a stream that was closed. What it holds as a sink is the same after it; now all of it can be taken.
-    /// Fails only if memory is refused.
-    pub fn tell(&mut self, digest: &[u8; 32]) -> Result<(), AllocError>
+    /// The digest of all that was put, once the stream was closed and while its record is owed. What it holds as a sink is the same after it;
+    /// now all of it can be taken. It takes no memory: the record's is there since the stream was closed.
+    pub fn tell(&mut self, digest: &[u8; 32])
         requires owed { self.old.owed ≡ true }
         requires digest { digest.now ≡ sha256 self.old.past }
-        ensures told { OnOk result (IsTold self.old self.new) }
+        ensures { IsTold self.old self.new }
     {
-        self.bytes.push(COMMIT_TAG)?;
-        self.bytes.extend_from_slice(digest)?;
+        let record = commit_bytes(digest);
+        let Ok(()) = self.bytes.extend_from_slice(&record) else {
+            unreachable!()
+        };
+        self.past = self.past.then(&Piece { bytes: &record });
         self.owed = false;
-        Ok(())
     }
 
     /// Removes the bytes that were taken, if they are at least as many as those that wait.
     fn let_go(&mut self)
+        requires { self.old.owed ≡ false }
         ensures { self.new ≡ self.old }
     {
         let gone = self.gone;
@@ -103,6 +111,7 @@ impl Told {
 
     /// Adds bytes that can be taken.
     fn gain(&mut self, bytes: &[u8]) -> Result<(), SinkFault>
+        requires { self.old.owed ≡ false }
         ensures { Gains self.old bytes.now result self.new }
     {
         self.flushed = false;
@@ -137,11 +146,11 @@ impl Sink for Told {
 
     #[tactic(auto, using(crate::proofs::ToldSinks::came, crate::proofs::ToldSinks::came_not, crate::proofs::ToldSinks::remembers, crate::proofs::ToldSinks::took_not))]
     fn put(&mut self, bytes: &[u8]) -> Result<(), SinkFault> {
-        self.let_go();
         if self.owed {
             self.flushed = false;
             return self.fail();
         }
+        self.let_go();
         self.gain(bytes)
     }
 
@@ -158,7 +167,20 @@ impl Digesting for Told {
         if self.owed {
             return self.fail();
         }
+        let Ok(()) = self.bytes.reserve(COMMIT_RECORD) else {
+            return self.fail();
+        };
         self.owed = true;
         Ok(())
     }
+}
+
+/// The record of the digest.
+#[tactic(auto, unfolding(crate::specs::Records::spelled_record))]
+fn commit_bytes(digest: &[u8; 32]) -> [u8; COMMIT_RECORD]
+    ensures { result ≡ spelled_record (commit digest.now) }
+{
+    let mut record = [COMMIT_TAG; COMMIT_RECORD];
+    record[1..].copy_from_slice(digest);
+    record
 }
