@@ -64,7 +64,7 @@ same_state old new was told =
 -- The record of a digest has 33 bytes, and no other digest.
 length-closing : (past : List ℕ) → length (closing_record past) ≡ 33
 unfolding spelled_record
-length-closing past = ap (λ (n : ℕ). n + 1) (length-sha256 past)
+length-closing past = omega (arith, length-sha256 past)
 
 same_digest : (a b : List ℕ) → spelled_record (commit a) ≡ spelled_record (commit b) → a ≡ b
 unfolding spelled_record
@@ -72,7 +72,7 @@ same_digest a b is = tail_same is
 
 length-record : (digest : List ℕ) → length (spelled_record (commit digest)) ≡ 1 + length digest
 unfolding spelled_record
-length-record digest = refl
+length-record digest = omega arith
 
 -- Two texts, each with a record of a digest behind it.
 same_ends : (x y a b : List ℕ) → length a ≡ length b → x ++ spelled_record (commit a) ≡ y ++ spelled_record (commit b) → (x ≡ y) × (a ≡ b)
