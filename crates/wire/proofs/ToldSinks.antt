@@ -86,6 +86,14 @@ same_ends x y a b long is =
 pub owed_digest : (t : ToldSeen) (digest : List ℕ) → length digest ≡ 32 → t.owed ≡ true → EndsIn (held_in t) digest → digest ≡ sha256 t.past
 owed_digest t digest long is ends = sym (same_ends t.ready ends.front (sha256 t.past) digest (length-sha256 t.past ∙ sym long) (sym (owed_is t.ready t.past t.owed is) ∙ ends.whole)).1
 
+-- All but the record was taken.
+pub closed_by : (taken held text : List ℕ) → length held ≡ 33 → taken ++ held ≡ text ++ closing_record text → EndsIn held (sha256 taken)
+closed_by taken held text short is =
+    let sizes : length taken + length held ≡ length text + length (closing_record text) = sym (length-append taken held) ∙ ap length is ∙ length-append text (closing_record text) in
+    let same : length taken ≡ length text = omega (arith, sizes, short, length-closing text) in
+    let parts = split_same taken text held (closing_record text) same is in
+    record { front = []; whole = parts.1 ∙ ap closing_record (sym parts.0) }
+
 -- What can be taken is the front of what it holds.
 length-ready : (ready past : List ℕ) (owed : Bool) → length ready ≡ length (owing ready owed past) - owed_len owed
 length-ready ready past false = omega arith
