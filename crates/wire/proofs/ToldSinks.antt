@@ -1,12 +1,12 @@
 -- What a sink holds whose digest is told.
-use Rattle.std.proofs.Common.{◌≡◌, ◌+◌, ◌-◌, ◌%◌, ◌^◌, ◌≤◌, ◌∙◌, ℕ, List, [], ◌∷◌, ◌++◌, drop, take, length, Result, Ok, Err, refl, ap, sym, append_assoc, arith}
+use Rattle.std.proofs.Common.{◌≡◌, ◌+◌, ◌-◌, ◌%◌, ◌^◌, ◌≤◌, ◌∙◌, ℕ, List, [], ◌++◌, drop, take, length, Result, Ok, Err, refl, ap, sym, append_assoc, arith}
 use Rattle.std.specs.Prelude.{Bool, true, false, IsErr, OnOk, Some, min}
 use Rattle.std.proofs.Math.Nat.{min-le_right}
 use Rattle.std.proofs.lemmas.List.{drop-append-le, length-append, take-append-drop, take-append-le}
 use Rattle.sha2.proofs.Facts256.{length-sha256}
 use Rattle.sha2.specs.Sha256.{sha256}
 use Rattle.wire.specs.Records.{commit, spelled_record}
-use Rattle.wire.specs.Sinks.{Appends, Covers, Seals, SinkState, Takes, over_writer, remembered}
+use Rattle.wire.specs.Sinks.{Appends, Seals, Takes, over_writer}
 use Rattle.wire.specs.Telling.{EndsIn, Gains, IsTold, TakenIsPut, ToldSeen, closing_record, held_in, out_of, owed_len, owing, sum_of}
 use Rattle.wire.proofs.Spelling.{split_same, tail_same}
 
@@ -43,8 +43,11 @@ sealed old new done was is ready past failures = record {
   count = failures;
   puts = λ bytes covers. record {
     count = failures;
-    holds = λ honest. (refl, owed_is new.ready new.past new.owed is ∙ ap (λ (x : List ℕ). x ++ closing_record new.past) (ready ∙ sym (open_is old.ready old.past old.owed was))
-      ∙ ap (λ (x : List ℕ). held_in old ++ closing_record x) (past ∙ sym covers.0));
+    holds = λ honest. (
+      refl,
+      owed_is new.ready new.past new.owed is ∙ ap (λ (x : List ℕ). x ++ closing_record new.past) (ready ∙ sym (open_is old.ready old.past old.owed was))
+          ∙ ap (λ (x : List ℕ). held_in old ++ closing_record x) (past ∙ sym covers.0),
+    );
   };
 }
 
