@@ -10,7 +10,7 @@ use Rattle.machine.specs.State.{DeviceState, MachineState}
 use Rattle.machine.specs.declared.shape.Shape.{Shape}
 use Rattle.wire.specs.Header.{header, opening_of}
 use Rattle.wire.specs.Records.{commit, spelled_record}
-use Rattle.wire.specs.Sinks.{Appends, Covers, Digested, SinkState, Takes}
+use Rattle.wire.specs.Sinks.{Appends, Covers, Digested, Seals, SinkState, Takes}
 use Rattle.wire.specs.Stream.{device_texts, record_of}
 use Rattle.sender.specs.Calls.{BeginsFirstRound, Serves, Took, Wrote}
 use Rattle.sender.specs.LiveState.{LiveSeen, closing, header_of, item_of, now, refusal_for}
@@ -84,18 +84,16 @@ fits_after p errors.AlreadyStopped fits = fits
 fits_after p errors.RoundsEnded fits = fits
 
 -- The stream was closed.
-pub closing_took : {A B E F : Type 0} (old new : LiveSeen) (mid last : SinkState) (sum : Digested) (digest : List ℕ) (done : A) (ended : B) → Appends {E = E} old.out (device_texts 0 (now old).devices) (Ok done) mid → Takes old.digest (device_texts 0 (now old).devices) sum
-    → last ≡ mid → ((b : List ℕ) → Covers sum b → digest ≡ sha256 b) → Appends {E = F} last (spelled_record (commit digest)) (Ok ended) new.out
+pub closing_took : {A B E F : Type 0} (old new : LiveSeen) (mid : SinkState) (sum : Digested) (done : A) (ended : B) → Appends {E = E} old.out (device_texts 0 (now old).devices) (Ok done) mid → Takes old.digest (device_texts 0 (now old).devices) sum
+    → Seals {T = B} {E = F} sum mid (Ok ended) new.out
     → (b : List ℕ) → Covers old.digest b → Took old new (closing (now old) b)
-closing_took {B = B} {F = F} old new mid last sum digest done ended devices takes same is_digest closes b held =
+closing_took {B = B} {F = F} old new mid sum done ended devices takes seals b held =
     let d = device_texts 0 (now old).devices in
-    let is : digest ≡ sha256 (b ++ d) = is_digest (b ++ d) (takes b held) in
-    let P : SinkState → Type 0 = λ s. Appends {T = B} {E = F} s (spelled_record (commit digest)) (Ok ended) new.out in
-    let ends : Appends {T = B} {E = F} mid (spelled_record (commit digest)) (Ok ended) new.out = subst P same closes in
+    let ends : Appends {T = B} {E = F} mid (spelled_record (commit (sha256 (b ++ d)))) (Ok ended) new.out = seals.puts (b ++ d) (takes b held) in
     record {
       count = ends.count ∙ devices.count;
       holds = λ honest.
           let one = devices.holds honest in
           let two = ends.holds one.0 in
-          (two.0, two.1 ∙ ap (λ held. held ++ spelled_record (commit digest)) one.1 ∙ append_assoc old.out.held d (spelled_record (commit digest)) ∙ ap (λ s. old.out.held ++ (d ++ spelled_record (commit s))) is);
+          (two.0, two.1 ∙ ap (λ held. held ++ spelled_record (commit (sha256 (b ++ d)))) one.1 ∙ append_assoc old.out.held d (spelled_record (commit (sha256 (b ++ d)))));
     }

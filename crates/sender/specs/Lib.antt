@@ -16,6 +16,7 @@ pub mod HistoryLaws
 pub mod Follows
 pub mod Ran
 pub mod Taking
+pub mod Telling
 pub mod Parked
 pub mod Unsynced
 pub mod ParkedCalls

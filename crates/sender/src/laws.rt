@@ -9,6 +9,7 @@ ghost use Rattle.sender.specs.Parked.{LiveBackFollows, LiveBackIsServed};
 ghost use Rattle.sender.specs.ParkedCalls.{LentFollows, LiveParkedFlushFails, LiveParkedIsFlushed, LiveParkedIsServed};
 ghost use Rattle.sender.specs.Reads.{UncalledIsSame};
 ghost use Rattle.sender.specs.Taking.{CallsIgnoreTaken, TakenAreWhole, TakenFollow};
+ghost use Rattle.sender.specs.Telling.{TakenIsDigested};
 ghost use Rattle.sender.specs.Told.{HonestDisksTellContents};
 ghost use Rattle.sender.specs.Turns.{TurnStaysBehind};
 ghost use Rattle.sender.specs.Unsynced.{FailureFollows, FlushFollows, TakenFailureFollows};
@@ -65,6 +66,12 @@ pub fn taken_follows_the_history()
 /// Once a stop returned Ok, what was taken, followed by what is left, is a stream of the machine.
 pub fn taken_is_whole()
     ensures { TakenAreWhole }
+{}
+
+/// Once a stop returned Ok, and all but the record that closes the stream was taken, that record has the digest of what was taken: the one that
+/// `LiveTold::tell` is to be told.
+pub fn taken_is_digested()
+    ensures { TakenIsDigested }
 {}
 
 /// Where the caller wrote into no page but the named ones, a machine whose RAM is given back is as if the guest had written these

@@ -2,6 +2,7 @@
 
 mod beside;
 mod calls;
+mod told;
 
 ghost use Rattle.std.specs.Prelude.{◌≡◌, ◌+◌, ◌*◌, ◌<◌, ◌≤◌, ◌^◌, ◌++◌, [], Some, drop, false, length, min, take};
 ghost use Rattle.dirtylog.specs.Members.{member_count};

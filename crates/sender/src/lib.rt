@@ -40,9 +40,11 @@
 //!   continues with that step, and nothing becomes dirty: the stop sends the devices whole.
 //! - `flush_disk` is one flush of the disk of a device, in each phase: the machine stays equal, and the history as it was
 //!   (`laws::flush_keeps_the_history`).
-//! - `LiveOver` is `Live` over any writer that digests. `Live` itself is over any sink, and digests what it writes at once. Over
+//! - `LiveOver` is `Live` over any writer that closes a stream by a digest. `Live` itself is over any sink, and digests what it writes at once. Over
 //!   `Waiting` it is `LiveWaiting`: `take`, also that of `LiveParked`, gives written bytes between two calls and digests them then, so
 //!   a copy digests nothing, and a stop what was not taken.
+//! - Over `Told` it is `LiveTold`, which digests nothing: whoever takes the bytes does, on a thread of its own say. As a writer it holds the
+//!   record that closes the stream from the stop on; `take` gives all but that record until `tell` was called with its digest (`owes`).
 //! - `remaining` counts both sets in constant time; `left` counts pages and sectors apart, and `most_by_stop` is the most bytes that a stop would write; `machine` lends the machine to be read; `into_parts` and `abort`
 //!   return it.
 //! - `lend` gives the RAM of a machine over memory of the caller to the caller, whose guest may write there, and keeps all else as a
@@ -106,7 +108,7 @@ mod working;
 pub use event::{CopyAnswer, End, Item, Left, LiveEvent, LiveReply, Remaining, Stopped};
 pub use guest::Guest;
 pub use lending::LiveParked;
-pub use live::{Live, LiveOver, LiveWaiting};
+pub use live::{Live, LiveOver, LiveTold, LiveWaiting};
 pub use measuring::saved_len;
 pub use mig_error::MigError;
 pub use phase::Phase;

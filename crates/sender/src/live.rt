@@ -6,6 +6,8 @@
 //! A stop goes over its two sets side by side, and searches each on only from the member that it has just sent: a search of
 //! both from each item on would go over the rest of a set that has one late member for each item of the other.
 
+mod told;
+
 ghost use Rattle.std.specs.Prelude.{◌≡◌, ◌≢◌, ◌<◌, ◌^◌, ◌-◌, ◌+◌, ◌*◌, ◌≤◌, ◌++◌, IfOk, IfErr, None, OnOk, Some, [], drop, false, length, min, take, true};
 ghost use Rattle.guestmem.specs.Lent.{AreBelow};
 ghost use Rattle.dirtylog.specs.Members.{HasNone, IsLeastFrom, member_count};
@@ -32,19 +34,19 @@ use crate::measuring::devices_len;
 use crate::mig_error::MigError;
 use crate::numbering::{item_at, number_items, page_count};
 use crate::phase::Phase;
-use crate::saving::{send_item, write_devices, write_end};
+use crate::saving::{send_item, write_devices, write_seal};
 use dirtylog::BitSet;
 use guestmem::Both;
 use machine::{Disk, DiskFault, Event, Machine, Reply, Stepped};
 use region::Region;
 use std::alloc::{AllocError, Global};
 use std::marker::Model;
-use wire::{Digesting, Eager, Sink, Waiting, encode_header, encode_round};
+use wire::{Digesting, Eager, Sink, Told, Waiting, encode_header, encode_round};
 
 /// The last round that the record of a round's end can number. It can't be ended.
 const LAST_ROUND: u32 = u32::MAX;
 
-/// A machine, the stream that is written of it, and what is still to be sent. The writer digests what it takes, when it will.
+/// A machine, the stream that is written of it, and what is still to be sent. The writer digests what it takes, when it will, or is told the digest.
 #[derive(Drop)]
 pub struct LiveOver<D: Disk, W: Digesting> {
     pub(crate) machine: Machine<D>,
@@ -62,6 +64,9 @@ pub type Live<D, W> = LiveOver<D, Eager<W>>;
 
 /// One whose bytes wait in memory until they are taken, and are digested no sooner than they must.
 pub type LiveWaiting<D> = LiveOver<D, Waiting>;
+
+/// One whose bytes wait in memory until they are taken, and whose digest is told by whoever takes them.
+pub type LiveTold<D> = LiveOver<D, Told>;
 
 impl<D: Disk, W: Digesting> Model for LiveOver<D, W> {
     ghost use Rattle.sender.specs.LiveState.{LiveSeen};
@@ -583,8 +588,7 @@ impl<D: Disk, W: Digesting> LiveOver<D, W> {
             self.phase = Phase::Failed;
             return Err(MigError::StreamFailed);
         }
-        let digest = self.writer.digest();
-        if let Err(_) = write_end(&digest, &mut self.writer) {
+        if let Err(_) = write_seal(&mut self.writer) {
             self.phase = Phase::Failed;
             return Err(MigError::StreamFailed);
         }

@@ -11,7 +11,7 @@ ghost use Rattle.machine.specs.Layout.{pages_of};
 ghost use Rattle.machine.specs.NextBad.{IsNextBad};
 ghost use Rattle.machine.specs.Seen.{state_of};
 ghost use Rattle.wire.specs.Records.{commit, spelled_record};
-ghost use Rattle.wire.specs.Sinks.{Appends, Takes};
+ghost use Rattle.wire.specs.Sinks.{Appends, Seals, Takes};
 ghost use Rattle.wire.specs.Stream.{device_texts, record_of, records_below, saved, texts, whole};
 ghost use Rattle.sender.specs.LiveState.{item_of};
 ghost use Rattle.sender.specs.Items.{disk_text, first_sector, front_text, sectors_text, size_on};
@@ -54,6 +54,15 @@ pub(crate) fn write_end<S: Sink>(digest: &[u8; 32], out: &mut S) -> Result<(), S
 {
     encode_commit(digest, out)?;
     out.flush()
+}
+
+/// Has the writer close the stream by its own digest, and flushes it.
+pub(crate) fn write_seal<W: Digesting>(writer: &mut W) -> Result<(), SinkFault>
+    ensures out { Seals (W.sum writer.old) (W.state writer.old) result (W.state writer.new) }
+    ensures flushed { OnOk result ((W.state writer.new).is_flushed ≡ true) }
+{
+    writer.seal()?;
+    writer.flush()
 }
 
 /// Writes all that precedes the digest.

@@ -118,6 +118,7 @@ pub use sender::Live;
 pub use sender::LiveEvent;
 pub use sender::LiveParked;
 pub use sender::LiveReply;
+pub use sender::LiveTold;
 pub use sender::LiveWaiting;
 pub use sender::MigError;
 pub use sender::Phase;

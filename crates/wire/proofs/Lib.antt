@@ -19,6 +19,8 @@ pub mod Saving
 pub mod SentVersions
 pub mod Sinks
 pub mod Spelling
+pub mod ToldSinks
 pub mod Unique
 pub mod Versions
+mod Walks
 pub mod Whole

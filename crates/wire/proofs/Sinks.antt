@@ -5,7 +5,8 @@ use Rattle.std.specs.Io.KnownBytes as writers
 use Rattle.sha2.specs.Hashers.{Holds256}
 use Rattle.sha2.specs.Sha256.{sha256}
 use Rattle.sha2.specs.declared.Sha256.{Sha256}
-use Rattle.wire.specs.Sinks.{SinkState, Appends, Covers, Digested, Digests, Takes, known, over_writer, prompt}
+use Rattle.wire.specs.Records.{commit, spelled_record}
+use Rattle.wire.specs.Sinks.{SinkState, Appends, Covers, Digested, Digests, Seals, Takes, known, over_writer, prompt}
 
 -- What a writer that tells its bytes does.
 pub appended : (old new : Option (List ℕ)) (bytes : List ℕ) → writers.Appends old new bytes → IsTrue (is_some old) → IsTrue (is_some new) × (known new ≡ known old ++ bytes)
@@ -53,3 +54,10 @@ digested a digest h bytes c = h c.first c.holds ∙ ap sha256 (sym (c.whole ∙ 
 -- A sink that never fails.
 pub never_fails : {T E : Type 0} (old new : Bool) (bytes : List ℕ) (e : E) → Appends {T = T} (over_writer None 0 old) bytes (Err e) (over_writer None 0 new) → ⊥
 never_fails old new bytes e appends = let is : zero ≡ suc zero = appends.count in cc
+
+-- The record of the digest was put.
+pub sealed : {T E : Type 0} (sum : Digested) (old mid new : SinkState) (digest : List ℕ) (result : Result T E) → mid ≡ old → ((bytes : List ℕ) → Covers sum bytes → digest ≡ sha256 bytes) → Appends mid (spelled_record (commit digest)) result new → Seals sum old result new
+sealed sum old mid new digest result same is appends =
+    let P : SinkState → Type 0 = λ s. Appends s (spelled_record (commit digest)) result new in
+    let here : Appends old (spelled_record (commit digest)) result new = subst P same appends in
+    record { count = here.count; puts = λ bytes covers. (let Q : List ℕ → Type 0 = λ d. Appends old (spelled_record (commit d)) result new in subst Q (is bytes covers) here) }

@@ -17,3 +17,4 @@ pub mod ShapeReading
 pub mod Sinks
 pub mod Stream
 pub mod StreamLaws
+pub mod Telling

@@ -1,13 +1,17 @@
 -- The state of a sink, and what contracts say of bytes on their way to one.
-use Rattle.std.specs.Prelude.{◌≡◌, ℕ, ◌++◌, List, [], Bool, IsTrue, Option, Some, None, Result, OnOk, is_ok, is_some}
+use Rattle.std.specs.Prelude.{◌≡◌, ℕ, ◌++◌, List, [], Bool, false, IsTrue, Option, Some, None, Result, OnOk, is_ok, is_some}
 use Rattle.sha2.specs.Hashers.{Holds256}
 use Rattle.sha2.specs.declared.Sha256.{Sha256}
+use Rattle.sha2.specs.Sha256.{sha256}
 use Rattle.guestmem.specs.Failures.{counted}
+use Rattle.wire.specs.Records.{commit, spelled_record}
 
--- What a sink digests: nothing; or there is a digest, and these bytes wait until it takes them.
+-- What a sink digests: nothing; or there is a digest, and these bytes wait until it takes them; or it digests nothing, these are all bytes
+-- that were put into it, whose digest it is told, and the stream was closed and the digest is owed, or not.
 pub data Digested : Type 0 where
   undigested : Digested
   lagging : Sha256 → List ℕ → Digested
+  remembered : List ℕ → Bool → Digested
 
 -- It took the first of these bytes, and the others wait.
 pub record Lags (taken : Sha256) (waiting bytes : List ℕ) : Type 0 where
@@ -18,10 +22,11 @@ pub record Lags (taken : Sha256) (waiting bytes : List ℕ) : Type 0 where
 unfoldable pub Digests : Sha256 → List ℕ → List ℕ → Type 0
 Digests taken waiting bytes = Lags taken waiting bytes
 
--- It is the digest of these bytes.
+-- It is the digest of these bytes. Of a stream whose digest is owed nothing more is put.
 abbrev pub Covers : Digested → List ℕ → Type 0
 Covers undigested bytes = ⊥
 Covers (lagging taken waiting) bytes = Digests taken waiting bytes
+Covers (remembered past owed) bytes = (bytes ≡ past) × (owed ≡ false)
 
 -- The bytes that a sink holds, how often it failed (modulo 2^64), whether it is honest, and whether it is flushed: whether the
 -- last call was a flush that succeeded.
@@ -58,3 +63,8 @@ known (Some bytes) = bytes
 
 abbrev pub over_writer : Option (List ℕ) → ℕ → Bool → SinkState
 over_writer contents failures is_flushed = record { held = known contents; failures = failures; honest = is_some contents; is_flushed = is_flushed }
+
+-- A call that closes a stream: where the sink's digest is of known bytes, it appends the record of their digest.
+pub record Seals {T E : Type 0} (sum : Digested) (old : SinkState) (result : Result T E) (new : SinkState) : Type 0 where
+  pub count : new.failures ≡ counted old.failures result
+  pub puts : (bytes : List ℕ) → Covers sum bytes → Appends old (spelled_record (commit (sha256 bytes))) result new

@@ -1,29 +1,23 @@
-//! Sinks that digest what they take.
+//! Sinks that close a stream by the digest of what they took.
 
 ghost use Rattle.std.specs.Prelude.{◌≡◌, List, ℕ};
 ghost use Rattle.sha2.specs.Hashers.{Holds256};
 ghost use Rattle.sha2.specs.Sha256.{sha256};
 
 use crate::sink::{Sink, SinkFault};
+use crate::writing::encode_commit;
 use sha2::{Digest, Sha256};
 use std::mem;
 
-/// A sink that digests what it takes. When it does so is its own affair: one that keeps its bytes may do it later than at the
-/// `put`, at the latest when the digest is asked for.
+/// A sink that closes a stream by the digest of what it took. Who digests, and when, is its own affair: one that keeps its bytes may do it
+/// later than at the `put`, at the latest when the stream is closed, or be told the digest after that.
 pub trait Digesting: Sink {
-    ghost use Rattle.std.specs.Prelude.{◌≡◌, List, ℕ, []};
-    ghost use Rattle.sha2.specs.Sha256.{sha256};
-    ghost use Rattle.wire.specs.Sinks.{Covers};
+    ghost use Rattle.wire.specs.Sinks.{Seals};
 
-    /// Begins the digest anew: it is the one of what is put from here on.
-    fn begin(&mut self)
-        ensures rest { Self.state self.new ≡ Self.state self.old }
-        ensures begun { Covers (Self.sum self.new) [] };
-
-    /// The digest of what was put since it was begun.
-    fn digest(&mut self) -> [u8; 32]
-        ensures rest { Self.state self.new ≡ Self.state self.old }
-        ensures digest { (bytes : List ℕ) → Covers (Self.sum self.old) bytes → result ≡ sha256 bytes };
+    /// Appends the record that closes a stream: the digest of what was put since it was begun. Whatever it does to the digest, nothing more
+    /// belongs to that stream.
+    fn seal(&mut self) -> Result<(), SinkFault>
+        ensures { Seals (Self.sum self.old) (Self.state self.old) result (Self.state self.new) };
 }
 
 /// Any sink, and the digest of what was put into it: each byte is digested as it is put.
@@ -34,7 +28,8 @@ pub struct Eager<S: Sink> {
 }
 
 impl<S: Sink> Eager<S> {
-    ghost use Rattle.std.specs.Prelude.{◌≡◌, []};
+    ghost use Rattle.std.specs.Prelude.{◌≡◌, List, ℕ, []};
+    ghost use Rattle.sha2.specs.Sha256.{sha256};
     ghost use Rattle.wire.specs.Sinks.{Covers};
 
     /// Over this sink. It takes no memory.
@@ -56,6 +51,15 @@ impl<S: Sink> Eager<S> {
         ensures sum { ⟦<Eager<S> as Sink>⟧.sum self.new ≡ ⟦<Eager<S> as Sink>⟧.sum self.old }
     {
         mem::replace(&mut self.sink, sink)
+    }
+
+    /// The digest of what was put.
+    #[tactic(auto, using(crate::proofs::Sinks::digested))]
+    pub fn digest(&mut self) -> [u8; 32]
+        ensures rest { ⟦<Eager<S> as Sink>⟧.state self.new ≡ ⟦<Eager<S> as Sink>⟧.state self.old }
+        ensures digest { (bytes : List ℕ) → Covers (⟦<Eager<S> as Sink>⟧.sum self.old) bytes → result ≡ sha256 bytes }
+    {
+        digest_so_far(&self.taken)
     }
 
     /// The sink, with all that was put into it.
@@ -87,14 +91,10 @@ impl<S: Sink> Sink for Eager<S> {
 }
 
 impl<S: Sink> Digesting for Eager<S> {
-    #[tactic(auto, using(crate::proofs::Sinks::begun))]
-    fn begin(&mut self) {
-        self.taken = Sha256::new();
-    }
-
-    #[tactic(auto, using(crate::proofs::Sinks::digested))]
-    fn digest(&mut self) -> [u8; 32] {
-        digest_so_far(&self.taken)
+    #[tactic(auto, using(crate::proofs::Sinks::sealed))]
+    fn seal(&mut self) -> Result<(), SinkFault> {
+        let digest = self.digest();
+        encode_commit(&digest, self)
     }
 }
 

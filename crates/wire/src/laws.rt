@@ -1,6 +1,7 @@
 //! Laws over the definitions alone. These functions do nothing: their contracts are the laws.
 
 ghost use Rattle.wire.specs.StreamLaws.{EachVersion, OneCount, OneMachine, OneRecord, OneVersion, WholeIsStream};
+ghost use Rattle.wire.specs.Telling.{TakenIsPut};
 
 /// No encoding of a record of a stream is a prefix of another's.
 pub fn no_record_begins_another()
@@ -30,4 +31,10 @@ pub fn each_version_has_a_stream()
 /// The whole stream of a sound machine is a stream of it.
 pub fn whole_is_a_stream()
     ensures { WholeIsStream }
+{}
+
+/// What was taken from a sink whose digest is told, in its order, and what it holds are what was put. So whoever digested what it took knows
+/// the digest to tell.
+pub fn taken_is_put()
+    ensures { TakenIsPut }
 {}

@@ -18,14 +18,16 @@
 //! - The trait `Sink`: the bytes held, a count of failures modulo 2^64, whether it is honest, and whether it is
 //!   flushed: it is if the last call was a flush that succeeded (`specs/Sinks`). A page and a good sector go to it in
 //!   one call each.
-//! - A `Digesting` sink gives the digest of what was put into it. `Eager` makes one of any sink, and digests each byte as it is put.
-//!   `Waiting` keeps its bytes until they are taken, and digests them then, at the latest when the digest is asked for.
+//! - A `Digesting` sink closes a stream by the record of the digest of what was put into it. `Eager` makes one of any sink, and digests each
+//!   byte as it is put. `Waiting` keeps its bytes until they are taken, and digests them then, at the latest when the digest is asked for.
+//!   `Told` keeps its bytes too, and digests nothing: whoever takes them tells the digest, and the record can be taken then.
 //! - Three versions of the stream are read. A machine is written in version 3 if it has a network device for long frames or a disk outside,
 //!   and else in version 2. Version 3 has two more shapes than version 2, those of such devices: it is read only where the limits allow one,
 //!   and is no version of a machine that has none. A disk outside has no sector in a stream. Version 1 has another encoding of a page of zeros, and no block device whose driver accepted
 //!   WRITE_ZEROES, so no request to clear sectors. They differ in nothing else. A page has one encoding in each.
 //! - `laws`: no encoding of a record is a prefix of another's; a stream has one machine of each base, one number of rounds and one version;
-//!   a sound machine has a stream in each version that has its devices, and the whole stream of it is one.
+//!   a sound machine has a stream in each version that has its devices, and the whole stream of it is one; what was taken from a `Told`, in its
+//!   order, and what it holds are what was put.
 //!
 //! It uses `machine`, whose devices and shapes these are. The digest is `sha2`'s, whose contract says that it is the one of
 //! FIPS 180-4.
@@ -43,6 +45,7 @@ mod kind_reading;
 pub mod laws;
 mod lengths;
 mod numbers;
+mod past;
 mod record;
 mod record_head;
 mod registers_text;
@@ -52,6 +55,7 @@ mod sector_writing;
 mod shape_spelling;
 mod sink;
 mod size_text;
+mod telling;
 mod waiting;
 mod writing;
 
@@ -66,6 +70,7 @@ pub use header::{
 pub use header_error::HeaderError;
 pub use lengths::{device_len, header_len, page_len};
 pub use numbers::{u8_at, u32_at};
+pub use past::{Past, Piece};
 pub use record::{Record, decode_record, has_record};
 pub use record_head::{
     BAD_SECTOR_RECORD, BODY_MAX, COMMIT_RECORD, COMMIT_TAG, DEVICE_TAG, FoundHead,
@@ -75,6 +80,7 @@ pub use record_head::{
 pub use sector_writing::encode_sector;
 pub use shape_spelling::{shape_at, shape_len};
 pub use sink::{Sink, SinkFault, WriteSink};
+pub use telling::Told;
 pub use waiting::Waiting;
 pub use writing::{
     encode_commit, encode_device, encode_header, encode_page, encode_round, encode_zero_page,

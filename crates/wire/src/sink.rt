@@ -16,8 +16,8 @@ pub struct SinkFault;
 /// given. After a failure its bytes and its honesty are not specified. It is flushed exactly if the last call was a
 /// `flush` that succeeded.
 ///
-/// An `impl` gives `put`, `flush` and `state`. One that digests what it takes (`Digesting`) says by `sum` how far it has come; any
-/// other leaves `sum` out, and then the clause `takes` says nothing.
+/// An `impl` gives `put`, `flush` and `state`. One that closes a stream by a digest (`Digesting`) says by `sum` which bytes that is the
+/// digest of; any other leaves `sum` out, and then the clause `takes` says nothing.
 pub trait Sink {
     ghost use Rattle.std.specs.Prelude.{◌≡◌, OnOk, false};
     ghost use Rattle.wire.specs.Sinks.{SinkState, Appends, Digested, Flushes, Takes, undigested};
@@ -25,7 +25,7 @@ pub trait Sink {
     /// The bytes that it holds, the count of its failures, whether it is honest, and whether it is flushed.
     ghost state: { Self → SinkState };
 
-    /// How far it has digested what was put into it. Most sinks digest nothing, and leave this out.
+    /// Which of the bytes that were put into it are digested, or are to be. Most sinks digest nothing, and leave this out.
     ghost sum: { Self → Digested } = { λ _. undigested };
 
     /// Takes all the bytes, after those that it holds.

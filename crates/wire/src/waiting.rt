@@ -6,11 +6,13 @@
 //! Bytes are taken by a copy, and not lent: no clause can say which bytes lie behind a pointer that is handed out while the sink
 //! owns them, nor until when they stay. The clauses of `take` say which bytes came, and which still wait.
 
-ghost use Rattle.std.specs.Prelude.{◌≡◌, ◌++◌, Some, [], drop, false, length, min, take};
+ghost use Rattle.std.specs.Prelude.{◌≡◌, ◌++◌, List, ℕ, Some, [], drop, false, length, min, take};
+ghost use Rattle.sha2.specs.Sha256.{sha256};
 ghost use Rattle.wire.specs.Sinks.{Covers, Takes, over_writer};
 
 use crate::digesting::{Digesting, digest_so_far};
 use crate::sink::{Sink, SinkFault};
+use crate::writing::encode_commit;
 use sha2::{Digest, Sha256};
 use std::alloc::Global;
 use std::marker::Model;
@@ -84,6 +86,27 @@ impl Waiting {
         count
     }
 
+    /// Begins the digest anew: it is the one of what is put from here on.
+    #[tactic(auto, using(crate::proofs::Lagging::begun_anew))]
+    pub fn begin(&mut self)
+        ensures rest { self.new.out ≡ self.old.out }
+        ensures begun { Covers self.new.sum [] }
+    {
+        self.digest = Sha256::new();
+        self.seen = self.bytes.len();
+    }
+
+    /// The digest of what was put since it was begun.
+    #[tactic(auto, using(crate::proofs::Lagging::digested))]
+    pub fn digest(&mut self) -> [u8; 32]
+        ensures rest { self.new.out ≡ self.old.out }
+        ensures digest { (bytes : List ℕ) → Covers self.old.sum bytes → result ≡ sha256 bytes }
+    {
+        self.digest.update(&self.bytes[self.seen..]);
+        self.seen = self.bytes.len();
+        digest_so_far(&self.digest)
+    }
+
     /// Digests the first of the bytes, where more than `UNDIGESTED_MAX` would wait for it.
     #[tactic(auto, using(crate::proofs::Lagging::caught_up))]
     fn keep_up(&mut self)
@@ -137,16 +160,9 @@ impl Sink for Waiting {
 }
 
 impl Digesting for Waiting {
-    #[tactic(auto, using(crate::proofs::Lagging::begun_anew))]
-    fn begin(&mut self) {
-        self.digest = Sha256::new();
-        self.seen = self.bytes.len();
-    }
-
-    #[tactic(auto, using(crate::proofs::Lagging::digested))]
-    fn digest(&mut self) -> [u8; 32] {
-        self.digest.update(&self.bytes[self.seen..]);
-        self.seen = self.bytes.len();
-        digest_so_far(&self.digest)
+    #[tactic(auto, using(crate::proofs::Sinks::sealed))]
+    fn seal(&mut self) -> Result<(), SinkFault> {
+        let digest = self.digest();
+        encode_commit(&digest, self)
     }
 }

@@ -3,7 +3,7 @@ use Rattle.std.proofs.lemmas.List.{take_rest}
 use Rattle.wire.specs.Lagging.{WaitingSeen}
 use Rattle.wire.specs.Sinks.{Covers}
 use Rattle.wire.proofs.Lagging.{all_digested}
-use Rattle.wire.proofs.waiting.WaitingDigesting.digest.Goals as goal
+use Rattle.wire.proofs.waiting.Waiting.digest.Goals as goal
 
 pub returns-clause-digest : goal.returns-clause-digest
 returns-clause-digest c =
