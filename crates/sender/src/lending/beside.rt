@@ -8,6 +8,7 @@ ghost use Rattle.std.specs.Prelude.{◌≡◌, ◌*◌, IfOk, length};
 ghost use Rattle.region.specs.Address.{address};
 ghost use Rattle.guestmem.specs.declared.limits.TheConstants.{PAGE_SIZE};
 ghost use Rattle.chains.specs.Lacking.{LacksOr};
+ghost use Rattle.machine.specs.Asked.{StepAsks};
 ghost use Rattle.machine.specs.Beside.{KnowsReads, window_memory};
 ghost use Rattle.machine.specs.Parked.{back_with};
 ghost use Rattle.machine.specs.Seen.{state_of};
@@ -17,7 +18,7 @@ ghost use Rattle.sender.specs.Beside.{IsLiveMadeOver, TriesOver, live_ended};
 use crate::lending::LiveParked;
 use crate::mig_error::MigError;
 use guestmem::NoMemory;
-use machine::{Disk, Piece, Stepped};
+use machine::{Asking, Disk, Piece, Stepped};
 use region::Region;
 use wire::Digesting;
 
@@ -54,6 +55,40 @@ impl<D: Disk, W: Digesting> LiveParked<D, W> {
             dirty,
         };
         (lacking, window, same)
+    }
+
+    /// What the step of this pick publishes, if it publishes a chain, by the pieces that the window holds (`Parked::asking`). No phase refuses
+    /// it.
+    pub fn asking(
+        self,
+        window: Region,
+        dev: u8,
+        pick: u8,
+    ) -> (Result<Option<Asking>, NoMemory>, Region, LiveParked<D, W>)
+        requires size { length window.content ≡ PAGE_SIZE * length self.parked.versions }
+        ensures asking { IfOk result.0 (λ asking. StepAsks (state_of (back_with self.parked (window_memory self.parked window))) dev pick asking) }
+        ensures content { result.1.content ≡ window.content }
+        ensures place { address result.1 ≡ address window }
+        ensures machine { result.2 ≡ self }
+    {
+        let LiveParked {
+            parked,
+            writer,
+            phase,
+            due,
+            at,
+            dirty,
+        } = self;
+        let (asking, window, parked) = parked.asking(window, dev, pick);
+        let same = LiveParked {
+            parked,
+            writer,
+            phase,
+            due,
+            at,
+            dirty,
+        };
+        (asking, window, same)
     }
 
     /// Makes a step over a window, as `Parked::step_over` does. Exactly the items that the step writes into become dirty: a page of which it
