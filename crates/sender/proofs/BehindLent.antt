@@ -64,56 +64,37 @@ module _ (m : MachineState) (h : History) (out : SinkState) (taken pages : List 
   nothing_taken : (history : History) (after : LiveSeen) → IsBehind m history out pages (untaken taken after) → IsBehind m history out pages (untaken (taken ++ []) after)
   nothing_taken history after = subst (λ (t : List ℕ). IsBehind m history out pages (untaken t after)) (sym (append-nil taken))
 
-  stays : (after : LiveSeen) → after.machine.memory ≡ l.machine.memory → IsLiveParked after before mid → length mid.parked.versions ≡ length p.parked.versions
-  stays after memory there = ap length (there.parked.lent.versions_are ∙ ap (λ (x : Memory). x.versions) memory ∙ sym lent.parked.lent.versions_are)
+  -- A call that was done with the machine that was lent.
+  goes_with : (c : LentCall) (does : LiveSeen → Type 0) (one : IsDoneLiveLent l (over_with before c) mid does) (history : History) → IsBehind m history out (missing_in pages c) (untaken (taken ++ bytes_in c) one.after) → guest_events history ≡ guest_events h ++ events_in c
+      → text m history ≡ text m h → GoesOnLent m h out taken pages before c p mid
+  goes_with c does one history behind came text_is = record {
+    history = history;
+    after = one.after;
+    behind = behind;
+    came = came;
+    text_is = text_is;
+    parked = one.parked;
+    places = one.places;
+    memory = subst IsMemory (sym one.memory) mem;
+    versions = ap length (one.parked.parked.lent.versions_are ∙ ap (λ (x : Memory). x.versions) one.memory ∙ sym lent.parked.lent.versions_are);
+    goes = subst (λ (f : Phase). f ≢ phases.Stopped) (sym one.phase) goes;
+  }
 
   goes_on : (c : LentCall) → IsLentCall p c mid → IsSeen before (length p.parked.versions) c → GoesOnLent m h out taken pages before c p mid
   goes_on (an_event e reply) call saw =
       let one : IsDoneLiveLent l before mid (IsServedUncalled l e (r.Guest reply)) = live_parked_is_served l p mid before e (r.Guest reply) places mem lent call in
       let gone = taken_stays_behind m h out taken pages (Guest e) (r.Guest reply) l one.after b places (may_guest pages e) one.done.serves in
       let next : History = then_came h (Guest e) (r.Guest reply) gone.effect in
-      record {
-        history = next;
-        after = one.after;
-        behind = nothing_taken next one.after gone.behind;
-        came = refl;
-        text_is = no_text m h e reply gone.effect;
-        parked = one.parked;
-        places = one.places;
-        memory = subst IsMemory (sym one.memory) mem;
-        versions = stays one.after one.memory one.parked;
-        goes = subst (λ (f : Phase). f ≢ phases.Stopped) (sym one.phase) goes;
-      }
+      goes_with (an_event e reply) (IsServedUncalled l e (r.Guest reply)) one next (nothing_taken next one.after gone.behind) refl (no_text m h e reply gone.effect)
   goes_on (a_failed_flush dev pick) call saw =
       let one : IsDoneLiveLent l before mid (FailsLiveFlush l dev pick) = live_parked_flush_fails l p mid before dev pick places mem lent call in
       let gone = failure_stays_behind m h out pages dev pick (untaken taken l) (untaken taken one.after) b (places_untaken taken l places) goes (record { failed = one.done.failed; rest = ap (untaken taken) one.done.rest }) in
       let next : History = then_came h (Guest (Step dev pick)) (r.Guest DiskFailed) gone.effect in
-      record {
-        history = next;
-        after = one.after;
-        behind = nothing_taken next one.after gone.behind;
-        came = refl;
-        text_is = no_text m h (Step dev pick) DiskFailed gone.effect;
-        parked = one.parked;
-        places = one.places;
-        memory = subst IsMemory (sym one.memory) mem;
-        versions = stays one.after one.memory one.parked;
-        goes = subst (λ (f : Phase). f ≢ phases.Stopped) (sym one.phase) goes;
-      }
+      goes_with (a_failed_flush dev pick) (FailsLiveFlush l dev pick) one next (nothing_taken next one.after gone.behind) refl (no_text m h (Step dev pick) DiskFailed gone.effect)
   goes_on (a_flush dev result) call saw =
       let one : IsDoneLiveLent l before mid (FlushesLiveDisk l dev result) = live_parked_is_flushed l p mid before dev result places lent call in
-      record {
-        history = h;
-        after = one.after;
-        behind = nothing_taken h one.after (flush_stays_behind m h out pages dev result (untaken taken l) (untaken taken one.after) b (record { flushes = one.done.flushes; rest = ap (untaken taken) one.done.rest }));
-        came = sym (append-nil (guest_events h));
-        text_is = refl;
-        parked = one.parked;
-        places = one.places;
-        memory = subst IsMemory (sym one.memory) mem;
-        versions = stays one.after one.memory one.parked;
-        goes = subst (λ (f : Phase). f ≢ phases.Stopped) (sym one.phase) goes;
-      }
+      let flushed = flush_stays_behind m h out pages dev result (untaken taken l) (untaken taken one.after) b (record { flushes = one.done.flushes; rest = ap (untaken taken) one.done.rest }) in
+      goes_with (a_flush dev result) (FlushesLiveDisk l dev result) one h (nothing_taken h one.after flushed) (sym (append-nil (guest_events h))) refl
   goes_on (a_taking bytes) call saw =
       let out_is : p.out ≡ l.out = ap (λ (x : LiveParkedSeen). x.out) lent.rest in
       let digest_is : p.digest ≡ l.digest = ap (λ (x : LiveParkedSeen). x.digest) lent.rest in

@@ -1,10 +1,10 @@
 -- A machine that is sent, and its sets, after each call.
-use Rattle.std.proofs.Common.{◌≡◌, ◌≢◌, ℕ, zero, suc, ◌+◌, ◌<◌, ◌≤◌, ◌^◌, Bool, true, false, List, [], ◌∷◌, inl, inr, ◌⊎◌, length, map, replicate, set, None, Some, refl, sym, ap, subst, ◌∙◌, arith}
+use Rattle.std.proofs.Common.{◌≡◌, ◌≢◌, ℕ, zero, suc, ◌+◌, ◌<◌, ◌≤◌, ◌^◌, Bool, true, false, List, [], ◌∷◌, length, map, replicate, set, None, Some, refl, sym, ap, subst, ◌∙◌, arith}
 use Rattle.std.proofs.lemmas.Bool.{eq-eqb}
 use Rattle.std.proofs.lemmas.List.{length-set, length-replicate}
 use Rattle.dirtylog.specs.Members.{HasNone, has}
 use Rattle.guestmem.specs.Item.{Item, after_all, page, sector}
-use Rattle.machine.specs.Applied.{IsAppliedLogged, MayItems}
+use Rattle.machine.specs.Applied.{IsApplied, IsAppliedLogged, MayItems}
 use Rattle.machine.specs.Effect.{items_of}
 use Rattle.machine.specs.Layout.{IsItemIn, Layout, firsts_of, layout_of, number_in, number_of, size_of}
 use Rattle.machine.specs.Seen.{Seen, state_of}
@@ -13,6 +13,7 @@ use Rattle.machine.specs.State.{MachineState}
 use Rattle.machine.specs.declared.event.Event.{Event}
 use Rattle.machine.specs.declared.reply.Reply.{Reply}
 use Rattle.machine.proofs.Numbering.{in_layout, number_below, same_layout}
+use Rattle.machine.proofs.Quiet.{IsQuiet, unlogged}
 use Rattle.wire.specs.Sinks.{Digested, SinkState}
 use Rattle.sender.specs.Calls.{EndsRound, Serves, with_items}
 use Rattle.sender.specs.Dirty.{HasFirst, after_taking, may_take}
@@ -35,11 +36,6 @@ going phases.Fresh e free is = cc
 going (phases.Open k) e free is = cc
 going phases.Failed e free is = cc
 going phases.Stopped e free is = cc
-
-le_or : (m n : ℕ) → (m ≤ n) ⊎ (n < m)
-le_or zero n = inl (omega arith)
-le_or (suc m) zero = inr (omega arith)
-le_or (suc m) (suc n) = elim (le_or m n) as (λ _. (suc m ≤ suc n) ⊎ (suc n < suc m)) [ inl a ↦ inl (omega (arith, a)) | inr b ↦ inr (omega (arith, b)) ]
 
 pub member_below : (s : List Bool) (i : ℕ) → has s i ≡ true → i < length s
 member_below [] i is = cc
@@ -157,7 +153,7 @@ guest_refused s e x closed =
     let refused : refusal_for s.phase (Guest e) ≡ Some AlreadyStopped = ap (λ (p : Phase). refusal_for p (Guest e)) closed.1 in
     rw refused (ap (λ (y : MigError). r.Mig y) closed.0, refl)
 
-module _ (machine next : Seen) (d new : Dirty) (phase : Phase) (due : List Bool) (at : ℕ) (digest : Digested) (out : SinkState) (e : Event) (reply : Reply) (live : IsLive machine phase due d.set d.firsts.items at) (h : IsAppliedLogged after_taking machine d e reply next new) where
+module _ (machine next : Seen) (d new : Dirty) (phase : Phase) (due : List Bool) (at : ℕ) (e : Event) (reply : Reply) (live : IsLive machine phase due d.set d.firsts.items at) (h : IsAppliedLogged after_taking machine d e reply next new) where
   noted : new ≡ record d { set = with_items d.firsts.items d.set (items_of h.is_applied.effect) }
   noted = h.logged ∙ all_noted d (items_of h.is_applied.effect)
 
@@ -173,12 +169,23 @@ module _ (machine next : Seen) (d new : Dirty) (phase : Phase) (due : List Bool)
   pub dirty_noted : new.set ≡ with_items (firsts_of (layout_of (state_of machine))) d.set (items_of h.is_applied.effect)
   dirty_noted = ap (λ (x : Dirty). x.set) noted ∙ ap (λ (fs : List ℕ). with_items fs d.set (items_of h.is_applied.effect)) live.sets.firsts_are
 
-  pub guest_served : phase ≢ phases.Stopped → Serves (record { machine = machine; phase = phase; due = due; dirty = d.set; digest = digest; out = out }) (Guest e) (r.Guest reply) (record { machine = next; phase = phase; due = due; dirty = new.set; digest = digest; out = out })
-  guest_served open_still = rw (guest_free phase e open_still) (record {
+  pub guest_served : (digest : Digested) (out : SinkState) → phase ≢ phases.Stopped → Serves (record { machine = machine; phase = phase; due = due; dirty = d.set; digest = digest; out = out }) (Guest e) (r.Guest reply) (record { machine = next; phase = phase; due = due; dirty = new.set; digest = digest; out = out })
+  guest_served digest out open_still = rw (guest_free phase e open_still) (record {
     is_applied = h.is_applied;
     dirty = dirty_noted;
     rest = refl;
   })
+
+-- What an event that writes into no item makes of it.
+module _ (machine next : Seen) (d : Dirty) (phase : Phase) (due : List Bool) (at : ℕ) (e : Event) (reply : Reply) (live : IsLive machine phase due d.set d.firsts.items at) (h : IsApplied machine e reply next) (quiet : IsQuiet e) where
+  noted_none : IsAppliedLogged after_taking machine d e reply next d
+  noted_none = unlogged after_taking machine next d e reply quiet h
+
+  pub live_quiet : IsLive next phase due d.set d.firsts.items at
+  live_quiet = live_guest machine next d d phase due at e reply live noted_none
+
+  pub quiet_served : (digest : Digested) (out : SinkState) → phase ≢ phases.Stopped → Serves (record { machine = machine; phase = phase; due = due; dirty = d.set; digest = digest; out = out }) (Guest e) (r.Guest reply) (record { machine = next; phase = phase; due = due; dirty = d.set; digest = digest; out = out })
+  quiet_served = guest_served machine next d d phase due at e reply live noted_none
 
 -- The end of a round.
 no_members : (s : List Bool) (n : ℕ) → length s ≡ n → HasNone s → s ≡ replicate n false

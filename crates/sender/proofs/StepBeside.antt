@@ -31,7 +31,7 @@ use Rattle.sender.specs.declared.event.LiveReply.TheVariants as r
 use Rattle.sender.specs.declared.phase.Phase.{Phase}
 use Rattle.sender.specs.declared.phase.Phase.TheVariants as phases
 use Rattle.sender.proofs.Behind.{back_is_behind, taken_stays_behind}
-use Rattle.sender.proofs.LiveBack.{IsReady, ready_all, with_all}
+use Rattle.sender.proofs.LiveBack.{ready, ready_all, with_all}
 use Rattle.sender.proofs.Living.{guest_free, length-with_items}
 use Rattle.sender.proofs.Parking.{layout_is, length-with_pages}
 
@@ -89,21 +89,11 @@ module _ (m : MachineState) (h : History) (out : SinkState) (taken pages : List 
   wrote_so : BehindGoesOn m h out (page_writes (parked_base p) wrote seen) (pages ++ wrote) (untaken taken put)
   wrote_so = back m h out taken pages l p before (with_content before seen) wrote [] (pages ++ wrote) b places mem goes lent word (λ n is. cc) (λ n is. is)
 
-  ready : IsReady l seen wrote
-  ready = record {
-    places = places;
-    memory = mem;
-    goes = goes;
-    below = subst (λ (v : List ℕ). AreBelow (length v) wrote) lent.parked.lent.versions_are word.below;
-    long = word.size ∙ ap length lent.parked.lent.bytes;
-    are = word.bytes;
-  }
-
   abbrev filled : LiveSeen
   filled = with_all l seen wrote
 
   filled_places : HasPlaces filled
-  filled_places = (ready_all l seen wrote ready).places
+  filled_places = (ready_all l seen wrote (ready l p before (with_content before seen) wrote places mem goes lent word)).places
 
   bytes_are : seen ≡ (pages_written l.machine.memory wrote seen).bytes
   bytes_are = ap (λ (x : Memory). x.bytes) (memory_back l.machine p.parked before (with_content before seen) wrote mem lent.parked word.place word.size word.below word.others)

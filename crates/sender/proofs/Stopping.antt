@@ -227,10 +227,7 @@ short_of old mid new at pages sent (errors.DiskFailed dev n) h below member s = 
   unread = s.unread;
 }
 short_of old mid new at pages sent errors.StreamFailed h below member s = fails_after old mid new at h.are_sent s
-short_of old mid new at pages sent errors.AlreadyStopped h below member s = absurd s
-short_of old mid new at pages sent errors.NotBegun h below member s = absurd s
-short_of old mid new at pages sent errors.AlreadyBegun h below member s = absurd s
-short_of old mid new at pages sent errors.RoundsEnded h below member s = absurd s
+short_of old mid new at pages sent _ h below member s = absurd s
 
 -- The least due item.
 pub due_below : (s : LiveSeen) (i : ℕ) → HasPlaces s → IsLeast s.due 0 i → i < size_of (layout_of (now s))
@@ -252,19 +249,13 @@ served_done old free none = rw free (none, refl)
 pub copy_failed : (old new : LiveSeen) (i : ℕ) (e : MigError) → refusal_for old.phase events.Copy ≡ None → IsLeast old.due 0 i → SendsItem old i (Err e) new → Serves old events.Copy (r.Mig e) new
 copy_failed old new i (errors.DiskFailed dev n) free least s = rw free (record { number = i; least = least; item_is = s.item_is; unread = s.unread })
 copy_failed old new i errors.StreamFailed free least s = rw free s
-copy_failed old new i errors.AlreadyStopped free least s = absurd s
-copy_failed old new i errors.NotBegun free least s = absurd s
-copy_failed old new i errors.AlreadyBegun free least s = absurd s
-copy_failed old new i errors.RoundsEnded free least s = absurd s
+copy_failed old new i _ free least s = absurd s
 
 -- A stop that failed.
 pub stop_short : (old new : LiveSeen) (e : MigError) → refusal_for old.phase events.Stop ≡ None → SendsAll old (Err e) new → Serves old events.Stop (r.Mig e) new
 stop_short old new (errors.DiskFailed dev n) free s = rw free s
 stop_short old new errors.StreamFailed free s = rw free s
-stop_short old new errors.AlreadyStopped free s = absurd s
-stop_short old new errors.NotBegun free s = absurd s
-stop_short old new errors.AlreadyBegun free s = absurd s
-stop_short old new errors.RoundsEnded free s = absurd s
+stop_short old new _ free s = absurd s
 
 pub stop_failed : (old mid new : LiveSeen) (pages sectors : ℕ) (e : MigError) → refusal_for old.phase events.Stop ≡ None → AllSent old pages sectors mid → ClosesStream {A = Unit {0}} mid (Err e) new → Serves old events.Stop (r.Mig e) new
 stop_failed old mid new pages sectors errors.StreamFailed free s c = rw free (fails_after old mid new (size_of (layout_of (now old))) s.are_sent c)

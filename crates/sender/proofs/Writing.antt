@@ -165,28 +165,14 @@ module _ (m : MachineState) (h : History) (old new : LiveSeen) (f : Follows m h 
 -- A phase that is not failed refuses nothing for a failed writer.
 pub not_failed : (p : Phase) (e : LiveEvent) → refusal_for p e ≡ Some errors.StreamFailed → p ≡ phases.Failed
 not_failed phases.Failed e is = refl
-not_failed phases.Stopped e is = cc
-not_failed phases.Fresh (Guest e) is = cc
-not_failed phases.Fresh Begin is = cc
-not_failed phases.Fresh Copy is = cc
-not_failed phases.Fresh EndRound is = cc
-not_failed phases.Fresh Stop is = cc
-not_failed (phases.Open k) (Guest e) is = cc
-not_failed (phases.Open k) Begin is = cc
-not_failed (phases.Open k) Copy is = cc
 not_failed (phases.Open k) EndRound is = elim (either_way (eqb k last_round)) as (λ _. phases.Open k ≡ phases.Failed) [ inl b ↦ (let x = rw b at is in cc) | inr b ↦ (let x = rw b at is in cc) ]
-not_failed (phases.Open k) Stop is = cc
+not_failed _ _ is = cc
 
 -- In a failed phase only the guest goes on, and it writes nothing.
 pub failed_on : (old new : LiveSeen) (e : LiveEvent) (reply : LiveReply) → old.phase ≡ phases.Failed → Serves old e reply new → (new.phase ≡ phases.Failed) × (new.out ≡ old.out)
 failed_on old new (Guest e) (r.Guest reply) is s = let d = rw is at s in (ap (λ (x : LiveSeen). x.phase) d.rest, ap (λ (x : LiveSeen). x.out) d.rest)
-failed_on old new (Guest e) (r.Begun k) is s = let d = rw is at s in absurd d
-failed_on old new (Guest e) (r.Copied i) is s = let d = rw is at s in absurd d
-failed_on old new (Guest e) r.RoundDone is s = let d = rw is at s in absurd d
-failed_on old new (Guest e) r.RoundOpen is s = let d = rw is at s in absurd d
-failed_on old new (Guest e) (r.Stopped p q) is s = let d = rw is at s in absurd d
-failed_on old new (Guest e) (r.Mig x) is s = let d = rw is at s in absurd d
 failed_on old new Begin reply is s = let d = rw is at s in (ap (λ (x : LiveSeen). x.phase) d.1, ap (λ (x : LiveSeen). x.out) d.1)
 failed_on old new Copy reply is s = let d = rw is at s in (ap (λ (x : LiveSeen). x.phase) d.1, ap (λ (x : LiveSeen). x.out) d.1)
 failed_on old new EndRound reply is s = let d = rw is at s in (ap (λ (x : LiveSeen). x.phase) d.1, ap (λ (x : LiveSeen). x.out) d.1)
 failed_on old new Stop reply is s = let d = rw is at s in (ap (λ (x : LiveSeen). x.phase) d.1, ap (λ (x : LiveSeen). x.out) d.1)
+failed_on old new (Guest e) _ is s = let d = rw is at s in absurd d

@@ -13,7 +13,7 @@ invariant_of-self g c =
     let i = c.self.inside in
     let was = c.disk_gave_logged-answer in
     let e = Disk c.args.dev c.args.pick (answers.Gave c.args.bytes.now) in
-    live_guest i.machine was.new.self i.logs.first was.new.log i.phase i.due i.at (g.W.Sink.sum i.writer) (g.W.Sink.state i.writer) e (disk_reply (Gave c.args.bytes.now) was.result) c.self.invariant was.ensures.applied
+    live_guest i.machine was.new.self i.logs.first was.new.log i.phase i.due i.at e (disk_reply (Gave c.args.bytes.now) was.result) c.self.invariant was.ensures.applied
 
 pub returns-clause-served : goal.returns-clause-served
 returns-clause-served g c =
@@ -22,4 +22,4 @@ returns-clause-served g c =
     let was = c.disk_gave_logged-answer in
     let e = Disk c.args.dev c.args.pick (answers.Gave c.args.bytes.now) in
     rw (← c.self.view_is, c.from_moved.ensures.gave c.args.bytes.now)
-    (guest_served i.machine was.new.self i.logs.first was.new.log i.phase i.due i.at (g.W.Sink.sum i.writer) (g.W.Sink.state i.writer) e (disk_reply (Gave c.args.bytes.now) was.result) c.self.invariant was.ensures.applied still)
+    (guest_served i.machine was.new.self i.logs.first was.new.log i.phase i.due i.at e (disk_reply (Gave c.args.bytes.now) was.result) c.self.invariant was.ensures.applied (g.W.Sink.sum i.writer) (g.W.Sink.state i.writer) still)
