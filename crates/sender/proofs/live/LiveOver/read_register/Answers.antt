@@ -1,5 +1,3 @@
-use Rattle.machine.specs.Direct.{value_reply}
-use Rattle.machine.specs.declared.event.Event.TheVariants.{RegRead}
 use Rattle.sender.proofs.Living.{quiet_served}
 use Rattle.sender.proofs.live.LiveOver.read_register.Goals as goal
 
@@ -8,7 +6,5 @@ returns-clause-served g c =
     let i = c.self.inside in
     let still = rw (← c.self.view_is) at c.in_ok-running.ensures.open in
     let was = c.read_register-answer in
-    let e = RegRead c.args.dev c.args.offset c.args.width in
-    let reply = value_reply was.result in
     rw (← c.self.view_is, c.from_value.ensures)
-    (quiet_served i.machine i.machine i.logs.first i.phase i.due i.at e reply c.self.invariant was.ensures tt (g.W.Sink.sum i.writer) (g.W.Sink.state i.writer) still)
+    (quiet_served i.machine i.machine i.logs.first i.phase i.due i.at _ _ c.self.invariant was.ensures tt (g.W.Sink.sum i.writer) (g.W.Sink.state i.writer) still)

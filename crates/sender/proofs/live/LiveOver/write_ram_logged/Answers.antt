@@ -1,5 +1,3 @@
-use Rattle.machine.specs.Direct.{done_reply}
-use Rattle.machine.specs.declared.event.Event.TheVariants.{MemWrite}
 use Rattle.guestmem.specs.Maybe.{after_if, may_if}
 use Rattle.machine.specs.PageLog.{may_note, noted}
 use Rattle.sender.proofs.Logging.{live_logged, logged_served, may_both}
@@ -14,7 +12,7 @@ pub invariant_of-self : goal.invariant_of-self
 invariant_of-self g c =
     let i = c.self.inside in
     let was = c.write_ram_logged-answer in
-    live_logged (after_if noted) i.machine was.new.self i.logs.first c.args.log.now c.swap.new.x was.new.log (MemWrite c.args.addr c.args.bytes.now) (done_reply was.result) c.swap.ensures.x_after was.ensures.applied i.phase i.due i.at c.self.invariant
+    live_logged (after_if noted) i.machine was.new.self i.logs.first c.args.log.now c.swap.new.x was.new.log _ _ c.swap.ensures.x_after was.ensures.applied i.phase i.due i.at c.self.invariant
 
 pub returns-clause-served : goal.returns-clause-served
 returns-clause-served g c =
@@ -22,4 +20,4 @@ returns-clause-served g c =
     let still = rw (← c.self.view_is) at c.in_ok-running.ensures.open in
     let was = c.write_ram_logged-answer in
     rw (← c.self.view_is, c.swap-2.ensures.y_after, c.from_done.ensures)
-    (logged_served (after_if noted) i.machine was.new.self i.logs.first c.args.log.now c.swap.new.x was.new.log (MemWrite c.args.addr c.args.bytes.now) (done_reply was.result) c.swap.ensures.x_after was.ensures.applied i.phase i.due i.at c.self.invariant (g.W.Sink.sum i.writer) (g.W.Sink.state i.writer) still)
+    (logged_served (after_if noted) i.machine was.new.self i.logs.first c.args.log.now c.swap.new.x was.new.log _ _ c.swap.ensures.x_after was.ensures.applied i.phase i.due i.at c.self.invariant (g.W.Sink.sum i.writer) (g.W.Sink.state i.writer) still)

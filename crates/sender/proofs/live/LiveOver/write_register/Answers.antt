@@ -1,5 +1,3 @@
-use Rattle.machine.specs.Direct.{written_result}
-use Rattle.machine.specs.declared.event.Event.TheVariants.{RegWrite}
 use Rattle.sender.proofs.Living.{live_quiet, quiet_served}
 use Rattle.sender.proofs.live.LiveOver.write_register.Goals as goal
 
@@ -7,16 +5,12 @@ pub invariant_of-self : goal.invariant_of-self
 invariant_of-self g c =
     let i = c.self.inside in
     let was = c.write_register-answer in
-    let e = RegWrite c.args.dev c.args.offset c.args.width c.args.value in
-    let reply = written_result was.result in
-    live_quiet i.machine was.new.self i.logs.first i.phase i.due i.at e reply c.self.invariant was.ensures.applied tt
+    live_quiet i.machine was.new.self i.logs.first i.phase i.due i.at _ _ c.self.invariant was.ensures.applied tt
 
 pub returns-clause-served : goal.returns-clause-served
 returns-clause-served g c =
     let i = c.self.inside in
     let still = rw (← c.self.view_is) at c.in_ok-running.ensures.open in
     let was = c.write_register-answer in
-    let e = RegWrite c.args.dev c.args.offset c.args.width c.args.value in
-    let reply = written_result was.result in
     rw (← c.self.view_is, c.from_written.ensures)
-    (quiet_served i.machine was.new.self i.logs.first i.phase i.due i.at e reply c.self.invariant was.ensures.applied tt (g.W.Sink.sum i.writer) (g.W.Sink.state i.writer) still)
+    (quiet_served i.machine was.new.self i.logs.first i.phase i.due i.at _ _ c.self.invariant was.ensures.applied tt (g.W.Sink.sum i.writer) (g.W.Sink.state i.writer) still)
