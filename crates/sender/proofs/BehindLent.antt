@@ -28,17 +28,14 @@ use Rattle.sender.specs.declared.event.LiveReply.TheVariants as r
 use Rattle.sender.specs.declared.phase.Phase.{Phase}
 use Rattle.sender.specs.declared.phase.Phase.TheVariants as phases
 use Rattle.sender.proofs.Behind.{behind_by_none, failure_stays_behind, flush_stays_behind, taken_stays_behind}
+use Rattle.sender.proofs.Flushed.{agrees_with}
 use Rattle.sender.proofs.Marking.{named_both}
-use Rattle.sender.proofs.StepBeside.{GoesOnLent, back, goes_beside, may_guest, no_text, places_untaken}
+use Rattle.sender.proofs.StepBeside.{GoesOnLent, back, goes_beside, may_guest}
 use Rattle.sender.proofs.ParkedServed.{live_parked_flush_fails, live_parked_is_flushed, live_parked_is_served}
+use Rattle.sender.proofs.Taking.{places_untaken}
+use Rattle.sender.proofs.Unsynced.{no_text}
 
 -- Bytes are taken.
-agrees_over : (p : Phase) (m : MachineState) (h : History) (s : LiveSeen) (out : SinkState) (digest : Digested) → AgreesIn p m h s → AgreesIn p m h (record s { digest = digest; out = out })
-agrees_over phases.Fresh m h s out digest a = a
-agrees_over (phases.Open k) m h s out digest a = record { due = a.due; stale = a.stale }
-agrees_over phases.Stopped m h s out digest a = tt
-agrees_over phases.Failed m h s out digest a = tt
-
 relates_taken : (m : MachineState) (h : History) (out : SinkState) (taken more : List ℕ) (s : LiveSeen) (digest : Digested) (writer : SinkState) → Relates m h out (untaken taken s) → s.out.held ≡ more ++ writer.held → writer.failures ≡ s.out.failures
     → writer.honest ≡ s.out.honest → Takes s.digest [] digest → Relates m h out (untaken (taken ++ more) (record s { digest = digest; out = writer }))
 relates_taken m h out taken more s digest writer g held count honest takes = record {
@@ -46,7 +43,7 @@ relates_taken m h out taken more s digest writer g held count honest takes = rec
     machine = g.follows.machine;
     shape = g.follows.shape;
     phase = g.follows.phase;
-    sets = agrees_over (phase_of h) m h (untaken taken s) (record writer { held = (taken ++ more) ++ writer.held }) digest g.follows.sets;
+    sets = agrees_with (phase_of h) m h (untaken taken s) s.machine digest (record writer { held = (taken ++ more) ++ writer.held }) g.follows.sets;
   };
   allowed = g.allowed;
   honest = g.honest;

@@ -1,12 +1,12 @@
 -- A machine that is sent, and its sets, after each call.
-use Rattle.std.proofs.Common.{◌≡◌, ◌≢◌, ℕ, zero, suc, ◌+◌, ◌<◌, ◌≤◌, ◌^◌, Bool, true, false, List, [], ◌∷◌, length, map, replicate, set, None, Some, refl, sym, ap, subst, ◌∙◌, arith}
+use Rattle.std.proofs.Common.{◌≡◌, ◌≢◌, ℕ, zero, suc, ◌+◌, ◌*◌, ◌<◌, ◌≤◌, ◌^◌, Bool, true, false, List, [], ◌∷◌, length, map, replicate, set, None, Some, refl, sym, ap, subst, ◌∙◌, arith}
 use Rattle.std.proofs.lemmas.Bool.{eq-eqb}
 use Rattle.std.proofs.lemmas.List.{length-set, length-replicate}
 use Rattle.dirtylog.specs.Members.{HasNone, has}
 use Rattle.guestmem.specs.Item.{Item, after_all, page, sector}
 use Rattle.machine.specs.Applied.{IsApplied, IsAppliedLogged, MayItems}
 use Rattle.machine.specs.Effect.{items_of}
-use Rattle.machine.specs.Layout.{IsItemIn, Layout, firsts_of, layout_of, number_in, number_of, size_of}
+use Rattle.machine.specs.Layout.{IsItemIn, Layout, firsts_of, layout_of, number_in, number_of, pages_of, size_of}
 use Rattle.machine.specs.Seen.{Seen, state_of}
 use Rattle.machine.specs.Sound.{IsSound}
 use Rattle.machine.specs.State.{MachineState}
@@ -114,23 +114,24 @@ live_begun machine p q due new_due dirty new_dirty firsts at live due_long dirty
     record { sound = live.sound; sets = fit_next (layout_of (state_of machine)) p q due new_due dirty new_dirty firsts firsts at 0 live.sets due_long dirty_long refl round (omega arith) (λ k below. absurd (omega (arith, below))) }
 
 -- The log may be told of every item.
-pub first_of : (m : MachineState) (firsts : List ℕ) (i : Item) → firsts ≡ firsts_of (layout_of m) → IsItemIn (layout_of m) i → HasFirst firsts i
+first_of : (m : MachineState) (firsts : List ℕ) (i : Item) → firsts ≡ firsts_of (layout_of m) → IsItemIn (layout_of m) i → HasFirst firsts i
 first_of m firsts (page n) are within = tt
 first_of m firsts (sector dev n) are within =
     let below = within_length (map length m.disks) dev n within in
     omega (arith, below, ap length are, length-firsts (map length m.disks) (layout_of m).pages)
 
-pub may_all : (machine : Seen) (d : Dirty) (p : Phase) (due : List Bool) (at : ℕ) → IsLive machine p due d.set d.firsts.items at → MayItems may_take d (state_of machine)
-may_all machine d p due at live = λ i there.
-    let m = state_of machine in
-    let sets = live.sets in
-    let within : IsItemIn (layout_of m) i = in_layout m i live.sound.whole_pages there in
+pub may_named : (m : MachineState) (d : Dirty) (p : Phase) (due : List Bool) (at : ℕ) → SetsFit (layout_of m) p due d.set d.firsts.items at → length m.ram ≡ 4096 * pages_of m → MayItems may_take d m
+may_named m d p due at sets whole = λ i there.
+    let within : IsItemIn (layout_of m) i = in_layout m i whole there in
     let below : number_of (layout_of m) i < length d.set = subst (λ n. number_of (layout_of m) i < n) (sym sets.dirty_size) (number_below (layout_of m) i within) in
     record {
       first = first_of m d.firsts.items i sets.firsts_are within;
       place = subst (λ firsts. number_in firsts i < length d.set) (sym sets.firsts_are) below;
       few = omega (arith, sets.few, sets.due_size, sets.dirty_size);
     }
+
+pub may_all : (machine : Seen) (d : Dirty) (p : Phase) (due : List Bool) (at : ℕ) → IsLive machine p due d.set d.firsts.items at → MayItems may_take d (state_of machine)
+may_all machine d p due at live = may_named (state_of machine) d p due at live.sets live.sound.whole_pages
 
 -- The log after a step.
 pub all_noted : (d : Dirty) (is : List Item) → after_all after_taking d is ≡ record d { set = with_items d.firsts.items d.set is }
@@ -148,10 +149,12 @@ guest_free phases.Stopped e open_still = absurd (open_still refl)
 guest_free phases.Failed e open_still = refl
 
 -- After a stop that closed the stream the guest's events are refused.
+pub closed_refuses : (p : Phase) (e : Event) → p ≡ phases.Stopped → refusal_for p (Guest e) ≡ Some AlreadyStopped
+closed_refuses p e closed = rw closed refl
+
 pub guest_refused : (s : LiveSeen) (e : Event) (x : MigError) → (x ≡ AlreadyStopped) × (s.phase ≡ phases.Stopped) → Serves s (Guest e) (r.Mig x) s
 guest_refused s e x closed =
-    let refused : refusal_for s.phase (Guest e) ≡ Some AlreadyStopped = ap (λ (p : Phase). refusal_for p (Guest e)) closed.1 in
-    rw refused (ap (λ (y : MigError). r.Mig y) closed.0, refl)
+    rw (closed_refuses s.phase e closed.1) (ap (λ (y : MigError). r.Mig y) closed.0, refl)
 
 module _ (machine next : Seen) (d new : Dirty) (phase : Phase) (due : List Bool) (at : ℕ) (e : Event) (reply : Reply) (live : IsLive machine phase due d.set d.firsts.items at) (h : IsAppliedLogged after_taking machine d e reply next new) where
   noted : new ≡ record d { set = with_items d.firsts.items d.set (items_of h.is_applied.effect) }

@@ -24,7 +24,7 @@ use Rattle.sender.specs.declared.event.LiveReply.{LiveReply}
 use Rattle.sender.specs.declared.event.LiveReply.TheVariants as r
 use Rattle.sender.specs.declared.mig_error.MigError.{MigError}
 use Rattle.sender.specs.declared.mig_error.MigError.TheVariants.{AlreadyStopped}
-use Rattle.sender.proofs.Living.{dirty_noted, guest_free, live_guest, may_all}
+use Rattle.sender.proofs.Living.{closed_refuses, dirty_noted, guest_free, live_guest, may_all}
 
 abbrev pub both_after : {L : Type 0} → (L → Item → L) → Both Dirty L → Item → Both Dirty L
 both_after after both i = both_of (after_taking both.first i) (after both.second i)
@@ -62,8 +62,7 @@ module _ {L : Type 0} (after : L → Item → L) (old new : Seen) (d : Dirty) (l
 -- After a stop that closed the stream an event is refused, and the log stays.
 pub logged_refused : {L : Type 0} (after : L → Item → L) (s : LiveSeen) (log : L) (e : Event) (x : MigError) → (x ≡ AlreadyStopped) × (s.phase ≡ phases.Stopped) → ServesLogged after s log e (r.Mig x) s log
 logged_refused after s log e x closed =
-    let refused : refusal_for s.phase (Guest e) ≡ Some AlreadyStopped = ap (λ (p : Phase). refusal_for p (Guest e)) closed.1 in
-    rw refused (ap (λ (y : MigError). r.Mig y) closed.0, refl, refl)
+    rw (closed_refuses s.phase e closed.1) (ap (λ (y : MigError). r.Mig y) closed.0, refl, refl)
 
 module _ {L : Type 0} (after : L → Item → L) (old : LiveSeen) (log : L) (e : Event) (new : LiveSeen) (new_log : L) where
   guests_of : (reply : LiveReply) → GuestsLogged after old log e reply new new_log → Guests old e reply new

@@ -51,7 +51,7 @@ once_more s n (k ∷ pages) named = after_set (set s n true) k pages ∙ named_b
 pub named_first : (n : ℕ) (pages : List ℕ) → is_named (n ∷ pages) n ≡ true
 named_first n pages = rw (eq-eqb n n refl) refl
 
-or_behind : (a b : Bool) → b ≡ true → (a || b) ≡ true
+pub or_behind : (a b : Bool) → b ≡ true → (a || b) ≡ true
 or_behind true b is = refl
 or_behind false b is = is
 

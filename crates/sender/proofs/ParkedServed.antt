@@ -26,7 +26,7 @@ use Rattle.sender.specs.declared.mig_error.MigError.{MigError}
 use Rattle.sender.specs.declared.mig_error.MigError.TheVariants.{AlreadyStopped}
 use Rattle.sender.specs.declared.phase.Phase.{Phase}
 use Rattle.sender.specs.declared.phase.Phase.TheVariants as phases
-use Rattle.sender.proofs.Living.{guest_free}
+use Rattle.sender.proofs.Living.{closed_refuses, guest_free}
 
 -- The sets are those of the pages and of the sectors, which stay.
 pub sets_stay : (p next : ParkedSeen) (phase : Phase) (due dirty : List Bool) (firsts : List ℕ) (at : ℕ) → SetsFit (parked_layout p) phase due dirty firsts at → next.versions ≡ p.versions → parked_sectors next ≡ parked_sectors p
@@ -49,14 +49,12 @@ served_parked p next e reply goes applied rest = rw (guest_free p.phase e goes) 
 -- After a stop that closed the stream each is refused.
 pub parked_refused : (p : LiveParkedSeen) (e : Event) (x : MigError) → (x ≡ AlreadyStopped) × (p.phase ≡ phases.Stopped) → ServesParked p e (r.Mig x) p
 parked_refused p e x closed =
-    let refused : refusal_for p.phase (Guest e) ≡ Some AlreadyStopped = ap (λ (f : Phase). refusal_for f (Guest e)) closed.1 in
-    rw refused (ap (λ (y : MigError). r.Mig y) closed.0, refl)
+    rw (closed_refuses p.phase e closed.1) (ap (λ (y : MigError). r.Mig y) closed.0, refl)
 
 pub parked_flush_refused : (p : LiveParkedSeen) (dev pick : ℕ) (x : MigError) → (x ≡ AlreadyStopped) × (p.phase ≡ phases.Stopped) → TriesParkedFlush p dev pick (Err x) p
 parked_flush_refused p dev pick x closed =
-    let refused : refusal_for p.phase (Guest (Step dev pick)) ≡ Some AlreadyStopped = ap (λ (f : Phase). refusal_for f (Guest (Step dev pick))) closed.1 in
     let P : MigError → Result Bool MigError = λ y. Err y in
-    rw refused (ap P closed.0, refl)
+    rw (closed_refuses p.phase (Step dev pick) closed.1) (ap P closed.0, refl)
 
 answered_by : (p : LiveParkedSeen) (next : ParkedSeen) (dev pick : ℕ) (was : Bool) → FailsParkedFlushIf was p.parked dev pick next → FailsLiveParkedIf was p dev pick (record p { parked = next })
 answered_by p next dev pick true f = record { failed = f; rest = refl }

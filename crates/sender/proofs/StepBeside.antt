@@ -18,7 +18,6 @@ use Rattle.machine.specs.declared.reply.Reply.{Reply}
 use Rattle.machine.proofs.GivenBack.{memory_back, still_memory}
 use Rattle.machine.proofs.Numbering.{same_layout}
 use Rattle.wire.specs.Sinks.{SinkState}
-use Rattle.wire.specs.Stream.{texts}
 use Rattle.sender.specs.Calls.{AfterGuest, Serves, with_items}
 use Rattle.sender.specs.History.{History, guest_events, text, then_came}
 use Rattle.sender.specs.LiveState.{HasPlaces, LiveSeen, now}
@@ -34,18 +33,13 @@ use Rattle.sender.proofs.Behind.{back_is_behind, taken_stays_behind}
 use Rattle.sender.proofs.LiveBack.{ready, ready_all, with_all}
 use Rattle.sender.proofs.Living.{guest_free, length-with_items}
 use Rattle.sender.proofs.Parking.{layout_is, length-with_pages}
+use Rattle.sender.proofs.Taking.{places_untaken}
+use Rattle.sender.proofs.Unsynced.{no_text}
 
 -- An event of the guest may come whatever is missing.
 pub may_guest : (pages : List ℕ) (e : Event) → MayCall pages (Guest e)
 may_guest [] e = tt
 may_guest (n ∷ pages) e = tt
-
-pub places_untaken : (taken : List ℕ) (l : LiveSeen) → HasPlaces l → HasPlaces (untaken taken l)
-places_untaken taken l places = record { sound = places.sound; few = places.few; due_size = places.due_size; dirty_size = places.dirty_size }
-
-pub no_text : (m : MachineState) (h : History) (e : Event) (reply : Reply) (f : Effect) → text m (then_came h (Guest e) (r.Guest reply) f) ≡ text m h
-unfolding texts
-no_text m h e reply f = append-nil (text m h)
 
 -- One call while the RAM is lent: the history, the machine as it was lent, and all that its RAM holds by the history.
 pub record GoesOnLent (m : MachineState) (h : History) (out : SinkState) (taken pages : List ℕ) (before : Region) (c : LentCall) (p mid : LiveParkedSeen) : Type 0 where

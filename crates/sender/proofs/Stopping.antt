@@ -233,13 +233,6 @@ short_of old mid new at pages sent _ h below member s = absurd s
 pub due_below : (s : LiveSeen) (i : ℕ) → HasPlaces s → IsLeast s.due 0 i → i < size_of (layout_of (now s))
 due_below s i places h = omega (arith, places.due_size, member_below s.due i h.member)
 
-pub least_on : (set : List Bool) (at n : ℕ) → ((k : ℕ) → k < at → has set k ≡ false) → IsLeast set at n → IsLeast set 0 n
-least_on set at n passed h = record {
-  reached = omega arith;
-  member = h.member;
-  least = λ k from below. elim (lt_or_le k at) as (λ _. has set k ≡ false) [ inl a ↦ passed k a | inr b ↦ h.least k b below ];
-}
-
 pub served_copy : (old new : LiveSeen) (i : ℕ) (item : Item) → refusal_for old.phase events.Copy ≡ None → IsLeast old.due 0 i → SendsOk old i item new → Serves old events.Copy (r.Copied item) new
 served_copy old new i item free least s = rw free (record { number = i; least = least; item_is = s.item_is; sent = s.sent })
 

@@ -124,10 +124,12 @@ module _ (taken : List ℕ) where
 pub calls_ignore_taken : CallsIgnoreTaken
 calls_ignore_taken taken old new e reply s = serves_by taken (refusal_for old.phase e) old e reply new s
 
+pub places_untaken : (taken : List ℕ) (s : LiveSeen) → HasPlaces s → HasPlaces (untaken taken s)
+places_untaken taken s places = record { sound = places.sound; few = places.few; due_size = places.due_size; dirty_size = places.dirty_size }
+
 pub taken_follow : TakenFollow
 taken_follow m h out taken e reply old new g places s =
-    let there : HasPlaces (untaken taken old) = record { sound = places.sound; few = places.few; due_size = places.due_size; dirty_size = places.dirty_size } in
-    let gone = relates_on m h out e reply (untaken taken old) (untaken taken new) g there (calls_ignore_taken taken old new e reply s) in
+    let gone = relates_on m h out e reply (untaken taken old) (untaken taken new) g (places_untaken taken old places) (calls_ignore_taken taken old new e reply s) in
     record { effect = gone.effect; relates = gone.relates }
 
 pub taken_are_whole : TakenAreWhole
