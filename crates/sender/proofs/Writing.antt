@@ -165,8 +165,17 @@ module _ (m : MachineState) (h : History) (old new : LiveSeen) (f : Follows m h 
 -- A phase that is not failed refuses nothing for a failed writer.
 pub not_failed : (p : Phase) (e : LiveEvent) → refusal_for p e ≡ Some errors.StreamFailed → p ≡ phases.Failed
 not_failed phases.Failed e is = refl
+not_failed phases.Stopped e is = cc
+not_failed phases.Fresh (Guest e) is = cc
+not_failed phases.Fresh Begin is = cc
+not_failed phases.Fresh Copy is = cc
+not_failed phases.Fresh EndRound is = cc
+not_failed phases.Fresh Stop is = cc
+not_failed (phases.Open k) (Guest e) is = cc
+not_failed (phases.Open k) Begin is = cc
+not_failed (phases.Open k) Copy is = cc
 not_failed (phases.Open k) EndRound is = elim (either_way (eqb k last_round)) as (λ _. phases.Open k ≡ phases.Failed) [ inl b ↦ (let x = rw b at is in cc) | inr b ↦ (let x = rw b at is in cc) ]
-not_failed _ _ is = cc
+not_failed (phases.Open k) Stop is = cc
 
 -- In a failed phase only the guest goes on, and it writes nothing.
 pub failed_on : (old new : LiveSeen) (e : LiveEvent) (reply : LiveReply) → old.phase ≡ phases.Failed → Serves old e reply new → (new.phase ≡ phases.Failed) × (new.out ≡ old.out)
