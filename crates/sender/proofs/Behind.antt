@@ -4,20 +4,13 @@ use Rattle.region.specs.Address.{address}
 use Rattle.guestmem.specs.Lent.{given_back, is_named, pages_written}
 use Rattle.guestmem.specs.Write.{written}
 use Rattle.guestmem.proofs.GivenBack.{marked_is_written}
-use Rattle.machine.specs.EffectLaws.{IsSameShape}
-use Rattle.machine.specs.Seen.{Seen, all_marks, state_of}
-use Rattle.machine.specs.State.{MachineState}
 use Rattle.machine.proofs.GivenBack.{with_memory}
 use Rattle.machine.proofs.Numbering.{either_way}
-use Rattle.wire.specs.Sinks.{SinkState}
-use Rattle.sender.specs.Follows.{AgreesIn, Relates}
-use Rattle.sender.specs.History.{History, phase_of}
-use Rattle.sender.specs.LiveState.{HasPlaces, LiveSeen, now, refusal_for}
+use Rattle.sender.specs.Follows.{Relates}
+use Rattle.sender.specs.LiveState.{HasPlaces, LiveSeen, refusal_for}
 use Rattle.sender.specs.Marks.{AreAmong, BackIsBehind, BehindByNone, CallsStayBehind, FailureStaysBehind, FlushStaysBehind, MarksCatchUp, StaysBehind, TakenStaysBehind, if_dirty, live_marked, still_behind}
 use Rattle.sender.specs.Parked.{IsLiveParked, LiveParkedSeen, live_back, with_pages}
 use Rattle.sender.specs.Taking.{untaken}
-use Rattle.sender.specs.declared.phase.Phase.{Phase}
-use Rattle.sender.specs.declared.phase.Phase.TheVariants as phases
 use Rattle.sender.proofs.Flushed.{flush_follows, relates_with}
 use Rattle.sender.proofs.LiveBack.{IsReady, all_related, live_back_follows}
 use Rattle.sender.proofs.Marking.{beside, beside_late, beside_named, both_ways, in_turn, may_call, named_both, named_first, or_behind, serves_late, still_among, taken_in}

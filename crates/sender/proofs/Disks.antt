@@ -8,7 +8,7 @@ use Rattle.machine.specs.Shapes.{sector_count, made_as}
 use Rattle.machine.specs.Sound.{IsSound, IsSoundDevice, IsSoundShape}
 use Rattle.machine.specs.State.{DeviceState, MachineState}
 use Rattle.machine.specs.declared.shape.Shape.{Shape}
-use Rattle.machine.specs.declared.shape.Shape.TheVariants.{Net, LongNet, Block, Outside, Console, Entropy}
+use Rattle.machine.specs.declared.shape.Shape.TheVariants.{Block}
 use Rattle.machine.proofs.Numbering.{has_item, shape_counts}
 use Rattle.sender.specs.Items.{size_on}
 

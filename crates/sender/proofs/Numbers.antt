@@ -1,9 +1,7 @@
 -- The numbering of a machine's items, disk by disk.
-use Rattle.std.proofs.Common.{◌≡◌, ℕ, zero, suc, ◌+◌, ◌-◌, ◌*◌, ◌<◌, ◌≤◌, true, false, List, [], ◌∷◌, ◌++◌, length, map, take, drop, get_or, ltb, eqb, refl, sym, ap, ◌∙◌, arith}
-use Rattle.std.proofs.lemmas.Bool.{eqb-true, eq-eqb}
+use Rattle.std.proofs.Common.{◌≡◌, ℕ, zero, suc, ◌+◌, ◌-◌, ◌*◌, ◌<◌, ◌≤◌, true, false, List, [], ◌∷◌, ◌++◌, length, map, take, drop, get_or, ltb, refl, sym, ap, ◌∙◌, arith}
 use Rattle.std.proofs.lemmas.List.{length-map, take_more}
-use Rattle.std.specs.Prelude.{◌↔◌}
-use Rattle.guestmem.specs.Item.{page, sector}
+use Rattle.guestmem.specs.Item.{sector}
 use Rattle.machine.specs.Shapes.{made_as}
 use Rattle.machine.specs.EffectLaws.{HasItem}
 use Rattle.machine.specs.Layout.{firsts_from, firsts_of, item_at, layout_of, pages_of, sector_from, size_from, size_of}

@@ -1,29 +1,25 @@
 -- A step over a window, of a machine that is being migrated.
-use Rattle.std.proofs.Common.{◌≡◌, ◌≢◌, ℕ, ◌*◌, ◌<◌, ◌%◌, Bool, List, length, map, refl, sym, ap, subst, ◌∙◌, arith}
-use Rattle.std.specs.Prelude.{Err, Ok, Result, Some}
+use Rattle.std.proofs.Common.{◌≡◌, ◌≢◌, ℕ, ◌*◌, Bool, List, length, refl, sym, ap, subst, ◌∙◌, arith}
+use Rattle.std.specs.Prelude.{Err, Ok, Result}
 use Rattle.region.specs.declared.region.Region.{Region}
-use Rattle.guestmem.specs.Item.{Item, page, sector}
 use Rattle.machine.specs.Applied.{MayItems}
 use Rattle.machine.specs.Beside.{IsLoggedOver, window_memory}
 use Rattle.machine.specs.Effect.{items_of}
-use Rattle.machine.specs.Layout.{IsItemIn, Layout, firsts_of, layout_of, number_in, number_of}
+use Rattle.machine.specs.Layout.{Layout}
 use Rattle.machine.specs.Parked.{ParkedSeen, back_with}
 use Rattle.machine.specs.Seen.{Seen, state_of}
-use Rattle.machine.specs.State.{MachineState}
 use Rattle.machine.specs.Stepped.{reply_in}
 use Rattle.machine.specs.declared.event.Event.TheVariants.{Step}
 use Rattle.machine.specs.declared.reply.Reply.{Reply}
 use Rattle.machine.specs.declared.stepped.Stepped.{Stepped}
-use Rattle.machine.proofs.Numbering.{in_layout, number_below, same_layout}
+use Rattle.machine.proofs.Numbering.{same_layout}
 use Rattle.wire.specs.Sinks.{Digested, SinkState}
 use Rattle.sender.specs.Beside.{IsLiveMadeOver, TriesOver}
 use Rattle.sender.specs.Calls.{with_items}
 use Rattle.sender.specs.Dirty.{after_taking, may_take}
-use Rattle.sender.specs.LiveState.{refusal_for}
 use Rattle.sender.specs.Parked.{LiveParkedSeen, parked_layout}
 use Rattle.sender.specs.Stopping.{SetsFit}
 use Rattle.sender.specs.declared.dirty.Dirty.{Dirty}
-use Rattle.sender.specs.declared.event.LiveEvent.TheVariants.{Guest}
 use Rattle.sender.specs.declared.mig_error.MigError.{MigError}
 use Rattle.sender.specs.declared.mig_error.MigError.TheVariants.{AlreadyStopped}
 use Rattle.sender.specs.declared.phase.Phase.{Phase}

@@ -14,7 +14,7 @@ use Rattle.guestmem.specs.Item as items
 use Rattle.sender.specs.Reads.{ReadsItem}
 use Rattle.sender.specs.Saving.{AddsItem, Sends}
 use Rattle.sender.specs.declared.mig_error.MigError.{MigError}
-use Rattle.sender.specs.declared.mig_error.MigError.TheVariants.{AlreadyBegun, AlreadyStopped, DiskFailed, NotBegun, RoundsEnded, StreamFailed}
+use Rattle.sender.specs.declared.mig_error.MigError.TheVariants.{DiskFailed, StreamFailed}
 use Rattle.wire.specs.Records.{sector, spelled_record}
 use Rattle.wire.specs.Sinks.{Appends, Digested, SinkState, Takes}
 use Rattle.wire.specs.Stream.{content_of, record_of}

@@ -7,7 +7,7 @@ use Rattle.machine.specs.Seen.{AreHonest, Seen, all_marks, marks_at, state_of}
 use Rattle.machine.specs.State.{MachineState}
 use Rattle.sender.specs.Saving.{IsNamed, Sends, TakesOn, has_writer_failed, marks_after}
 use Rattle.sender.specs.declared.mig_error.MigError.{MigError}
-use Rattle.sender.specs.declared.mig_error.MigError.TheVariants.{AlreadyBegun, AlreadyStopped, DiskFailed, NotBegun, RoundsEnded, StreamFailed}
+use Rattle.sender.specs.declared.mig_error.MigError.TheVariants.{DiskFailed, StreamFailed}
 use Rattle.wire.specs.Sinks.{Appends, Covers, Digested, SinkState}
 
 -- What was said of a machine holds of one with the same state and marks.

@@ -1,15 +1,15 @@
 -- A step beside the guest, while the RAM is lent.
-use Rattle.std.proofs.Common.{◌≡◌, ◌≢◌, ℕ, ◌+◌, ◌*◌, ◌^◌, ◌<◌, ◌++◌, Bool, List, [], ◌∷◌, length, map, refl, sym, ap, subst, ◌∙◌, append_assoc, append-nil, arith}
+use Rattle.std.proofs.Common.{◌≡◌, ◌≢◌, ℕ, ◌*◌, ◌^◌, ◌<◌, ◌++◌, Bool, List, [], ◌∷◌, length, map, refl, sym, ap, subst, ◌∙◌, append_assoc, append-nil, arith}
 use Rattle.region.specs.Address.{address}
 use Rattle.region.specs.Lending.{with_content}
 use Rattle.region.specs.declared.region.Region.{Region}
 use Rattle.guestmem.specs.Item.{Item}
-use Rattle.guestmem.specs.Lent.{AreBelow, given_back, pages_written}
+use Rattle.guestmem.specs.Lent.{given_back, pages_written}
 use Rattle.guestmem.specs.Memory.{IsMemory, Memory}
 use Rattle.machine.specs.Beside.{IsStepOf}
 use Rattle.machine.specs.Effect.{Effect, items_of}
 use Rattle.machine.specs.Layout.{Layout, firsts_of, layout_of, size_of}
-use Rattle.machine.specs.Seen.{DeviceSeen, Seen, state_of}
+use Rattle.machine.specs.Seen.{DeviceSeen, state_of}
 use Rattle.machine.specs.Sound.{IsSound}
 use Rattle.machine.specs.State.{MachineState, base_of}
 use Rattle.machine.specs.declared.event.Event.{Event}

@@ -2,7 +2,7 @@
 use Rattle.std.proofs.Common.{◌≡◌, ◌≢◌, ◌^◌, ◌-◌, ℕ, zero, suc, add-one, ◌+◌, ◌<◌, ◌≤◌, List, [], ◌∷◌, ◌++◌, length, None, Err, Bool, true, false, cond, ◌&&◌, not, nat_lt, refl, ap, sym, subst, ◌∙◌, append_assoc, append-nil, ◌⊎◌, inl, inr, arith}
 use Rattle.sender.proofs.Living.{member_below}
 use Rattle.std.proofs.lemmas.List.{get_or-set_same, get_or-set_other, length-set}
-use Rattle.dirtylog.specs.Members.{HasNone, IsLeast, has}
+use Rattle.dirtylog.specs.Members.{HasNone, IsLeast}
 use Rattle.guestmem.specs.Item as items
 use Rattle.machine.specs.Layout.{item_at, layout_of, pages_of, size_of}
 use Rattle.machine.specs.Seen.{Seen}

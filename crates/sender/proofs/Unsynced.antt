@@ -1,6 +1,6 @@
 -- A flush that fails in place of its step, and the history.
 use Rattle.std.proofs.Common.{◌≡◌, ◌≢◌, ℕ, List, Bool, true, false, ◌||◌, refl, ap, sym, subst, ◌∙◌}
-use Rattle.std.specs.Prelude.{All, Err, IsTrue, Ok, Result, Some}
+use Rattle.std.specs.Prelude.{All, Err, IsTrue, Ok, Result}
 use Rattle.std.proofs.lemmas.List.{append-nil}
 use Rattle.machine.specs.Effect.{Effect, applied}
 use Rattle.machine.specs.Seen.{Marks, Seen, state_of}
@@ -18,7 +18,7 @@ use Rattle.wire.specs.Sinks.{Digested, SinkState}
 use Rattle.wire.specs.Stream.{texts}
 use Rattle.sender.specs.Follows.{Relates}
 use Rattle.sender.specs.History.{History, has_fault, text, then_came}
-use Rattle.sender.specs.LiveState.{HasPlaces, LiveSeen, now, refusal_for}
+use Rattle.sender.specs.LiveState.{HasPlaces, LiveSeen, now}
 use Rattle.sender.specs.Stopping.{IsLive}
 use Rattle.sender.specs.Taking.{untaken}
 use Rattle.sender.specs.Unsynced.{FailsLiveFlush, FailsLiveFlushIf, FailureFollows, FailureGoesOn, TakenFailureFollows, TriesFlush}
