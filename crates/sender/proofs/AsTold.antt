@@ -575,11 +575,8 @@ writing_on out e reply old new g places s = elim (told (refusal_for old.phase e)
 
 -- A reply that a stop was Ok comes to a stop alone, and is the last that changes anything.
 does_stop : (old new : LiveSeen) (e : LiveEvent) (pages sectors : ℕ) → Does old e (r.Stopped pages sectors) new → new.phase ≡ phases.Stopped
-does_stop old new (Guest e) pages sectors d = absurd d
-does_stop old new Begin pages sectors d = absurd d
-does_stop old new Copy pages sectors d = absurd d
-does_stop old new EndRound pages sectors d = absurd d
 does_stop old new Stop pages sectors d = d.phase
+does_stop old new _ pages sectors d = absurd d
 
 stopped_now : (old new : LiveSeen) (e : LiveEvent) (pages sectors : ℕ) → Serves old e (r.Stopped pages sectors) new → new.phase ≡ phases.Stopped
 stopped_now old new e pages sectors s =
@@ -614,12 +611,7 @@ stopped_either (r.Mig x ∷ replies) reply h = stopped_either replies reply h
 
 stops_now : (old new : LiveSeen) (e : LiveEvent) (reply : LiveReply) → HasStopped (reply ∷ []) → Serves old e reply new → new.phase ≡ phases.Stopped
 stops_now old new e (r.Stopped pages sectors) h s = stopped_now old new e pages sectors s
-stops_now old new e (r.Guest x) h s = absurd h
-stops_now old new e (r.Begun k) h s = absurd h
-stops_now old new e (r.Copied item) h s = absurd h
-stops_now old new e r.RoundDone h s = absurd h
-stops_now old new e r.RoundOpen h s = absurd h
-stops_now old new e (r.Mig x) h s = absurd h
+stops_now old new e _ h s = absurd h
 
 pub written_on : (out : SinkState) (replies : List LiveReply) (e : LiveEvent) (reply : LiveReply) (old new : LiveSeen) → HasPlaces old → Serves old e reply new → HasWritten out replies old → HasWritten out (replies ++ reply ∷ []) new
 written_on out replies e reply old new places s w = record {

@@ -4,50 +4,20 @@ use Rattle.region.specs.Address.{address}
 use Rattle.guestmem.specs.Lent.{given_back, is_named, pages_written}
 use Rattle.guestmem.specs.Write.{written}
 use Rattle.guestmem.proofs.GivenBack.{marked_is_written}
-use Rattle.machine.specs.EffectLaws.{IsSameShape}
-use Rattle.machine.specs.Seen.{Seen, all_marks, state_of}
-use Rattle.machine.specs.State.{MachineState}
 use Rattle.machine.proofs.GivenBack.{with_memory}
 use Rattle.machine.proofs.Numbering.{either_way}
-use Rattle.wire.specs.Sinks.{SinkState}
-use Rattle.sender.specs.Follows.{AgreesIn, Relates}
-use Rattle.sender.specs.History.{History, phase_of}
-use Rattle.sender.specs.LiveState.{HasPlaces, LiveSeen, now, refusal_for}
+use Rattle.sender.specs.Follows.{Relates}
+use Rattle.sender.specs.LiveState.{HasPlaces, LiveSeen, refusal_for}
 use Rattle.sender.specs.Marks.{AreAmong, BackIsBehind, BehindByNone, CallsStayBehind, FailureStaysBehind, FlushStaysBehind, MarksCatchUp, StaysBehind, TakenStaysBehind, if_dirty, live_marked, still_behind}
 use Rattle.sender.specs.Parked.{IsLiveParked, LiveParkedSeen, live_back, with_pages}
 use Rattle.sender.specs.Taking.{untaken}
-use Rattle.sender.specs.declared.phase.Phase.{Phase}
-use Rattle.sender.specs.declared.phase.Phase.TheVariants as phases
-use Rattle.sender.proofs.Flushed.{flush_follows}
+use Rattle.sender.proofs.Flushed.{flush_follows, relates_with}
 use Rattle.sender.proofs.LiveBack.{IsReady, all_related, live_back_follows}
-use Rattle.sender.proofs.Marking.{beside, beside_late, beside_named, both_ways, in_turn, may_call, named_both, named_first, serves_late, still_among, taken_in}
+use Rattle.sender.proofs.Marking.{beside, beside_late, beside_named, both_ways, in_turn, may_call, named_both, named_first, or_behind, serves_late, still_among, taken_in}
 use Rattle.sender.proofs.Parking.{length-with_pages}
 use Rattle.sender.proofs.Relating.{relates_on}
-use Rattle.sender.proofs.Taking.{calls_ignore_taken}
+use Rattle.sender.proofs.Taking.{calls_ignore_taken, places_untaken}
 use Rattle.sender.proofs.Unsynced.{failure_follows}
-
--- What a history promises does not speak of versions.
-agrees_seen : (p : Phase) (m : MachineState) (h : History) (s : LiveSeen) (x : Seen) → AgreesIn p m h s → AgreesIn p m h (record s { machine = x })
-agrees_seen phases.Fresh m h s x a = a
-agrees_seen (phases.Open k) m h s x a = record { due = a.due; stale = a.stale }
-agrees_seen phases.Stopped m h s x a = tt
-agrees_seen phases.Failed m h s x a = tt
-
-relates_seen : (m : MachineState) (h : History) (out : SinkState) (s : LiveSeen) (x : Seen) → state_of x ≡ now s → all_marks x ≡ all_marks s.machine → Relates m h out s → Relates m h out (record s { machine = x })
-relates_seen m h out s x same marks g = record {
-  follows = record {
-    machine = same ∙ g.follows.machine;
-    shape = subst (λ (y : MachineState). IsSameShape m y) (sym same) g.follows.shape;
-    phase = g.follows.phase;
-    sets = agrees_seen (phase_of h) m h s x g.follows.sets;
-  };
-  allowed = g.allowed;
-  honest = rw marks g.honest;
-  fault = g.fault;
-  count = g.count;
-  held = g.held;
-  taken = g.taken;
-}
 
 -- The set has an entry for each item, whatever is dirty.
 places_late : (l : LiveSeen) (late : List ℕ) → HasPlaces l → HasPlaces (if_dirty late l)
@@ -76,8 +46,7 @@ calls_stay_behind m h out pages e reply old new b places may s = elim (may_call 
 
 pub taken_stays_behind : TakenStaysBehind
 taken_stays_behind m h out taken pages e reply old new b places may s =
-    let there : HasPlaces (untaken taken old) = record { sound = places.sound; few = places.few; due_size = places.due_size; dirty_size = places.dirty_size } in
-    calls_stay_behind m h out pages e reply (untaken taken old) (untaken taken new) b there may (calls_ignore_taken taken old new e reply s)
+    calls_stay_behind m h out pages e reply (untaken taken old) (untaken taken new) b (places_untaken taken old places) may (calls_ignore_taken taken old new e reply s)
 
 pub failure_stays_behind : FailureStaysBehind
 failure_stays_behind m h out pages dev pick old new b places goes f =
@@ -95,10 +64,6 @@ flush_stays_behind m h out pages dev result old new b f = record {
 or_left : (a b : Bool) → a ≡ true → (a || b) ≡ true
 or_left a b is = rw is refl
 
-or_right : (a b : Bool) → b ≡ true → (a || b) ≡ true
-or_right true b is = refl
-or_right false b is = is
-
 or_second : (a b : Bool) → (a || b) ≡ true → a ≡ false → b ≡ true
 or_second true b is none = cc
 or_second false b is none = is
@@ -107,7 +72,7 @@ joined : (late pages written : List ℕ) → AreAmong late pages → AreAmong (l
 joined late pages written among n is =
     named_both n pages written ∙ elim (either_way (is_named late n)) as (λ _. (is_named pages n || is_named written n) ≡ true) [
       | inl e ↦ or_left (is_named pages n) (is_named written n) (among n e)
-      | inr e ↦ or_right (is_named pages n) (is_named written n) (or_second (is_named late n) (is_named written n) (sym (named_both n late written) ∙ is) e)
+      | inr e ↦ or_behind (is_named pages n) (is_named written n) (or_second (is_named late n) (is_named written n) (sym (named_both n late written) ∙ is) e)
     ]
 
 caught : (pages late marks rest : List ℕ) → AreAmong late pages → AreAmong pages (marks ++ rest) → AreAmong (beside marks late) rest
@@ -132,7 +97,7 @@ back_is_behind m h out pages l p before after written named rest b places mem go
       behind = record {
         late = still;
         among = caught (pages ++ written) (late ++ written) named rest (joined late pages written b.among) all;
-        relates = subst P (sym dirty) (relates_seen m gone.history out (live_back q (given_back after.content (address after) p.parked.versions written) written) new.machine refl refl gone.relates);
+        relates = subst P (sym dirty) (relates_with m gone.history out (live_back q (given_back after.content (address after) p.parked.versions written) written) new.machine gone.relates refl gone.relates.honest);
       };
       came = gone.came;
       text_is = gone.text_is;

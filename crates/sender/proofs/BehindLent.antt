@@ -1,25 +1,21 @@
 -- The history of a machine whose RAM was lent, with the calls that were made meanwhile.
-use Rattle.std.proofs.Common.{◌≡◌, ◌≢◌, ℕ, ◌++◌, ◌||◌, Bool, true, false, List, [], ◌∷◌, length, map, refl, sym, ap, subst, ◌∙◌, append_assoc, append-nil}
+use Rattle.std.proofs.Common.{◌≡◌, ◌≢◌, ℕ, ◌++◌, ◌||◌, Bool, true, false, List, [], ◌∷◌, length, refl, sym, ap, subst, ◌∙◌, append_assoc, append-nil}
 use Rattle.std.specs.Prelude.{IsTrue}
 use Rattle.region.specs.Address.{address}
 use Rattle.region.specs.declared.region.Region.{Region}
 use Rattle.guestmem.specs.Lent.{given_back, is_named}
 use Rattle.guestmem.specs.Memory.{IsMemory, Memory}
 use Rattle.machine.specs.Parked.{IsParked, ParkedSeen}
-use Rattle.machine.specs.Seen.{DeviceSeen}
-use Rattle.machine.specs.State.{MachineState, base_of}
-use Rattle.machine.specs.Effect.{Effect}
+use Rattle.machine.specs.State.{MachineState}
 use Rattle.machine.specs.declared.event.Event.{Event}
 use Rattle.machine.specs.declared.event.Event.TheVariants.{Step}
-use Rattle.machine.specs.declared.reply.Reply.{Reply}
 use Rattle.machine.specs.declared.reply.Reply.TheVariants.{DiskFailed}
 use Rattle.wire.specs.Sinks.{Covers, Digested, SinkState, Takes}
-use Rattle.wire.specs.Stream.{texts}
-use Rattle.sender.specs.Follows.{AgreesIn, Relates}
+use Rattle.sender.specs.Follows.{Relates}
 use Rattle.sender.specs.History.{History, guest_events, phase_of, text, then_came}
 use Rattle.sender.specs.LiveState.{HasPlaces, LiveSeen}
-use Rattle.sender.specs.Marks.{AreAmong, BehindGoesOn, IsBehind, LentIsBehind, MayCall, TakingStaysBehind, if_dirty}
-use Rattle.sender.specs.Parked.{IsLiveParked, KeepsWord, LiveParkedSeen, live_back, live_base, page_writes}
+use Rattle.sender.specs.Marks.{BehindGoesOn, IsBehind, LentIsBehind, TakingStaysBehind, if_dirty}
+use Rattle.sender.specs.Parked.{IsLiveParked, KeepsWord, LiveParkedSeen, live_back, page_writes}
 use Rattle.sender.specs.ParkedCalls.{AreSeen, IsDoneLiveLent, IsLentCall, IsSeen, IsServedUncalled, LentCall, LentFollows, a_failed_flush, a_flush, a_step, a_taking, an_event, bytes_among, bytes_in, events_among, events_in, missing_among, missing_in, over_with, over_with_all, parked_base}
 use Rattle.sender.specs.Taking.{untaken}
 use Rattle.sender.specs.Unsynced.{FailsLiveFlush, FlushesLiveDisk}
@@ -28,17 +24,14 @@ use Rattle.sender.specs.declared.event.LiveReply.TheVariants as r
 use Rattle.sender.specs.declared.phase.Phase.{Phase}
 use Rattle.sender.specs.declared.phase.Phase.TheVariants as phases
 use Rattle.sender.proofs.Behind.{behind_by_none, failure_stays_behind, flush_stays_behind, taken_stays_behind}
+use Rattle.sender.proofs.Flushed.{agrees_with}
 use Rattle.sender.proofs.Marking.{named_both}
-use Rattle.sender.proofs.StepBeside.{GoesOnLent, back, goes_beside, may_guest, no_text, places_untaken}
+use Rattle.sender.proofs.StepBeside.{GoesOnLent, back, goes_beside, may_guest}
 use Rattle.sender.proofs.ParkedServed.{live_parked_flush_fails, live_parked_is_flushed, live_parked_is_served}
+use Rattle.sender.proofs.Taking.{places_untaken}
+use Rattle.sender.proofs.Unsynced.{no_text}
 
 -- Bytes are taken.
-agrees_over : (p : Phase) (m : MachineState) (h : History) (s : LiveSeen) (out : SinkState) (digest : Digested) → AgreesIn p m h s → AgreesIn p m h (record s { digest = digest; out = out })
-agrees_over phases.Fresh m h s out digest a = a
-agrees_over (phases.Open k) m h s out digest a = record { due = a.due; stale = a.stale }
-agrees_over phases.Stopped m h s out digest a = tt
-agrees_over phases.Failed m h s out digest a = tt
-
 relates_taken : (m : MachineState) (h : History) (out : SinkState) (taken more : List ℕ) (s : LiveSeen) (digest : Digested) (writer : SinkState) → Relates m h out (untaken taken s) → s.out.held ≡ more ++ writer.held → writer.failures ≡ s.out.failures
     → writer.honest ≡ s.out.honest → Takes s.digest [] digest → Relates m h out (untaken (taken ++ more) (record s { digest = digest; out = writer }))
 relates_taken m h out taken more s digest writer g held count honest takes = record {
@@ -46,7 +39,7 @@ relates_taken m h out taken more s digest writer g held count honest takes = rec
     machine = g.follows.machine;
     shape = g.follows.shape;
     phase = g.follows.phase;
-    sets = agrees_over (phase_of h) m h (untaken taken s) (record writer { held = (taken ++ more) ++ writer.held }) digest g.follows.sets;
+    sets = agrees_with (phase_of h) m h (untaken taken s) s.machine digest (record writer { held = (taken ++ more) ++ writer.held }) g.follows.sets;
   };
   allowed = g.allowed;
   honest = g.honest;
@@ -64,56 +57,37 @@ module _ (m : MachineState) (h : History) (out : SinkState) (taken pages : List 
   nothing_taken : (history : History) (after : LiveSeen) → IsBehind m history out pages (untaken taken after) → IsBehind m history out pages (untaken (taken ++ []) after)
   nothing_taken history after = subst (λ (t : List ℕ). IsBehind m history out pages (untaken t after)) (sym (append-nil taken))
 
-  stays : (after : LiveSeen) → after.machine.memory ≡ l.machine.memory → IsLiveParked after before mid → length mid.parked.versions ≡ length p.parked.versions
-  stays after memory there = ap length (there.parked.lent.versions_are ∙ ap (λ (x : Memory). x.versions) memory ∙ sym lent.parked.lent.versions_are)
+  -- A call that was done with the machine that was lent.
+  goes_with : (c : LentCall) (does : LiveSeen → Type 0) (one : IsDoneLiveLent l (over_with before c) mid does) (history : History) → IsBehind m history out (missing_in pages c) (untaken (taken ++ bytes_in c) one.after) → guest_events history ≡ guest_events h ++ events_in c
+      → text m history ≡ text m h → GoesOnLent m h out taken pages before c p mid
+  goes_with c does one history behind came text_is = record {
+    history = history;
+    after = one.after;
+    behind = behind;
+    came = came;
+    text_is = text_is;
+    parked = one.parked;
+    places = one.places;
+    memory = subst IsMemory (sym one.memory) mem;
+    versions = ap length (one.parked.parked.lent.versions_are ∙ ap (λ (x : Memory). x.versions) one.memory ∙ sym lent.parked.lent.versions_are);
+    goes = subst (λ (f : Phase). f ≢ phases.Stopped) (sym one.phase) goes;
+  }
 
   goes_on : (c : LentCall) → IsLentCall p c mid → IsSeen before (length p.parked.versions) c → GoesOnLent m h out taken pages before c p mid
   goes_on (an_event e reply) call saw =
       let one : IsDoneLiveLent l before mid (IsServedUncalled l e (r.Guest reply)) = live_parked_is_served l p mid before e (r.Guest reply) places mem lent call in
       let gone = taken_stays_behind m h out taken pages (Guest e) (r.Guest reply) l one.after b places (may_guest pages e) one.done.serves in
       let next : History = then_came h (Guest e) (r.Guest reply) gone.effect in
-      record {
-        history = next;
-        after = one.after;
-        behind = nothing_taken next one.after gone.behind;
-        came = refl;
-        text_is = no_text m h e reply gone.effect;
-        parked = one.parked;
-        places = one.places;
-        memory = subst IsMemory (sym one.memory) mem;
-        versions = stays one.after one.memory one.parked;
-        goes = subst (λ (f : Phase). f ≢ phases.Stopped) (sym one.phase) goes;
-      }
+      goes_with (an_event e reply) (IsServedUncalled l e (r.Guest reply)) one next (nothing_taken next one.after gone.behind) refl (no_text m h e reply gone.effect)
   goes_on (a_failed_flush dev pick) call saw =
       let one : IsDoneLiveLent l before mid (FailsLiveFlush l dev pick) = live_parked_flush_fails l p mid before dev pick places mem lent call in
       let gone = failure_stays_behind m h out pages dev pick (untaken taken l) (untaken taken one.after) b (places_untaken taken l places) goes (record { failed = one.done.failed; rest = ap (untaken taken) one.done.rest }) in
       let next : History = then_came h (Guest (Step dev pick)) (r.Guest DiskFailed) gone.effect in
-      record {
-        history = next;
-        after = one.after;
-        behind = nothing_taken next one.after gone.behind;
-        came = refl;
-        text_is = no_text m h (Step dev pick) DiskFailed gone.effect;
-        parked = one.parked;
-        places = one.places;
-        memory = subst IsMemory (sym one.memory) mem;
-        versions = stays one.after one.memory one.parked;
-        goes = subst (λ (f : Phase). f ≢ phases.Stopped) (sym one.phase) goes;
-      }
+      goes_with (a_failed_flush dev pick) (FailsLiveFlush l dev pick) one next (nothing_taken next one.after gone.behind) refl (no_text m h (Step dev pick) DiskFailed gone.effect)
   goes_on (a_flush dev result) call saw =
       let one : IsDoneLiveLent l before mid (FlushesLiveDisk l dev result) = live_parked_is_flushed l p mid before dev result places lent call in
-      record {
-        history = h;
-        after = one.after;
-        behind = nothing_taken h one.after (flush_stays_behind m h out pages dev result (untaken taken l) (untaken taken one.after) b (record { flushes = one.done.flushes; rest = ap (untaken taken) one.done.rest }));
-        came = sym (append-nil (guest_events h));
-        text_is = refl;
-        parked = one.parked;
-        places = one.places;
-        memory = subst IsMemory (sym one.memory) mem;
-        versions = stays one.after one.memory one.parked;
-        goes = subst (λ (f : Phase). f ≢ phases.Stopped) (sym one.phase) goes;
-      }
+      let flushed = flush_stays_behind m h out pages dev result (untaken taken l) (untaken taken one.after) b (record { flushes = one.done.flushes; rest = ap (untaken taken) one.done.rest }) in
+      goes_with (a_flush dev result) (FlushesLiveDisk l dev result) one h (nothing_taken h one.after flushed) (sym (append-nil (guest_events h))) refl
   goes_on (a_taking bytes) call saw =
       let out_is : p.out ≡ l.out = ap (λ (x : LiveParkedSeen). x.out) lent.rest in
       let digest_is : p.digest ≡ l.digest = ap (λ (x : LiveParkedSeen). x.digest) lent.rest in

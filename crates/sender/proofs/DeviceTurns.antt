@@ -4,14 +4,11 @@ use Rattle.std.specs.Prelude.{Ok}
 use Rattle.machine.specs.Effect.{items_of}
 use Rattle.machine.specs.Layout.{firsts_of, layout_of, size_of}
 use Rattle.machine.specs.State.{MachineState}
-use Rattle.machine.specs.Stepped.{reply_in}
 use Rattle.machine.specs.Turn.{AreMade, Ends, counted, step_of}
 use Rattle.machine.specs.declared.event.Event.{Event}
 use Rattle.machine.specs.declared.reply.Reply.{Reply}
-use Rattle.machine.specs.declared.reply.Reply.TheVariants as replies
 use Rattle.machine.specs.declared.turn.Turn.{Turn}
 use Rattle.machine.specs.declared.turn.TurnEnd.{TurnEnd}
-use Rattle.machine.specs.declared.turn.TurnEnd.TheVariants as ends
 use Rattle.machine.specs.declared.work.Work.{Work}
 use Rattle.machine.proofs.DeviceTurns.{IsOn, MakesLast, ended, ends_by}
 use Rattle.machine.proofs.Numbering.{same_layout}

@@ -8,7 +8,7 @@ use Rattle.machine.specs.Shapes.{sector_count, made_as}
 use Rattle.machine.specs.Sound.{IsSound, IsSoundDevice, IsSoundShape}
 use Rattle.machine.specs.State.{DeviceState, MachineState}
 use Rattle.machine.specs.declared.shape.Shape.{Shape}
-use Rattle.machine.specs.declared.shape.Shape.TheVariants.{Net, LongNet, Block, Outside, Console, Entropy}
+use Rattle.machine.specs.declared.shape.Shape.TheVariants.{Block}
 use Rattle.machine.proofs.Numbering.{has_item, shape_counts}
 use Rattle.sender.specs.Items.{size_on}
 
@@ -24,12 +24,8 @@ size_told m shapes dev other sound are below =
     count_at shapes dev other (omega (arith, long, below)) ∙ sym (ap (λ counts. get_or counts dev 0) sizes)
 
 pub few_in : (shape : Shape) → IsSoundShape shape → sector_count shape ≤ 4294967295
-few_in (Net mac) sound = omega arith
-few_in (LongNet mac longest) sound = omega arith
 few_in (Block sectors read_only id) sound = omega (arith, sound.few)
-few_in (Outside sectors read_only id) sound = omega arith
-few_in Console sound = omega arith
-few_in Entropy sound = omega arith
+few_in _ sound = omega arith
 
 few_at : {base : ℕ} (bytes : ℕ) (ds : List DeviceState) (dev : ℕ) (other : Shape) → All (IsSoundDevice base bytes) ds → dev < length ds → sector_count (get_or (map (λ (d : DeviceState). made_as d.kind) ds) dev other) ≤ 4294967295
 few_at bytes [] dev other are below = absurd (omega (arith, below))

@@ -112,16 +112,8 @@ no_disk (phases.Open k) Stop (errors.DiskFailed dev n) is = cc
 
 pub quiet_mig : (e : LiveEvent) (x : MigError) → NamesNone x → IsQuiet e (r.Mig x)
 unfolding texts
-quiet_mig (Guest e) x none = record { same = λ m c. refl; untouched = λ l c i. refl; unsent = λ l stale i. refl; unbegun = refl; empty = λ m stale. refl; unwritten = λ b m stale. refl }
-quiet_mig Begin x none = record { same = λ m c. refl; untouched = λ l c i. refl; unsent = λ l stale i. refl; unbegun = refl; empty = λ m stale. refl; unwritten = λ b m stale. refl }
-quiet_mig Copy x none = record { same = λ m c. refl; untouched = λ l c i. refl; unsent = λ l stale i. refl; unbegun = refl; empty = λ m stale. refl; unwritten = λ b m stale. refl }
-quiet_mig EndRound x none = record { same = λ m c. refl; untouched = λ l c i. refl; unsent = λ l stale i. refl; unbegun = refl; empty = λ m stale. refl; unwritten = λ b m stale. refl }
-quiet_mig Stop errors.StreamFailed none = record { same = λ m c. refl; untouched = λ l c i. refl; unsent = λ l stale i. refl; unbegun = refl; empty = λ m stale. refl; unwritten = λ b m stale. refl }
-quiet_mig Stop errors.NotBegun none = record { same = λ m c. refl; untouched = λ l c i. refl; unsent = λ l stale i. refl; unbegun = refl; empty = λ m stale. refl; unwritten = λ b m stale. refl }
-quiet_mig Stop errors.AlreadyBegun none = record { same = λ m c. refl; untouched = λ l c i. refl; unsent = λ l stale i. refl; unbegun = refl; empty = λ m stale. refl; unwritten = λ b m stale. refl }
-quiet_mig Stop errors.AlreadyStopped none = record { same = λ m c. refl; untouched = λ l c i. refl; unsent = λ l stale i. refl; unbegun = refl; empty = λ m stale. refl; unwritten = λ b m stale. refl }
-quiet_mig Stop errors.RoundsEnded none = record { same = λ m c. refl; untouched = λ l c i. refl; unsent = λ l stale i. refl; unbegun = refl; empty = λ m stale. refl; unwritten = λ b m stale. refl }
 quiet_mig Stop (errors.DiskFailed dev n) none = absurd none
+quiet_mig _ _ none = record { same = λ m c. refl; untouched = λ l c i. refl; unsent = λ l stale i. refl; unbegun = refl; empty = λ m stale. refl; unwritten = λ b m stale. refl }
 
 pub quiet_unread : (dev n : ℕ) → IsQuiet Copy (r.Mig (errors.DiskFailed dev n))
 unfolding texts

@@ -47,16 +47,7 @@ shape_went m h (Guest e) (r.Guest reply) c a =
     elim (told (refusal_for (phase_of h) (Guest e)) (AllowedBy (layout_of m) (machine_after m h) (is_stale (layout_of m) h) (is_due (layout_of m) h) (phase_of h) (Guest e) (r.Guest reply) c) (λ x. r.Guest reply ≡ r.Mig x) a)
     as (λ _. IsSameShape (machine_after m h) (applied (machine_after m h) c))
     [ inl d ↦ step_shape (machine_after m h) e (outcome_of reply) reply c d.1.0 | inr d ↦ (let wrong : r.Guest reply ≡ r.Mig d.0 = d.2 in cc) ]
-shape_went m h (Guest e) (r.Begun k) c a = same_as_it_is (machine_after m h)
-shape_went m h (Guest e) (r.Copied i) c a = same_as_it_is (machine_after m h)
-shape_went m h (Guest e) r.RoundDone c a = same_as_it_is (machine_after m h)
-shape_went m h (Guest e) r.RoundOpen c a = same_as_it_is (machine_after m h)
-shape_went m h (Guest e) (r.Stopped p q) c a = same_as_it_is (machine_after m h)
-shape_went m h (Guest e) (r.Mig x) c a = same_as_it_is (machine_after m h)
-shape_went m h Begin reply c a = same_as_it_is (machine_after m h)
-shape_went m h Copy reply c a = same_as_it_is (machine_after m h)
-shape_went m h EndRound reply c a = same_as_it_is (machine_after m h)
-shape_went m h Stop reply c a = same_as_it_is (machine_after m h)
+shape_went m h _ _ c a = same_as_it_is (machine_after m h)
 
 pub shape_after : (m : MachineState) (h : History) → AllAllowed m h → IsSameShape m (machine_after m h)
 shape_after m nothing a = same_as_it_is m
@@ -76,16 +67,7 @@ item_stays m c (items.sector d n) none = ap (λ x. sector d n (content_of x)) (u
 
 record_stays : (m : MachineState) (l : Layout) (e : LiveEvent) (reply : LiveReply) (c : Effect) (it : items.Item) → touches l e reply c (number_of l it) ≡ false → record_of (went m e reply c) it ≡ record_of m it
 record_stays m l (Guest e) (r.Guest reply) c it none = item_stays m c it (not_among l (items_of c) it none)
-record_stays m l (Guest e) (r.Begun k) c it none = refl
-record_stays m l (Guest e) (r.Copied k) c it none = refl
-record_stays m l (Guest e) r.RoundDone c it none = refl
-record_stays m l (Guest e) r.RoundOpen c it none = refl
-record_stays m l (Guest e) (r.Stopped a b) c it none = refl
-record_stays m l (Guest e) (r.Mig x) c it none = refl
-record_stays m l Begin reply c it none = refl
-record_stays m l Copy reply c it none = refl
-record_stays m l EndRound reply c it none = refl
-record_stays m l Stop reply c it none = refl
+record_stays m l _ _ c it none = refl
 
 -- The records of the items that were chosen name those, each as it is.
 ltb_suc : (i n : ℕ) → i ≢ n → ltb i (suc n) ≡ ltb i n
@@ -153,12 +135,9 @@ module _ (m : MachineState) (h : History) (i : ℕ) (low : i < size_of (layout_o
   names_copy phase c (r.Copied item) d =
       let number : number_of (layout_of m) (item_of item) ≡ d.number = ap (number_of (layout_of m)) d.item_is ∙ number_back (layout_of m) d.number d.least.below in
       ap (λ x. last_named it (record_of mid x ∷ [])) d.item_is ∙ says_here d.number d.least.below ∙ rw number refl
-  names_copy phase c (r.Guest x) d = absurd d
-  names_copy phase c (r.Begun k) d = absurd d
   names_copy phase c r.RoundDone d = named_nothing it
-  names_copy phase c r.RoundOpen d = absurd d
-  names_copy phase c (r.Stopped p q) d = absurd d
   names_copy phase c (r.Mig x) d = named_nothing it
+  names_copy phase c _ d = absurd d
 
   names_chosen : (p : ℕ → Bool) (n : ℕ) → n ≤ size_of (layout_of m) → last_named it (records_of mid (chosen p n)) ≡ cond (p i && ltb i n) (Some (record_of mid it)) None
   names_chosen p n le =
@@ -175,25 +154,11 @@ module _ (m : MachineState) (h : History) (i : ℕ) (low : i < size_of (layout_o
       let number : number_of (layout_of m) (items.sector dev n) ≡ d.0.number = ap (number_of (layout_of m)) d.0.item_is ∙ number_back (layout_of m) d.0.number d.0.below in
       ap (λ (l : Layout). last_named it (records_of mid (chosen stale (number_of l (items.sector dev n))))) layout_here
       ∙ names_chosen stale (number_of (layout_of m) (items.sector dev n)) (omega (arith, number, d.0.below))
-  names_stop phase c (r.Mig errors.StreamFailed) d = named_nothing it
-  names_stop phase c (r.Mig errors.NotBegun) d = named_nothing it
-  names_stop phase c (r.Mig errors.AlreadyBegun) d = named_nothing it
-  names_stop phase c (r.Mig errors.AlreadyStopped) d = named_nothing it
-  names_stop phase c (r.Mig errors.RoundsEnded) d = named_nothing it
-  names_stop phase c (r.Guest x) d = named_nothing it
-  names_stop phase c (r.Begun k) d = named_nothing it
-  names_stop phase c (r.Copied k) d = named_nothing it
-  names_stop phase c r.RoundDone d = named_nothing it
-  names_stop phase c r.RoundOpen d = named_nothing it
+  names_stop phase c _ d = named_nothing it
 
   names_round : (reply : LiveReply) → Names EndRound reply
   names_round (r.Begun k) = named_one it (round_end (k - 1))
-  names_round (r.Stopped p q) = named_nothing it
-  names_round (r.Guest x) = named_nothing it
-  names_round (r.Copied k) = named_nothing it
-  names_round r.RoundDone = named_nothing it
-  names_round r.RoundOpen = named_nothing it
-  names_round (r.Mig x) = named_nothing it
+  names_round _ = named_nothing it
 
   names_by : (phase : Phase) (c : Effect) (e : LiveEvent) (reply : LiveReply) → AllowedBy (layout_of m) mid (is_stale (layout_of m) h) (is_due (layout_of m) h) phase e reply c → Names e reply
   names_by phase c (Guest e) reply d = named_nothing it
@@ -203,16 +168,8 @@ module _ (m : MachineState) (h : History) (i : ℕ) (low : i < size_of (layout_o
   names_by phase c Stop reply d = names_stop phase c reply d
 
   names_mig : (p : Phase) (e : LiveEvent) (x : MigError) → refusal_for p e ≡ Some x → Names e (r.Mig x)
-  names_mig p (Guest e) x is = named_nothing it
-  names_mig p Begin x is = named_nothing it
-  names_mig p Copy x is = named_nothing it
-  names_mig p EndRound x is = named_nothing it
-  names_mig p Stop errors.StreamFailed is = named_nothing it
-  names_mig p Stop errors.NotBegun is = named_nothing it
-  names_mig p Stop errors.AlreadyBegun is = named_nothing it
-  names_mig p Stop errors.AlreadyStopped is = named_nothing it
-  names_mig p Stop errors.RoundsEnded is = named_nothing it
   names_mig p Stop (errors.DiskFailed dev n) is = absurd (no_disk_named p dev n is)
+  names_mig p _ _ is = named_nothing it
 
   pub item_names : (e : LiveEvent) (reply : LiveReply) (c : Effect) → Allowed m h e reply c
       → last_named (item_at (layout_of m) i) (sent (machine_after m h) (is_stale (layout_of m) h) e reply) ≡ cond (sends (layout_of m) (is_stale (layout_of m) h) e reply i) (Some (record_of (machine_after m h) (item_at (layout_of m) i))) None
@@ -242,10 +199,7 @@ fresh_is_last m (then_came h e reply c) i a low none =
 -- Stale in other words: what is sent is not touched meanwhile.
 unsent_touch : (l : Layout) (stale : ℕ → Bool) (e : LiveEvent) (reply : LiveReply) (c : Effect) (i : ℕ) → sends l stale e reply i ≡ true → touches l e reply c i ≡ false
 unsent_touch l stale (Guest e) reply c i s = cc
-unsent_touch l stale Begin reply c i s = refl
-unsent_touch l stale Copy reply c i s = refl
-unsent_touch l stale EndRound reply c i s = refl
-unsent_touch l stale Stop reply c i s = refl
+unsent_touch l stale _ reply c i s = refl
 
 parts_of : (t s x : Bool) → (t || (s && not x)) ≡ false → (x ≡ true) ⊎ ((s ≡ false) × (t ≡ false))
 parts_of true s x e = cc

@@ -34,15 +34,8 @@ use Rattle.sender.proofs.Stopping.{due_below, lt_or_le}
 
 -- All disks are honest, so that of an event is.
 pub honest_for : (marks : List Marks) (e : Event) → All (λ m. IsTrue m.honest) marks → IsHonestFor marks e
-honest_for marks (events.RegRead dev off width) are = tt
-honest_for marks (events.RegWrite dev off width value) are = tt
-honest_for marks (events.MemRead addr len) are = tt
-honest_for marks (events.MemWrite addr bytes) are = tt
 honest_for marks (events.Step dev pick) are = honest_at marks dev are
-honest_for marks (events.Input dev bytes) are = tt
-honest_for marks (events.Resize dev cols rows) are = tt
-honest_for marks (events.Drop dev) are = tt
-honest_for marks (events.Disk dev pick given) are = tt
+honest_for marks _ are = tt
 
 no_member : (s : List Bool) (i : ℕ) → length s ≤ i → has s i ≡ false
 no_member [] i past = refl

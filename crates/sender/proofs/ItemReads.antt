@@ -65,10 +65,7 @@ failed_at_item called old mid new at (errors.DiskFailed dev n) below same s read
   reads = reads;
 }
 failed_at_item called old mid new at errors.StreamFailed below same s reads = record { to = at + 1; within = omega (arith, below); reads = reads }
-failed_at_item called old mid new at errors.AlreadyStopped below same s reads = absurd s
-failed_at_item called old mid new at errors.NotBegun below same s reads = absurd s
-failed_at_item called old mid new at errors.AlreadyBegun below same s reads = absurd s
-failed_at_item called old mid new at errors.RoundsEnded below same s reads = absurd s
+failed_at_item called old mid new at _ below same s reads = absurd s
 
 -- A copy.
 pub copied_called : (called : ℕ → ℕ) (old new : LiveSeen) (i : ℕ) (item : Item) → refusal_for old.phase events.Copy ≡ None → IsLeast old.due 0 i → ReadsItem called old.machine (item_at (layout_of (now old)) i) new.machine → HasLiveCalled called old events.Copy (r.Copied item) new

@@ -137,7 +137,7 @@ same_live : (ds es : List DeviceSeen) (x y : Memory) (a b : Phase) (due left : L
 same_live ds es x y a b due left s t g k o q pages d e f u v w z = rw (d, e, f, u, v, w, z) refl
 
 module _ (l : LiveSeen) (p : LiveParkedSeen) (before after : Region) (pages : List ℕ) (places : HasPlaces l) (mem : IsMemory l.machine.memory) (goes : l.phase ≢ phases.Stopped) (lent : IsLiveParked l before p) (word : KeepsWord before after (length p.parked.versions) pages) where
-  ready : IsReady l after.content pages
+  pub ready : IsReady l after.content pages
   ready = record {
     places = places;
     memory = mem;

@@ -1,18 +1,19 @@
 -- A machine that is sent, and its sets, after each call.
-use Rattle.std.proofs.Common.{◌≡◌, ◌≢◌, ℕ, zero, suc, ◌+◌, ◌<◌, ◌≤◌, ◌^◌, Bool, true, false, List, [], ◌∷◌, inl, inr, ◌⊎◌, length, map, replicate, set, None, Some, refl, sym, ap, subst, ◌∙◌, arith}
+use Rattle.std.proofs.Common.{◌≡◌, ◌≢◌, ℕ, zero, suc, ◌+◌, ◌*◌, ◌<◌, ◌≤◌, ◌^◌, Bool, true, false, List, [], ◌∷◌, length, map, replicate, set, None, Some, refl, sym, ap, subst, ◌∙◌, arith}
 use Rattle.std.proofs.lemmas.Bool.{eq-eqb}
 use Rattle.std.proofs.lemmas.List.{length-set, length-replicate}
 use Rattle.dirtylog.specs.Members.{HasNone, has}
 use Rattle.guestmem.specs.Item.{Item, after_all, page, sector}
-use Rattle.machine.specs.Applied.{IsAppliedLogged, MayItems}
+use Rattle.machine.specs.Applied.{IsApplied, IsAppliedLogged, MayItems}
 use Rattle.machine.specs.Effect.{items_of}
-use Rattle.machine.specs.Layout.{IsItemIn, Layout, firsts_of, layout_of, number_in, number_of, size_of}
+use Rattle.machine.specs.Layout.{IsItemIn, Layout, firsts_of, layout_of, number_in, number_of, pages_of, size_of}
 use Rattle.machine.specs.Seen.{Seen, state_of}
 use Rattle.machine.specs.Sound.{IsSound}
 use Rattle.machine.specs.State.{MachineState}
 use Rattle.machine.specs.declared.event.Event.{Event}
 use Rattle.machine.specs.declared.reply.Reply.{Reply}
 use Rattle.machine.proofs.Numbering.{in_layout, number_below, same_layout}
+use Rattle.machine.proofs.Quiet.{IsQuiet, unlogged}
 use Rattle.wire.specs.Sinks.{Digested, SinkState}
 use Rattle.sender.specs.Calls.{EndsRound, Serves, with_items}
 use Rattle.sender.specs.Dirty.{HasFirst, after_taking, may_take}
@@ -35,11 +36,6 @@ going phases.Fresh e free is = cc
 going (phases.Open k) e free is = cc
 going phases.Failed e free is = cc
 going phases.Stopped e free is = cc
-
-le_or : (m n : ℕ) → (m ≤ n) ⊎ (n < m)
-le_or zero n = inl (omega arith)
-le_or (suc m) zero = inr (omega arith)
-le_or (suc m) (suc n) = elim (le_or m n) as (λ _. (suc m ≤ suc n) ⊎ (suc n < suc m)) [ inl a ↦ inl (omega (arith, a)) | inr b ↦ inr (omega (arith, b)) ]
 
 pub member_below : (s : List Bool) (i : ℕ) → has s i ≡ true → i < length s
 member_below [] i is = cc
@@ -118,23 +114,24 @@ live_begun machine p q due new_due dirty new_dirty firsts at live due_long dirty
     record { sound = live.sound; sets = fit_next (layout_of (state_of machine)) p q due new_due dirty new_dirty firsts firsts at 0 live.sets due_long dirty_long refl round (omega arith) (λ k below. absurd (omega (arith, below))) }
 
 -- The log may be told of every item.
-pub first_of : (m : MachineState) (firsts : List ℕ) (i : Item) → firsts ≡ firsts_of (layout_of m) → IsItemIn (layout_of m) i → HasFirst firsts i
+first_of : (m : MachineState) (firsts : List ℕ) (i : Item) → firsts ≡ firsts_of (layout_of m) → IsItemIn (layout_of m) i → HasFirst firsts i
 first_of m firsts (page n) are within = tt
 first_of m firsts (sector dev n) are within =
     let below = within_length (map length m.disks) dev n within in
     omega (arith, below, ap length are, length-firsts (map length m.disks) (layout_of m).pages)
 
-pub may_all : (machine : Seen) (d : Dirty) (p : Phase) (due : List Bool) (at : ℕ) → IsLive machine p due d.set d.firsts.items at → MayItems may_take d (state_of machine)
-may_all machine d p due at live = λ i there.
-    let m = state_of machine in
-    let sets = live.sets in
-    let within : IsItemIn (layout_of m) i = in_layout m i live.sound.whole_pages there in
+pub may_named : (m : MachineState) (d : Dirty) (p : Phase) (due : List Bool) (at : ℕ) → SetsFit (layout_of m) p due d.set d.firsts.items at → length m.ram ≡ 4096 * pages_of m → MayItems may_take d m
+may_named m d p due at sets whole = λ i there.
+    let within : IsItemIn (layout_of m) i = in_layout m i whole there in
     let below : number_of (layout_of m) i < length d.set = subst (λ n. number_of (layout_of m) i < n) (sym sets.dirty_size) (number_below (layout_of m) i within) in
     record {
       first = first_of m d.firsts.items i sets.firsts_are within;
       place = subst (λ firsts. number_in firsts i < length d.set) (sym sets.firsts_are) below;
       few = omega (arith, sets.few, sets.due_size, sets.dirty_size);
     }
+
+pub may_all : (machine : Seen) (d : Dirty) (p : Phase) (due : List Bool) (at : ℕ) → IsLive machine p due d.set d.firsts.items at → MayItems may_take d (state_of machine)
+may_all machine d p due at live = may_named (state_of machine) d p due at live.sets live.sound.whole_pages
 
 -- The log after a step.
 pub all_noted : (d : Dirty) (is : List Item) → after_all after_taking d is ≡ record d { set = with_items d.firsts.items d.set is }
@@ -152,12 +149,14 @@ guest_free phases.Stopped e open_still = absurd (open_still refl)
 guest_free phases.Failed e open_still = refl
 
 -- After a stop that closed the stream the guest's events are refused.
+pub closed_refuses : (p : Phase) (e : Event) → p ≡ phases.Stopped → refusal_for p (Guest e) ≡ Some AlreadyStopped
+closed_refuses p e closed = rw closed refl
+
 pub guest_refused : (s : LiveSeen) (e : Event) (x : MigError) → (x ≡ AlreadyStopped) × (s.phase ≡ phases.Stopped) → Serves s (Guest e) (r.Mig x) s
 guest_refused s e x closed =
-    let refused : refusal_for s.phase (Guest e) ≡ Some AlreadyStopped = ap (λ (p : Phase). refusal_for p (Guest e)) closed.1 in
-    rw refused (ap (λ (y : MigError). r.Mig y) closed.0, refl)
+    rw (closed_refuses s.phase e closed.1) (ap (λ (y : MigError). r.Mig y) closed.0, refl)
 
-module _ (machine next : Seen) (d new : Dirty) (phase : Phase) (due : List Bool) (at : ℕ) (digest : Digested) (out : SinkState) (e : Event) (reply : Reply) (live : IsLive machine phase due d.set d.firsts.items at) (h : IsAppliedLogged after_taking machine d e reply next new) where
+module _ (machine next : Seen) (d new : Dirty) (phase : Phase) (due : List Bool) (at : ℕ) (e : Event) (reply : Reply) (live : IsLive machine phase due d.set d.firsts.items at) (h : IsAppliedLogged after_taking machine d e reply next new) where
   noted : new ≡ record d { set = with_items d.firsts.items d.set (items_of h.is_applied.effect) }
   noted = h.logged ∙ all_noted d (items_of h.is_applied.effect)
 
@@ -173,12 +172,23 @@ module _ (machine next : Seen) (d new : Dirty) (phase : Phase) (due : List Bool)
   pub dirty_noted : new.set ≡ with_items (firsts_of (layout_of (state_of machine))) d.set (items_of h.is_applied.effect)
   dirty_noted = ap (λ (x : Dirty). x.set) noted ∙ ap (λ (fs : List ℕ). with_items fs d.set (items_of h.is_applied.effect)) live.sets.firsts_are
 
-  pub guest_served : phase ≢ phases.Stopped → Serves (record { machine = machine; phase = phase; due = due; dirty = d.set; digest = digest; out = out }) (Guest e) (r.Guest reply) (record { machine = next; phase = phase; due = due; dirty = new.set; digest = digest; out = out })
-  guest_served open_still = rw (guest_free phase e open_still) (record {
+  pub guest_served : (digest : Digested) (out : SinkState) → phase ≢ phases.Stopped → Serves (record { machine = machine; phase = phase; due = due; dirty = d.set; digest = digest; out = out }) (Guest e) (r.Guest reply) (record { machine = next; phase = phase; due = due; dirty = new.set; digest = digest; out = out })
+  guest_served digest out open_still = rw (guest_free phase e open_still) (record {
     is_applied = h.is_applied;
     dirty = dirty_noted;
     rest = refl;
   })
+
+-- What an event that writes into no item makes of it.
+module _ (machine next : Seen) (d : Dirty) (phase : Phase) (due : List Bool) (at : ℕ) (e : Event) (reply : Reply) (live : IsLive machine phase due d.set d.firsts.items at) (h : IsApplied machine e reply next) (quiet : IsQuiet e) where
+  noted_none : IsAppliedLogged after_taking machine d e reply next d
+  noted_none = unlogged after_taking machine next d e reply quiet h
+
+  pub live_quiet : IsLive next phase due d.set d.firsts.items at
+  live_quiet = live_guest machine next d d phase due at e reply live noted_none
+
+  pub quiet_served : (digest : Digested) (out : SinkState) → phase ≢ phases.Stopped → Serves (record { machine = machine; phase = phase; due = due; dirty = d.set; digest = digest; out = out }) (Guest e) (r.Guest reply) (record { machine = next; phase = phase; due = due; dirty = d.set; digest = digest; out = out })
+  quiet_served = guest_served machine next d d phase due at e reply live noted_none
 
 -- The end of a round.
 no_members : (s : List Bool) (n : ℕ) → length s ≡ n → HasNone s → s ≡ replicate n false

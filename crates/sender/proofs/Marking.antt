@@ -51,7 +51,7 @@ once_more s n (k ∷ pages) named = after_set (set s n true) k pages ∙ named_b
 pub named_first : (n : ℕ) (pages : List ℕ) → is_named (n ∷ pages) n ≡ true
 named_first n pages = rw (eq-eqb n n refl) refl
 
-or_behind : (a b : Bool) → b ≡ true → (a || b) ≡ true
+pub or_behind : (a b : Bool) → b ≡ true → (a || b) ≡ true
 or_behind true b is = refl
 or_behind false b is = is
 
@@ -146,9 +146,7 @@ pub may_call : (pages : List ℕ) (e : LiveEvent) → MayCall pages e → MayBeB
 may_call [] e may = inr refl
 may_call (n ∷ pages) EndRound may = absurd may
 may_call (n ∷ pages) Stop may = absurd may
-may_call (n ∷ pages) (Guest e) may = inl tt
-may_call (n ∷ pages) Begin may = inl tt
-may_call (n ∷ pages) Copy may = inl tt
+may_call (n ∷ pages) _ may = inl tt
 
 -- What a call does to a machine that lacks pages, it does to the one that has them.
 
@@ -205,40 +203,19 @@ module _ (late : List ℕ) where
 
   guests : (old : LiveSeen) (e : Event) (reply : LiveReply) (new : LiveSeen) → Guests old e reply new → Lags old (Guest e) reply new
   guests old e (r.Guest reply) new a = record { still = late; among = all_late; does = guest old e reply new a }
-  guests old e (r.Begun k) new a = absurd a
-  guests old e (r.Copied item) new a = absurd a
-  guests old e r.RoundDone new a = absurd a
-  guests old e r.RoundOpen new a = absurd a
-  guests old e (r.Stopped pages sectors) new a = absurd a
-  guests old e (r.Mig x) new a = absurd a
+  guests old e _ new a = absurd a
 
   begun : (old : LiveSeen) (reply : LiveReply) (new : LiveSeen) → AfterBegin old reply new → Lags old Begin reply new
   begun old (r.Begun k) new a = record { still = []; among = λ n is. is; does = (a.0, begins old new a.1) }
   begun old (r.Mig errors.StreamFailed) new a = record { still = late; among = all_late; does = fails old new a }
-  begun old (r.Mig errors.NotBegun) new a = absurd a
-  begun old (r.Mig errors.AlreadyBegun) new a = absurd a
-  begun old (r.Mig errors.AlreadyStopped) new a = absurd a
-  begun old (r.Mig errors.RoundsEnded) new a = absurd a
-  begun old (r.Mig (errors.DiskFailed dev n)) new a = absurd a
-  begun old (r.Guest reply) new a = absurd a
-  begun old (r.Copied item) new a = absurd a
-  begun old r.RoundDone new a = absurd a
-  begun old r.RoundOpen new a = absurd a
-  begun old (r.Stopped pages sectors) new a = absurd a
+  begun old _ new a = absurd a
 
   copied : (old : LiveSeen) (reply : LiveReply) (new : LiveSeen) → AfterCopy old reply new → Lags old Copy reply new
   copied old (r.Copied item) new a = record { still = without a.number late; among = without_among a.number late; does = copies old item new a }
   copied old r.RoundDone new a = record { still = late; among = all_late; does = (a.0, ap L a.1) }
   copied old (r.Mig (errors.DiskFailed dev n)) new a = record { still = late; among = all_late; does = copy_fails old dev n new a }
   copied old (r.Mig errors.StreamFailed) new a = record { still = late; among = all_late; does = fails old new a }
-  copied old (r.Mig errors.NotBegun) new a = absurd a
-  copied old (r.Mig errors.AlreadyBegun) new a = absurd a
-  copied old (r.Mig errors.AlreadyStopped) new a = absurd a
-  copied old (r.Mig errors.RoundsEnded) new a = absurd a
-  copied old (r.Guest reply) new a = absurd a
-  copied old (r.Begun k) new a = absurd a
-  copied old r.RoundOpen new a = absurd a
-  copied old (r.Stopped pages sectors) new a = absurd a
+  copied old _ new a = absurd a
 
   does_late : (old : LiveSeen) (e : LiveEvent) (reply : LiveReply) (new : LiveSeen) → MayBeBehind e → Does old e reply new → Lags old e reply new
   does_late old (Guest e) reply new may a = guests old e reply new a
@@ -259,9 +236,4 @@ module _ (late : List ℕ) where
 
 pub still_among : (reply : LiveReply) (late pages : List ℕ) → AreAmong late pages → AreAmong (still_behind reply late) (still_behind reply pages)
 still_among (r.Begun k) late pages among = λ n is. is
-still_among (r.Guest reply) late pages among = among
-still_among (r.Copied item) late pages among = among
-still_among r.RoundDone late pages among = among
-still_among r.RoundOpen late pages among = among
-still_among (r.Stopped a b) late pages among = among
-still_among (r.Mig x) late pages among = among
+still_among _ late pages among = among

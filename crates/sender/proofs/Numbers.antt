@@ -1,9 +1,7 @@
 -- The numbering of a machine's items, disk by disk.
-use Rattle.std.proofs.Common.{◌≡◌, ℕ, zero, suc, ◌+◌, ◌-◌, ◌*◌, ◌<◌, ◌≤◌, true, false, List, [], ◌∷◌, ◌++◌, length, map, take, drop, get_or, ltb, eqb, refl, sym, ap, ◌∙◌, arith}
-use Rattle.std.proofs.lemmas.Bool.{eqb-true, eq-eqb}
+use Rattle.std.proofs.Common.{◌≡◌, ℕ, zero, suc, ◌+◌, ◌-◌, ◌*◌, ◌<◌, ◌≤◌, true, false, List, [], ◌∷◌, ◌++◌, length, map, take, drop, get_or, ltb, refl, sym, ap, ◌∙◌, arith}
 use Rattle.std.proofs.lemmas.List.{length-map, take_more}
-use Rattle.std.specs.Prelude.{◌↔◌}
-use Rattle.guestmem.specs.Item.{page, sector}
+use Rattle.guestmem.specs.Item.{sector}
 use Rattle.machine.specs.Shapes.{made_as}
 use Rattle.machine.specs.EffectLaws.{HasItem}
 use Rattle.machine.specs.Layout.{firsts_from, firsts_of, item_at, layout_of, pages_of, sector_from, size_from, size_of}
@@ -62,16 +60,6 @@ firsts_all m dev firsts sound end are =
     let long = length-firsts (map length m.disks) (pages_of m) in
     are ∙ all_taken (firsts_of (layout_of m)) dev (omega (arith, end, long, sizes_long m sound))
 
-pub same_all : (m : MachineState) (firsts : List ℕ) (dev : ℕ) → IsSound m → dev ≡ length m.devices → length firsts ≡ length m.devices → take dev firsts ≡ take dev (firsts_of (layout_of m)) → firsts ≡ firsts_of (layout_of m)
-same_all m firsts dev sound end long same = firsts_all m dev firsts sound end (sym (all_taken firsts dev (omega (arith, end, long))) ∙ same)
-
-pub told_same : (m : MachineState) (firsts : List ℕ) (size first dev : ℕ) → IsAt m dev first → dev ≡ length m.devices → length firsts ≡ length m.devices → take dev firsts ≡ take dev (firsts_of (layout_of m))
-    → (eqb size first ≡ true) ↔ ((firsts ≡ firsts_of (layout_of m)) × (size ≡ size_of (layout_of m)))
-told_same m firsts size first dev h end long same =
-    let all = same_all m firsts dev h.sound end long same in
-    let is = at_end m dev first h end in
-    (λ e. (all, eqb-true size first e ∙ is), λ both. eq-eqb size first (both.1 ∙ sym is))
-
 -- The item of a number, disk by disk.
 drop_one : (xs : List ℕ) (dev : ℕ) → dev < length xs → drop dev xs ≡ get_or xs dev 0 ∷ drop (dev + 1) xs
 drop_one [] dev below = absurd (omega (arith, below))
@@ -111,9 +99,6 @@ seeks_next m number dev first size h below is few past =
 
 pub sector_is_there : (m : MachineState) (dev n size : ℕ) → IsSound m → size ≡ size_on m dev → n < size → HasItem m (sector dev n)
 sector_is_there m dev n size sound is below = sector_there m m dev n sound refl (omega (arith, is, below))
-
-pub page_is_there : (m : MachineState) (n : ℕ) → IsSound m → n < pages_of m → HasItem m (page n)
-page_is_there m n sound below = omega (arith, sound.whole_pages, below)
 
 pub none_left : (m : MachineState) (number dev first : ℕ) → Seeks m number dev first → dev ≡ length m.devices → number < size_of (layout_of m) → ⊥
 none_left m number dev first h end below = omega (arith, at_end m dev first h.at end, h.from, below)

@@ -1,47 +1,35 @@
 -- A step over a window, of a machine that is being migrated.
-use Rattle.std.proofs.Common.{◌≡◌, ◌≢◌, ℕ, ◌*◌, ◌<◌, ◌%◌, Bool, List, length, map, refl, sym, ap, subst, ◌∙◌, arith}
-use Rattle.std.specs.Prelude.{Err, Ok, Result, Some}
+use Rattle.std.proofs.Common.{◌≡◌, ◌≢◌, ℕ, ◌*◌, Bool, List, length, refl, sym, ap, subst, ◌∙◌, arith}
+use Rattle.std.specs.Prelude.{Err, Ok, Result}
 use Rattle.region.specs.declared.region.Region.{Region}
-use Rattle.guestmem.specs.Item.{Item, page, sector}
 use Rattle.machine.specs.Applied.{MayItems}
 use Rattle.machine.specs.Beside.{IsLoggedOver, window_memory}
 use Rattle.machine.specs.Effect.{items_of}
-use Rattle.machine.specs.Layout.{IsItemIn, Layout, firsts_of, layout_of, number_in, number_of}
+use Rattle.machine.specs.Layout.{Layout}
 use Rattle.machine.specs.Parked.{ParkedSeen, back_with}
 use Rattle.machine.specs.Seen.{Seen, state_of}
-use Rattle.machine.specs.State.{MachineState}
 use Rattle.machine.specs.Stepped.{reply_in}
 use Rattle.machine.specs.declared.event.Event.TheVariants.{Step}
 use Rattle.machine.specs.declared.reply.Reply.{Reply}
 use Rattle.machine.specs.declared.stepped.Stepped.{Stepped}
-use Rattle.machine.proofs.Numbering.{in_layout, number_below, same_layout}
+use Rattle.machine.proofs.Numbering.{same_layout}
 use Rattle.wire.specs.Sinks.{Digested, SinkState}
 use Rattle.sender.specs.Beside.{IsLiveMadeOver, TriesOver}
 use Rattle.sender.specs.Calls.{with_items}
 use Rattle.sender.specs.Dirty.{after_taking, may_take}
-use Rattle.sender.specs.LiveState.{refusal_for}
 use Rattle.sender.specs.Parked.{LiveParkedSeen, parked_layout}
 use Rattle.sender.specs.Stopping.{SetsFit}
 use Rattle.sender.specs.declared.dirty.Dirty.{Dirty}
-use Rattle.sender.specs.declared.event.LiveEvent.TheVariants.{Guest}
 use Rattle.sender.specs.declared.mig_error.MigError.{MigError}
 use Rattle.sender.specs.declared.mig_error.MigError.TheVariants.{AlreadyStopped}
 use Rattle.sender.specs.declared.phase.Phase.{Phase}
 use Rattle.sender.specs.declared.phase.Phase.TheVariants as phases
-use Rattle.sender.proofs.Living.{all_noted, first_of, fit_next, guest_free, length-with_items}
+use Rattle.sender.proofs.Living.{all_noted, closed_refuses, fit_next, guest_free, length-with_items, may_named}
 use Rattle.sender.proofs.Parking.{layout_is}
 
 pub may_over : (m : Seen) (p : ParkedSeen) (phase : Phase) (due : List Bool) (d : Dirty) (at : ℕ) → SetsFit (parked_layout p) phase due d.set d.firsts.items at → length m.memory.bytes ≡ 4096 * length p.versions → m.devices ≡ p.devices → MayItems may_take d (state_of m)
-may_over m p phase due d at was whole devices = λ i there.
-    let s = state_of m in
-    let sets : SetsFit (layout_of s) phase due d.set d.firsts.items at = subst (λ (l : Layout). SetsFit l phase due d.set d.firsts.items at) (sym (layout_is m p whole (sym devices))) was in
-    let within : IsItemIn (layout_of s) i = in_layout s i (omega (arith, whole)) there in
-    let below : number_of (layout_of s) i < length d.set = subst (λ n. number_of (layout_of s) i < n) (sym sets.dirty_size) (number_below (layout_of s) i within) in
-    record {
-      first = first_of s d.firsts.items i sets.firsts_are within;
-      place = subst (λ firsts. number_in firsts i < length d.set) (sym sets.firsts_are) below;
-      few = omega (arith, sets.few, sets.due_size, sets.dirty_size);
-    }
+may_over m p phase due d at was whole devices =
+    may_named (state_of m) d phase due at (subst (λ (l : Layout). SetsFit l phase due d.set d.firsts.items at) (sym (layout_is m p whole (sym devices))) was) (omega (arith, whole))
 
 module _ (p next : ParkedSeen) (window left : Region) (dev pick : ℕ) (reply : Reply) (phase : Phase) (due : List Bool) (d new : Dirty) (at : ℕ) (was : SetsFit (parked_layout p) phase due d.set d.firsts.items at) (h : IsLoggedOver after_taking p window d dev pick reply left next new) where
   noted : new ≡ record d { set = with_items d.firsts.items d.set (items_of h.made.applied.effect) }
@@ -69,9 +57,8 @@ module _ (p next : ParkedSeen) (window left : Region) (dev pick : ℕ) (reply : 
 -- The call: refused by the phase, or made.
 pub over_refused : (p : LiveParkedSeen) (window : Region) (dev pick : ℕ) (sent : List ℕ) (x : MigError) → (x ≡ AlreadyStopped) × (p.phase ≡ phases.Stopped) → TriesOver p window dev pick (Err x) sent window p
 over_refused p window dev pick sent x closed =
-    let refused : refusal_for p.phase (Guest (Step dev pick)) ≡ Some AlreadyStopped = ap (λ (f : Phase). refusal_for f (Guest (Step dev pick))) closed.1 in
     let P : MigError → Result Stepped MigError = λ y. Err y in
-    rw refused (ap P closed.0, refl, refl)
+    rw (closed_refuses p.phase (Step dev pick) closed.1) (ap P closed.0, refl, refl)
 
 pub over_made : (p next : LiveParkedSeen) (window left : Region) (dev pick : ℕ) (stepped : Stepped) (sent : List ℕ) → p.phase ≢ phases.Stopped → IsLiveMadeOver p window dev pick (reply_in stepped sent) left next → TriesOver p window dev pick (Ok stepped) sent left next
 over_made p next window left dev pick stepped sent goes made = rw (guest_free p.phase (Step dev pick) goes) made

@@ -5,7 +5,8 @@ use Rattle.region.specs.declared.region.Region.{Region}
 use Rattle.guestmem.specs.Memory.{IsMemory}
 use Rattle.machine.specs.Layout.{Layout, layout_of, size_of}
 use Rattle.machine.specs.Parked.{FailsParkedFlushIf, FlushesParked, IsAppliedParked, IsAppliedUncalled, IsDoneLent, ParkedSeen, makes_flush_parked, parked_sectors}
-use Rattle.machine.specs.Seen.{Seen}
+use Rattle.machine.specs.Seen.{Seen, state_of}
+use Rattle.machine.specs.Sound.{IsSound}
 use Rattle.machine.specs.State.{MachineState}
 use Rattle.machine.specs.Unsynced.{FailsFlush, FlushesDisk}
 use Rattle.machine.specs.declared.event.Event.{Event}
@@ -17,6 +18,7 @@ use Rattle.sender.specs.LiveState.{HasPlaces, LiveSeen, now, refusal_for}
 use Rattle.sender.specs.Parked.{IsLiveParked, LiveParkedSeen, parked_layout}
 use Rattle.sender.specs.ParkedCalls.{AfterParked, FailsLiveParkedIf, GuestsParked, IsDoneLiveLent, IsServedUncalled, LiveParkedFlushFails, LiveParkedIsFlushed, LiveParkedIsServed, ServesParked, TriesParkedFlush}
 use Rattle.sender.specs.Stopping.{SetsFit}
+use Rattle.sender.specs.Unsynced.{FailsLiveFlush, FlushesLiveDisk}
 use Rattle.sender.specs.declared.event.LiveEvent.TheVariants.{Guest}
 use Rattle.sender.specs.declared.event.LiveReply.{LiveReply}
 use Rattle.sender.specs.declared.event.LiveReply.TheVariants as r
@@ -24,7 +26,7 @@ use Rattle.sender.specs.declared.mig_error.MigError.{MigError}
 use Rattle.sender.specs.declared.mig_error.MigError.TheVariants.{AlreadyStopped}
 use Rattle.sender.specs.declared.phase.Phase.{Phase}
 use Rattle.sender.specs.declared.phase.Phase.TheVariants as phases
-use Rattle.sender.proofs.Living.{guest_free}
+use Rattle.sender.proofs.Living.{closed_refuses, guest_free}
 
 -- The sets are those of the pages and of the sectors, which stay.
 pub sets_stay : (p next : ParkedSeen) (phase : Phase) (due dirty : List Bool) (firsts : List ℕ) (at : ℕ) → SetsFit (parked_layout p) phase due dirty firsts at → next.versions ≡ p.versions → parked_sectors next ≡ parked_sectors p
@@ -47,14 +49,12 @@ served_parked p next e reply goes applied rest = rw (guest_free p.phase e goes) 
 -- After a stop that closed the stream each is refused.
 pub parked_refused : (p : LiveParkedSeen) (e : Event) (x : MigError) → (x ≡ AlreadyStopped) × (p.phase ≡ phases.Stopped) → ServesParked p e (r.Mig x) p
 parked_refused p e x closed =
-    let refused : refusal_for p.phase (Guest e) ≡ Some AlreadyStopped = ap (λ (f : Phase). refusal_for f (Guest e)) closed.1 in
-    rw refused (ap (λ (y : MigError). r.Mig y) closed.0, refl)
+    rw (closed_refuses p.phase e closed.1) (ap (λ (y : MigError). r.Mig y) closed.0, refl)
 
 pub parked_flush_refused : (p : LiveParkedSeen) (dev pick : ℕ) (x : MigError) → (x ≡ AlreadyStopped) × (p.phase ≡ phases.Stopped) → TriesParkedFlush p dev pick (Err x) p
 parked_flush_refused p dev pick x closed =
-    let refused : refusal_for p.phase (Guest (Step dev pick)) ≡ Some AlreadyStopped = ap (λ (f : Phase). refusal_for f (Guest (Step dev pick))) closed.1 in
     let P : MigError → Result Bool MigError = λ y. Err y in
-    rw refused (ap P closed.0, refl)
+    rw (closed_refuses p.phase (Step dev pick) closed.1) (ap P closed.0, refl)
 
 answered_by : (p : LiveParkedSeen) (next : ParkedSeen) (dev pick : ℕ) (was : Bool) → FailsParkedFlushIf was p.parked dev pick next → FailsLiveParkedIf was p dev pick (record p { parked = next })
 answered_by p next dev pick true f = record { failed = f; rest = refl }
@@ -63,33 +63,31 @@ answered_by p next dev pick false f = ap (λ (x : ParkedSeen). record p { parked
 pub parked_answered : (p : LiveParkedSeen) (next : ParkedSeen) (dev pick : ℕ) (was : Bool) → p.phase ≢ phases.Stopped → was ≡ makes_flush_parked p.parked dev pick → FailsParkedFlushIf was p.parked dev pick next → TriesParkedFlush p dev pick (Ok was) (record p { parked = next })
 parked_answered p next dev pick was goes is f = rw (guest_free p.phase (Step dev pick) goes) (is, answered_by p next dev pick was f)
 
--- The machine that was lent was called.
-rest_by : (l : LiveSeen) (p next : LiveParkedSeen) (m : Seen) → p ≡ record { parked = p.parked; phase = l.phase; due = l.due; dirty = l.dirty; digest = l.digest; out = l.out } → next ≡ record p { parked = next.parked }
-    → next ≡ record { parked = next.parked; phase = l.phase; due = l.due; dirty = l.dirty; digest = l.digest; out = l.out }
-rest_by l p next m is rest = rest ∙ ap (λ (x : LiveParkedSeen). record x { parked = next.parked }) is
+-- What was done with the machine that was lent was done with the one that is sent.
+done_live : (l : LiveSeen) (p next : LiveParkedSeen) (region : Region) (does : Seen → Type 0) (does_live : LiveSeen → Type 0) → HasPlaces l → IsLiveParked l region p → next ≡ record p { parked = next.parked } → (was : IsDoneLent l.machine region next.parked does) → IsSound (state_of was.after)
+    → layout_of (state_of was.after) ≡ layout_of (now l) → does_live (record l { machine = was.after }) → IsDoneLiveLent l region next does_live
+done_live l p next region does does_live places lent rest was sound same done = record {
+  after = record l { machine = was.after };
+  done = done;
+  parked = record { parked = was.parked; rest = rest ∙ ap (λ (x : LiveParkedSeen). record x { parked = next.parked }) lent.rest };
+  places = record { sound = sound; few = places.few; due_size = places.due_size ∙ ap size_of (sym same); dirty_size = places.dirty_size ∙ ap size_of (sym same) };
+  memory = was.memory;
+  phase = refl;
+}
 
 done_lent : (l : LiveSeen) (p next : LiveParkedSeen) (region : Region) (e : Event) (reply : Reply) → HasPlaces l → IsMemory l.machine.memory → IsLiveParked l region p → refusal_for l.phase (Guest e) ≡ None → AfterParked p e reply next
     → IsDoneLiveLent l region next (IsServedUncalled l e (r.Guest reply))
 done_lent l p next region e reply places mem lent free did =
     let was : IsDoneLent l.machine region next.parked (IsAppliedUncalled l.machine e reply) = parked_is_applied l.machine p.parked next.parked region e reply mem places.sound.bytes lent.parked did.applied in
     let applied = was.done.quietly.applied in
-    let after : LiveSeen = record l { machine = was.after } in
-    let same : layout_of (now after) ≡ layout_of (now l) = same_layout (now l) (now after) applied.shape in
-    record {
-      after = after;
-      done = record {
-        serves = rw free (record {
-          is_applied = applied;
-          dirty = rw was.done.quietly.untouched refl;
-          rest = refl;
-        });
-        calls = was.done.calls;
-      };
-      parked = record { parked = was.parked; rest = rest_by l p next was.after lent.rest did.rest };
-      places = record { sound = applied.sound; few = places.few; due_size = places.due_size ∙ ap size_of (sym same); dirty_size = places.dirty_size ∙ ap size_of (sym same) };
-      memory = was.memory;
-      phase = refl;
-    }
+    done_live l p next region (IsAppliedUncalled l.machine e reply) (IsServedUncalled l e (r.Guest reply)) places lent did.rest was applied.sound (same_layout (now l) (state_of was.after) applied.shape) (record {
+      serves = rw free (record {
+        is_applied = applied;
+        dirty = rw was.done.quietly.untouched refl;
+        rest = refl;
+      });
+      calls = was.done.calls;
+    })
 
 refused_lent : (l : LiveSeen) (p next : LiveParkedSeen) (region : Region) (e : Event) (reply : LiveReply) (x : MigError) → HasPlaces l → IsLiveParked l region p → refusal_for l.phase (Guest e) ≡ Some x → reply ≡ r.Mig x → next ≡ p
     → IsDoneLiveLent l region next (IsServedUncalled l e reply)
@@ -105,12 +103,7 @@ refused_lent l p next region e reply x places lent refused is same = record {
 by_reply : (l : LiveSeen) (p next : LiveParkedSeen) (region : Region) (e : Event) (reply : LiveReply) → HasPlaces l → IsMemory l.machine.memory → IsLiveParked l region p → refusal_for l.phase (Guest e) ≡ None → GuestsParked p e reply next
     → IsDoneLiveLent l region next (IsServedUncalled l e reply)
 by_reply l p next region e (r.Guest reply) places mem lent free did = done_lent l p next region e reply places mem lent free did
-by_reply l p next region e (r.Begun k) places mem lent free did = absurd did
-by_reply l p next region e (r.Copied item) places mem lent free did = absurd did
-by_reply l p next region e r.RoundDone places mem lent free did = absurd did
-by_reply l p next region e r.RoundOpen places mem lent free did = absurd did
-by_reply l p next region e (r.Stopped pages sectors) places mem lent free did = absurd did
-by_reply l p next region e (r.Mig x) places mem lent free did = absurd did
+by_reply l p next region e _ places mem lent free did = absurd did
 
 by_refusal : (o : Option MigError) (l : LiveSeen) (p next : LiveParkedSeen) (region : Region) (e : Event) (reply : LiveReply) → HasPlaces l → IsMemory l.machine.memory → IsLiveParked l region p → refusal_for l.phase (Guest e) ≡ o
     → MatchOption o (GuestsParked p e reply next) (λ x. (reply ≡ r.Mig x) × (next ≡ p)) → IsDoneLiveLent l region next (IsServedUncalled l e reply)
@@ -126,27 +119,9 @@ live_parked_is_served l p next region e reply places mem lent serves =
 pub live_parked_is_flushed : LiveParkedIsFlushed
 live_parked_is_flushed l p next region dev result places lent f =
     let was : IsDoneLent l.machine region next.parked (FlushesDisk l.machine dev result) = parked_is_flushed l.machine p.parked next.parked region dev result lent.parked f.flushes in
-    let after : LiveSeen = record l { machine = was.after } in
-    let same : layout_of (now after) ≡ layout_of (now l) = ap layout_of was.done.state in
-    record {
-      after = after;
-      done = record { flushes = was.done; rest = refl };
-      parked = record { parked = was.parked; rest = rest_by l p next was.after lent.rest f.rest };
-      places = record { sound = rw was.done.state places.sound; few = places.few; due_size = places.due_size ∙ ap size_of (sym same); dirty_size = places.dirty_size ∙ ap size_of (sym same) };
-      memory = was.memory;
-      phase = refl;
-    }
+    done_live l p next region (FlushesDisk l.machine dev result) (FlushesLiveDisk l dev result) places lent f.rest was (rw was.done.state places.sound) (ap layout_of was.done.state) (record { flushes = was.done; rest = refl })
 
 pub live_parked_flush_fails : LiveParkedFlushFails
 live_parked_flush_fails l p next region dev pick places mem lent f =
     let was : IsDoneLent l.machine region next.parked (FailsFlush l.machine dev pick) = parked_flush_fails l.machine p.parked next.parked region dev pick mem places.sound.bytes lent.parked f.failed in
-    let after : LiveSeen = record l { machine = was.after } in
-    let same : layout_of (now after) ≡ layout_of (now l) = same_layout (now l) (now after) was.done.shape in
-    record {
-      after = after;
-      done = record { failed = was.done; rest = refl };
-      parked = record { parked = was.parked; rest = rest_by l p next was.after lent.rest f.rest };
-      places = record { sound = was.done.sound; few = places.few; due_size = places.due_size ∙ ap size_of (sym same); dirty_size = places.dirty_size ∙ ap size_of (sym same) };
-      memory = was.memory;
-      phase = refl;
-    }
+    done_live l p next region (FailsFlush l.machine dev pick) (FailsLiveFlush l dev pick) places lent f.rest was was.done.sound (same_layout (now l) (state_of was.after) was.done.shape) (record { failed = was.done; rest = refl })

@@ -37,15 +37,17 @@ is_live m p phase due dirty new_dirty firsts at sets sound whole devices long = 
 }
 
 -- The log may be told of every page.
-pub may_pages : (p : ParkedSeen) (phase : Phase) (due : List Bool) (d : Dirty) (at len : ℕ) → SetsFit (parked_layout p) phase due d.set d.firsts.items at → len ≡ 4096 * length p.versions → MayPages may_take d len
-may_pages p phase due d at len was whole n inside =
-    let within : n < length p.versions = omega (arith, whole, inside) in
-    let below : n < size_of (parked_layout p) = number_below (parked_layout p) (page n) within in
+may_page : (l : Layout) (phase : Phase) (due : List Bool) (d : Dirty) (at n : ℕ) → SetsFit l phase due d.set d.firsts.items at → n < l.pages → may_take d (page n)
+may_page l phase due d at n fit within =
+    let below : n < size_of l = number_below l (page n) within in
     record {
       first = tt;
-      place = omega (arith, below, was.dirty_size);
-      few = omega (arith, was.few, was.due_size, was.dirty_size);
+      place = omega (arith, below, fit.dirty_size);
+      few = omega (arith, fit.few, fit.due_size, fit.dirty_size);
     }
+
+pub may_pages : (p : ParkedSeen) (phase : Phase) (due : List Bool) (d : Dirty) (at len : ℕ) → SetsFit (parked_layout p) phase due d.set d.firsts.items at → len ≡ 4096 * length p.versions → MayPages may_take d len
+may_pages p phase due d at len was whole n inside = may_page (parked_layout p) phase due d at n was (omega (arith, whole, inside))
 
 -- The set after it.
 pages_noted : (firsts : List ℕ) (s : List Bool) (pages : List ℕ) → with_items firsts s (page_items pages) ≡ with_pages s pages
@@ -61,14 +63,7 @@ length-with_pages s (n ∷ pages) = length-with_pages (set s n true) pages ∙ l
 
 -- So may that of a machine whose RAM is not lent.
 pub may_marks : (m : Seen) (phase : Phase) (due : List Bool) (d : Dirty) (at : ℕ) → IsLive m phase due d.set d.firsts.items at → MayPages may_take d (length m.memory.bytes)
-may_marks m phase due d at live n inside =
-    let within : n < length m.memory.bytes / 4096 = omega (arith, live.sound.whole_pages, inside) in
-    let below : n < size_of (layout_of (state_of m)) = number_below (layout_of (state_of m)) (page n) within in
-    record {
-      first = tt;
-      place = omega (arith, below, live.sets.dirty_size);
-      few = omega (arith, live.sets.few, live.sets.due_size, live.sets.dirty_size);
-    }
+may_marks m phase due d at live n inside = may_page (layout_of (state_of m)) phase due d at n live.sets (omega (arith, live.sound.whole_pages, inside))
 
 pub marked_live : (m : Seen) (phase : Phase) (due dirty : List Bool) (firsts : List ℕ) (at : ℕ) (pages : List ℕ) → IsLive m phase due dirty firsts at → IsLive (machine_marked m pages) phase due (with_pages dirty pages) firsts at
 marked_live m phase due dirty firsts at pages live = record {

@@ -46,14 +46,7 @@ honest_by marks dev false are = are
 
 marks_honest : (marks : List Marks) (e : Event) (reply : Reply) → Honest marks → Honest (marks_after marks e reply)
 marks_honest marks (events.Step dev pick) reply are = honest_by marks dev (is_failure reply) are
-marks_honest marks (events.RegRead dev off width) reply are = are
-marks_honest marks (events.RegWrite dev off width value) reply are = are
-marks_honest marks (events.MemRead addr len) reply are = are
-marks_honest marks (events.MemWrite addr bytes) reply are = are
-marks_honest marks (events.Input dev bytes) reply are = are
-marks_honest marks (events.Resize dev cols rows) reply are = are
-marks_honest marks (events.Drop dev) reply are = are
-marks_honest marks (events.Disk dev pick given) reply are = are
+marks_honest marks _ reply are = are
 
 same_honest : (old new : LiveSeen) → all_marks new.machine ≡ all_marks old.machine → AreHonest old.machine → AreHonest new.machine
 same_honest old new same are = subst Honest (sym same) are
@@ -102,25 +95,13 @@ honest_on old new e reply are s = elim (told (refusal_for old.phase e) (Does old
 
 fault_is : (x : MigError) → is_fault (r.Mig x) ≡ true → x ≡ errors.StreamFailed
 fault_is errors.StreamFailed e = refl
-fault_is errors.AlreadyStopped e = cc
-fault_is errors.NotBegun e = cc
-fault_is errors.AlreadyBegun e = cc
-fault_is errors.RoundsEnded e = cc
-fault_is (errors.DiskFailed dev n) e = cc
+fault_is _ e = cc
 
 still_going : (p : Phase) (reply : LiveReply) → is_fault reply ≡ false → p ≢ phases.Failed → next_phase p reply ≢ phases.Failed
-still_going p (r.Guest x) none going is = going is
 still_going p (r.Begun k) none going is = cc
-still_going p (r.Copied i) none going is = going is
-still_going p r.RoundDone none going is = going is
-still_going p r.RoundOpen none going is = going is
 still_going p (r.Stopped a b) none going is = cc
 still_going p (r.Mig errors.StreamFailed) none going is = cc
-still_going p (r.Mig errors.AlreadyStopped) none going is = going is
-still_going p (r.Mig errors.NotBegun) none going is = going is
-still_going p (r.Mig errors.AlreadyBegun) none going is = going is
-still_going p (r.Mig errors.RoundsEnded) none going is = going is
-still_going p (r.Mig (errors.DiskFailed dev n)) none going is = going is
+still_going p _ none going is = going is
 
 pub no_fault : (h : History) → has_fault h ≡ false → phase_of h ≢ phases.Failed
 no_fault nothing none is = cc
@@ -131,27 +112,14 @@ no_fault (then_came h e reply c) none is =
 -- A reply that stops leaves the phase stopped.
 stopped_next : (p : Phase) (reply : LiveReply) → is_stopped reply ≡ true → next_phase p reply ≡ phases.Stopped
 stopped_next p (r.Stopped a b) is = refl
-stopped_next p (r.Guest x) is = cc
-stopped_next p (r.Begun k) is = cc
-stopped_next p (r.Copied i) is = cc
-stopped_next p r.RoundDone is = cc
-stopped_next p r.RoundOpen is = cc
-stopped_next p (r.Mig x) is = cc
+stopped_next p _ is = cc
 
 -- A phase that was not stopped before was none that refuses all.
 was_going : (p : Phase) (reply : LiveReply) → is_fault reply ≡ false → next_phase p reply ≢ phases.Stopped → (p ≢ phases.Stopped) ⊎ ((k : ℕ) × (reply ≡ r.Begun k))
 was_going p (r.Begun k) none going = inr (k, refl)
-was_going p (r.Guest x) none going = inl going
-was_going p (r.Copied i) none going = inl going
-was_going p r.RoundDone none going = inl going
-was_going p r.RoundOpen none going = inl going
 was_going p (r.Stopped a b) none going = absurd (going refl)
 was_going p (r.Mig errors.StreamFailed) none going = cc
-was_going p (r.Mig errors.AlreadyStopped) none going = inl going
-was_going p (r.Mig errors.NotBegun) none going = inl going
-was_going p (r.Mig errors.AlreadyBegun) none going = inl going
-was_going p (r.Mig errors.RoundsEnded) none going = inl going
-was_going p (r.Mig (errors.DiskFailed dev n)) none going = inl going
+was_going p _ none going = inl going
 
 -- All that holds after one more entry.
 pub record GoneOn (m : MachineState) (h : History) (out : SinkState) (e : LiveEvent) (reply : LiveReply) (new : LiveSeen) : Type 0 where

@@ -14,7 +14,7 @@ use Rattle.guestmem.specs.Item as items
 use Rattle.sender.specs.Reads.{ReadsItem}
 use Rattle.sender.specs.Saving.{AddsItem, Sends}
 use Rattle.sender.specs.declared.mig_error.MigError.{MigError}
-use Rattle.sender.specs.declared.mig_error.MigError.TheVariants.{AlreadyBegun, AlreadyStopped, DiskFailed, NotBegun, RoundsEnded, StreamFailed}
+use Rattle.sender.specs.declared.mig_error.MigError.TheVariants.{DiskFailed, StreamFailed}
 use Rattle.wire.specs.Records.{sector, spelled_record}
 use Rattle.wire.specs.Sinks.{Appends, Digested, SinkState, Takes}
 use Rattle.wire.specs.Stream.{content_of, record_of}
@@ -80,10 +80,7 @@ sent_nothing old out new_out x y e appends = record { memory = refl; state = ref
 pub failed_alike : {A B : Type 0} (old new : Seen) (out new_out : SinkState) (x : List ℕ) (e : MigError) → Sends {A = A} old out x (Err e) new new_out → Sends {A = B} old out x (Err e) new new_out
 failed_alike old new out new_out x (DiskFailed dev n) sent = record { memory = sent.memory; state = sent.state; flushed = sent.flushed; marks = sent.marks; named = sent.named; count = sent.count; holds = tt }
 failed_alike old new out new_out x StreamFailed sent = record { memory = sent.memory; state = sent.state; flushed = sent.flushed; marks = sent.marks; named = tt; count = sent.count; holds = tt }
-failed_alike old new out new_out x NotBegun sent = absurd sent.named
-failed_alike old new out new_out x AlreadyBegun sent = absurd sent.named
-failed_alike old new out new_out x AlreadyStopped sent = absurd sent.named
-failed_alike old new out new_out x RoundsEnded sent = absurd sent.named
+failed_alike old new out new_out x _ sent = absurd sent.named
 
 -- The next bad sector is bad, and one that is not the next bad one, where the search for it began, is good.
 bad_in : (disk : List Sector) (n : ℕ) → has (map is_bad disk) n ≡ true → slice_get disk n ≡ Some None

@@ -7,17 +7,14 @@ use Rattle.machine.specs.Seen.{AreHonest, Seen, all_marks, marks_at, state_of}
 use Rattle.machine.specs.State.{MachineState}
 use Rattle.sender.specs.Saving.{IsNamed, Sends, TakesOn, has_writer_failed, marks_after}
 use Rattle.sender.specs.declared.mig_error.MigError.{MigError}
-use Rattle.sender.specs.declared.mig_error.MigError.TheVariants.{AlreadyBegun, AlreadyStopped, DiskFailed, NotBegun, RoundsEnded, StreamFailed}
+use Rattle.sender.specs.declared.mig_error.MigError.TheVariants.{DiskFailed, StreamFailed}
 use Rattle.wire.specs.Sinks.{Appends, Covers, Digested, SinkState}
 
 -- What was said of a machine holds of one with the same state and marks.
 named_same : (old mid : Seen) (e : MigError) → state_of mid ≡ state_of old → all_marks mid ≡ all_marks old → IsNamed mid e → IsNamed old e
 named_same old mid (DiskFailed dev n) state marks h = (subst (λ ms. (marks_at ms dev).steady ≡ false) marks h.0, subst (λ m. IsGood (sector_on (sectors_on m dev) n)) state h.1)
 named_same old mid StreamFailed state marks h = tt
-named_same old mid NotBegun state marks h = absurd h
-named_same old mid AlreadyBegun state marks h = absurd h
-named_same old mid AlreadyStopped state marks h = absurd h
-named_same old mid RoundsEnded state marks h = absurd h
+named_same old mid _ state marks h = absurd h
 
 honest_same : (old mid : Seen) → all_marks mid ≡ all_marks old → AreHonest old → AreHonest mid
 honest_same old mid marks h = rw marks h

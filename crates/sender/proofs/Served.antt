@@ -77,11 +77,7 @@ item_not_sent old new i item errors.RoundsEnded x is sends names phase due dirty
 
 pub fits_after : (p : Phase) (e : MigError) → RoundFits p → RoundFits (phase_after p e)
 fits_after p errors.StreamFailed fits = tt
-fits_after p (errors.DiskFailed dev n) fits = fits
-fits_after p errors.NotBegun fits = fits
-fits_after p errors.AlreadyBegun fits = fits
-fits_after p errors.AlreadyStopped fits = fits
-fits_after p errors.RoundsEnded fits = fits
+fits_after p _ fits = fits
 
 -- The stream was closed.
 pub closing_took : {A B E F : Type 0} (old new : LiveSeen) (mid : SinkState) (sum : Digested) (done : A) (ended : B) → Appends {E = E} old.out (device_texts 0 (now old).devices) (Ok done) mid → Takes old.digest (device_texts 0 (now old).devices) sum

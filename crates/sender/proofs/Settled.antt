@@ -42,16 +42,7 @@ after_is_run m (then_came h Stop reply f) all = after_is_run m h all.0
 -- One entry settles its effect.
 one_effect : (m : MachineState) (h : History) (e : LiveEvent) (reply : LiveReply) (f g : Effect) → Allowed m h e reply f → IsItsChange e reply f → Allowed m h e reply g → IsItsChange e reply g → f ≡ g
 one_effect m h (Guest e) (r.Guest reply) f g a i b k = (effects_same (machine_after m h) e (outcome_of reply) reply reply f g (has_effect m h e reply f a) (has_effect m h e reply g b)).1
-one_effect m h (Guest e) (r.Begun n) f g a i b k = i ∙ sym k
-one_effect m h (Guest e) (r.Copied item) f g a i b k = i ∙ sym k
-one_effect m h (Guest e) r.RoundDone f g a i b k = i ∙ sym k
-one_effect m h (Guest e) r.RoundOpen f g a i b k = i ∙ sym k
-one_effect m h (Guest e) (r.Stopped pages sectors) f g a i b k = i ∙ sym k
-one_effect m h (Guest e) (r.Mig x) f g a i b k = i ∙ sym k
-one_effect m h Begin reply f g a i b k = i ∙ sym k
-one_effect m h Copy reply f g a i b k = i ∙ sym k
-one_effect m h EndRound reply f g a i b k = i ∙ sym k
-one_effect m h Stop reply f g a i b k = i ∙ sym k
+one_effect m h _ _ f g a i b k = i ∙ sym k
 
 -- What was allowed in the end was so in the beginning.
 allowed_before : (m : MachineState) (h : History) (es : List LiveEvent) (replies : List LiveReply) (fs : List Effect) → AllAllowed m (onward h es replies fs) → AllAllowed m h

@@ -100,12 +100,8 @@ does_keeps old new EndRound reply d = round_keeps old new reply d
 does_keeps old new Stop reply d = stop_keeps old new reply d
 
 no_name : (marks : List Marks) (x : MigError) → NamesNone x → MigNames marks x
-no_name marks errors.StreamFailed none = tt
-no_name marks errors.NotBegun none = tt
-no_name marks errors.AlreadyBegun none = tt
-no_name marks errors.AlreadyStopped none = tt
-no_name marks errors.RoundsEnded none = tt
 no_name marks (errors.DiskFailed dev n) none = absurd none
+no_name marks _ none = tt
 
 pub keeps : (old new : LiveSeen) (e : LiveEvent) (reply : LiveReply) → Serves old e reply new → Keeps old e reply new
 keeps old new e reply s = elim (told (refusal_for old.phase e) (Does old e reply new) (λ x. (reply ≡ r.Mig x) × (new ≡ old)) s) as (λ _. Keeps old e reply new) [
@@ -116,39 +112,21 @@ keeps old new e reply s = elim (told (refusal_for old.phase e) (Does old e reply
 alike_mig : (old now : List Marks) (x : MigError) → AreAlike old now → MigNames now x → MigNames old x
 unfolding AreAlike
 alike_mig old now (errors.DiskFailed dev n) same names = sym (same dev) ∙ names
-alike_mig old now errors.StreamFailed same names = tt
-alike_mig old now errors.NotBegun same names = tt
-alike_mig old now errors.AlreadyBegun same names = tt
-alike_mig old now errors.AlreadyStopped same names = tt
-alike_mig old now errors.RoundsEnded same names = tt
+alike_mig old now _ same names = tt
 
 alike_step : (old now : List Marks) (e : Event) (reply : Reply) → AreAlike old now → FailsOnlyUnsteady now e reply → FailsOnlyUnsteady old e reply
 unfolding AreAlike
 alike_step old now (events.Step dev pick) reply same names = λ failed. sym (same dev) ∙ names failed
-alike_step old now (events.RegRead dev off width) reply same names = tt
-alike_step old now (events.RegWrite dev off width value) reply same names = tt
-alike_step old now (events.MemRead addr len) reply same names = tt
-alike_step old now (events.MemWrite addr bytes) reply same names = tt
-alike_step old now (events.Input dev bytes) reply same names = tt
-alike_step old now (events.Resize dev cols rows) reply same names = tt
-alike_step old now (events.Drop dev) reply same names = tt
-alike_step old now (events.Disk dev pick given) reply same names = tt
+alike_step old now _ reply same names = tt
 
 alike_guest : (old now : List Marks) (e : LiveEvent) (reply : Reply) → AreAlike old now → GuestNames now e reply → GuestNames old e reply
 alike_guest old now (Guest e) reply same names = alike_step old now e reply same names
-alike_guest old now Begin reply same names = tt
-alike_guest old now Copy reply same names = tt
-alike_guest old now EndRound reply same names = tt
-alike_guest old now Stop reply same names = tt
+alike_guest old now _ reply same names = tt
 
 alike_names : (old now : List Marks) (e : LiveEvent) (reply : LiveReply) → AreAlike old now → NamesUnsteady now e reply → NamesUnsteady old e reply
 alike_names old now e (r.Guest reply) same names = alike_guest old now e reply same names
 alike_names old now e (r.Mig x) same names = alike_mig old now x same names
-alike_names old now e (r.Begun k) same names = tt
-alike_names old now e (r.Copied item) same names = tt
-alike_names old now e r.RoundDone same names = tt
-alike_names old now e r.RoundOpen same names = tt
-alike_names old now e (r.Stopped pages sectors) same names = tt
+alike_names old now e _ same names = tt
 
 names_more : (marks : List Marks) (es : List LiveEvent) (replies : List LiveReply) (e : LiveEvent) (reply : LiveReply) → length replies ≡ length es → AllNameUnsteady marks es replies → NamesUnsteady marks e reply → AllNameUnsteady marks (es ++ e ∷ []) (replies ++ reply ∷ [])
 names_more marks [] [] e reply even so_far last = (last, tt)

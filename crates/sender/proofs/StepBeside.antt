@@ -1,15 +1,15 @@
 -- A step beside the guest, while the RAM is lent.
-use Rattle.std.proofs.Common.{◌≡◌, ◌≢◌, ℕ, ◌+◌, ◌*◌, ◌^◌, ◌<◌, ◌++◌, Bool, List, [], ◌∷◌, length, map, refl, sym, ap, subst, ◌∙◌, append_assoc, append-nil, arith}
+use Rattle.std.proofs.Common.{◌≡◌, ◌≢◌, ℕ, ◌*◌, ◌^◌, ◌<◌, ◌++◌, Bool, List, [], ◌∷◌, length, map, refl, sym, ap, subst, ◌∙◌, append_assoc, append-nil, arith}
 use Rattle.region.specs.Address.{address}
 use Rattle.region.specs.Lending.{with_content}
 use Rattle.region.specs.declared.region.Region.{Region}
 use Rattle.guestmem.specs.Item.{Item}
-use Rattle.guestmem.specs.Lent.{AreBelow, given_back, pages_written}
+use Rattle.guestmem.specs.Lent.{given_back, pages_written}
 use Rattle.guestmem.specs.Memory.{IsMemory, Memory}
 use Rattle.machine.specs.Beside.{IsStepOf}
 use Rattle.machine.specs.Effect.{Effect, items_of}
 use Rattle.machine.specs.Layout.{Layout, firsts_of, layout_of, size_of}
-use Rattle.machine.specs.Seen.{DeviceSeen, Seen, state_of}
+use Rattle.machine.specs.Seen.{DeviceSeen, state_of}
 use Rattle.machine.specs.Sound.{IsSound}
 use Rattle.machine.specs.State.{MachineState, base_of}
 use Rattle.machine.specs.declared.event.Event.{Event}
@@ -18,7 +18,6 @@ use Rattle.machine.specs.declared.reply.Reply.{Reply}
 use Rattle.machine.proofs.GivenBack.{memory_back, still_memory}
 use Rattle.machine.proofs.Numbering.{same_layout}
 use Rattle.wire.specs.Sinks.{SinkState}
-use Rattle.wire.specs.Stream.{texts}
 use Rattle.sender.specs.Calls.{AfterGuest, Serves, with_items}
 use Rattle.sender.specs.History.{History, guest_events, text, then_came}
 use Rattle.sender.specs.LiveState.{HasPlaces, LiveSeen, now}
@@ -31,21 +30,16 @@ use Rattle.sender.specs.declared.event.LiveReply.TheVariants as r
 use Rattle.sender.specs.declared.phase.Phase.{Phase}
 use Rattle.sender.specs.declared.phase.Phase.TheVariants as phases
 use Rattle.sender.proofs.Behind.{back_is_behind, taken_stays_behind}
-use Rattle.sender.proofs.LiveBack.{IsReady, ready_all, with_all}
+use Rattle.sender.proofs.LiveBack.{ready, ready_all, with_all}
 use Rattle.sender.proofs.Living.{guest_free, length-with_items}
 use Rattle.sender.proofs.Parking.{layout_is, length-with_pages}
+use Rattle.sender.proofs.Taking.{places_untaken}
+use Rattle.sender.proofs.Unsynced.{no_text}
 
 -- An event of the guest may come whatever is missing.
 pub may_guest : (pages : List ℕ) (e : Event) → MayCall pages (Guest e)
 may_guest [] e = tt
 may_guest (n ∷ pages) e = tt
-
-pub places_untaken : (taken : List ℕ) (l : LiveSeen) → HasPlaces l → HasPlaces (untaken taken l)
-places_untaken taken l places = record { sound = places.sound; few = places.few; due_size = places.due_size; dirty_size = places.dirty_size }
-
-pub no_text : (m : MachineState) (h : History) (e : Event) (reply : Reply) (f : Effect) → text m (then_came h (Guest e) (r.Guest reply) f) ≡ text m h
-unfolding texts
-no_text m h e reply f = append-nil (text m h)
 
 -- One call while the RAM is lent: the history, the machine as it was lent, and all that its RAM holds by the history.
 pub record GoesOnLent (m : MachineState) (h : History) (out : SinkState) (taken pages : List ℕ) (before : Region) (c : LentCall) (p mid : LiveParkedSeen) : Type 0 where
@@ -89,21 +83,11 @@ module _ (m : MachineState) (h : History) (out : SinkState) (taken pages : List 
   wrote_so : BehindGoesOn m h out (page_writes (parked_base p) wrote seen) (pages ++ wrote) (untaken taken put)
   wrote_so = back m h out taken pages l p before (with_content before seen) wrote [] (pages ++ wrote) b places mem goes lent word (λ n is. cc) (λ n is. is)
 
-  ready : IsReady l seen wrote
-  ready = record {
-    places = places;
-    memory = mem;
-    goes = goes;
-    below = subst (λ (v : List ℕ). AreBelow (length v) wrote) lent.parked.lent.versions_are word.below;
-    long = word.size ∙ ap length lent.parked.lent.bytes;
-    are = word.bytes;
-  }
-
   abbrev filled : LiveSeen
   filled = with_all l seen wrote
 
   filled_places : HasPlaces filled
-  filled_places = (ready_all l seen wrote ready).places
+  filled_places = (ready_all l seen wrote (ready l p before (with_content before seen) wrote places mem goes lent word)).places
 
   bytes_are : seen ≡ (pages_written l.machine.memory wrote seen).bytes
   bytes_are = ap (λ (x : Memory). x.bytes) (memory_back l.machine p.parked before (with_content before seen) wrote mem lent.parked word.place word.size word.below word.others)

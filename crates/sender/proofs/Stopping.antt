@@ -2,7 +2,7 @@
 use Rattle.std.proofs.Common.{◌≡◌, ◌≢◌, ◌^◌, ◌-◌, ℕ, zero, suc, add-one, ◌+◌, ◌<◌, ◌≤◌, List, [], ◌∷◌, ◌++◌, length, None, Err, Bool, true, false, cond, ◌&&◌, not, nat_lt, refl, ap, sym, subst, ◌∙◌, append_assoc, append-nil, ◌⊎◌, inl, inr, arith}
 use Rattle.sender.proofs.Living.{member_below}
 use Rattle.std.proofs.lemmas.List.{get_or-set_same, get_or-set_other, length-set}
-use Rattle.dirtylog.specs.Members.{HasNone, IsLeast, has}
+use Rattle.dirtylog.specs.Members.{HasNone, IsLeast}
 use Rattle.guestmem.specs.Item as items
 use Rattle.machine.specs.Layout.{item_at, layout_of, pages_of, size_of}
 use Rattle.machine.specs.Seen.{Seen}
@@ -227,21 +227,11 @@ short_of old mid new at pages sent (errors.DiskFailed dev n) h below member s = 
   unread = s.unread;
 }
 short_of old mid new at pages sent errors.StreamFailed h below member s = fails_after old mid new at h.are_sent s
-short_of old mid new at pages sent errors.AlreadyStopped h below member s = absurd s
-short_of old mid new at pages sent errors.NotBegun h below member s = absurd s
-short_of old mid new at pages sent errors.AlreadyBegun h below member s = absurd s
-short_of old mid new at pages sent errors.RoundsEnded h below member s = absurd s
+short_of old mid new at pages sent _ h below member s = absurd s
 
 -- The least due item.
 pub due_below : (s : LiveSeen) (i : ℕ) → HasPlaces s → IsLeast s.due 0 i → i < size_of (layout_of (now s))
 due_below s i places h = omega (arith, places.due_size, member_below s.due i h.member)
-
-pub least_on : (set : List Bool) (at n : ℕ) → ((k : ℕ) → k < at → has set k ≡ false) → IsLeast set at n → IsLeast set 0 n
-least_on set at n passed h = record {
-  reached = omega arith;
-  member = h.member;
-  least = λ k from below. elim (lt_or_le k at) as (λ _. has set k ≡ false) [ inl a ↦ passed k a | inr b ↦ h.least k b below ];
-}
 
 pub served_copy : (old new : LiveSeen) (i : ℕ) (item : Item) → refusal_for old.phase events.Copy ≡ None → IsLeast old.due 0 i → SendsOk old i item new → Serves old events.Copy (r.Copied item) new
 served_copy old new i item free least s = rw free (record { number = i; least = least; item_is = s.item_is; sent = s.sent })
@@ -252,19 +242,13 @@ served_done old free none = rw free (none, refl)
 pub copy_failed : (old new : LiveSeen) (i : ℕ) (e : MigError) → refusal_for old.phase events.Copy ≡ None → IsLeast old.due 0 i → SendsItem old i (Err e) new → Serves old events.Copy (r.Mig e) new
 copy_failed old new i (errors.DiskFailed dev n) free least s = rw free (record { number = i; least = least; item_is = s.item_is; unread = s.unread })
 copy_failed old new i errors.StreamFailed free least s = rw free s
-copy_failed old new i errors.AlreadyStopped free least s = absurd s
-copy_failed old new i errors.NotBegun free least s = absurd s
-copy_failed old new i errors.AlreadyBegun free least s = absurd s
-copy_failed old new i errors.RoundsEnded free least s = absurd s
+copy_failed old new i _ free least s = absurd s
 
 -- A stop that failed.
 pub stop_short : (old new : LiveSeen) (e : MigError) → refusal_for old.phase events.Stop ≡ None → SendsAll old (Err e) new → Serves old events.Stop (r.Mig e) new
 stop_short old new (errors.DiskFailed dev n) free s = rw free s
 stop_short old new errors.StreamFailed free s = rw free s
-stop_short old new errors.AlreadyStopped free s = absurd s
-stop_short old new errors.NotBegun free s = absurd s
-stop_short old new errors.AlreadyBegun free s = absurd s
-stop_short old new errors.RoundsEnded free s = absurd s
+stop_short old new _ free s = absurd s
 
 pub stop_failed : (old mid new : LiveSeen) (pages sectors : ℕ) (e : MigError) → refusal_for old.phase events.Stop ≡ None → AllSent old pages sectors mid → ClosesStream {A = Unit {0}} mid (Err e) new → Serves old events.Stop (r.Mig e) new
 stop_failed old mid new pages sectors errors.StreamFailed free s c = rw free (fails_after old mid new (size_of (layout_of (now old))) s.are_sent c)

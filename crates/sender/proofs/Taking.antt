@@ -83,68 +83,31 @@ module _ (taken : List ℕ) where
 
   guests : (old : LiveSeen) (e : Event) (reply : LiveReply) (new : LiveSeen) → Guests old e reply new → Guests (U old) e reply (U new)
   guests old e (r.Guest reply) new a = record { is_applied = a.is_applied; dirty = a.dirty; rest = ap U a.rest }
-  guests old e (r.Begun k) new a = absurd a
-  guests old e (r.Copied item) new a = absurd a
-  guests old e r.RoundDone new a = absurd a
-  guests old e r.RoundOpen new a = absurd a
-  guests old e (r.Stopped pages sectors) new a = absurd a
-  guests old e (r.Mig x) new a = absurd a
+  guests old e _ new a = absurd a
 
   begun : (old : LiveSeen) (reply : LiveReply) (new : LiveSeen) → AfterBegin old reply new → AfterBegin (U old) reply (U new)
   begun old (r.Begun k) new a = (a.0, begins old new a.1)
   begun old (r.Mig errors.StreamFailed) new a = fails old new a
-  begun old (r.Mig errors.NotBegun) new a = absurd a
-  begun old (r.Mig errors.AlreadyBegun) new a = absurd a
-  begun old (r.Mig errors.AlreadyStopped) new a = absurd a
-  begun old (r.Mig errors.RoundsEnded) new a = absurd a
-  begun old (r.Mig (errors.DiskFailed dev n)) new a = absurd a
-  begun old (r.Guest reply) new a = absurd a
-  begun old (r.Copied item) new a = absurd a
-  begun old r.RoundDone new a = absurd a
-  begun old r.RoundOpen new a = absurd a
-  begun old (r.Stopped pages sectors) new a = absurd a
+  begun old _ new a = absurd a
 
   copied : (old : LiveSeen) (reply : LiveReply) (new : LiveSeen) → AfterCopy old reply new → AfterCopy (U old) reply (U new)
   copied old (r.Copied item) new a = copies old item new a
   copied old r.RoundDone new a = (a.0, ap U a.1)
   copied old (r.Mig (errors.DiskFailed dev n)) new a = copy_fails old dev n new a
   copied old (r.Mig errors.StreamFailed) new a = fails old new a
-  copied old (r.Mig errors.NotBegun) new a = absurd a
-  copied old (r.Mig errors.AlreadyBegun) new a = absurd a
-  copied old (r.Mig errors.AlreadyStopped) new a = absurd a
-  copied old (r.Mig errors.RoundsEnded) new a = absurd a
-  copied old (r.Guest reply) new a = absurd a
-  copied old (r.Begun k) new a = absurd a
-  copied old r.RoundOpen new a = absurd a
-  copied old (r.Stopped pages sectors) new a = absurd a
+  copied old _ new a = absurd a
 
   ended : (old : LiveSeen) (reply : LiveReply) (new : LiveSeen) → AfterRound old reply new → AfterRound (U old) reply (U new)
   ended old (r.Begun k) new a = (a.0, ends old k new a.1)
   ended old r.RoundOpen new a = (a.0, ap U a.1)
   ended old (r.Mig errors.StreamFailed) new a = fails old new a
-  ended old (r.Mig errors.NotBegun) new a = absurd a
-  ended old (r.Mig errors.AlreadyBegun) new a = absurd a
-  ended old (r.Mig errors.AlreadyStopped) new a = absurd a
-  ended old (r.Mig errors.RoundsEnded) new a = absurd a
-  ended old (r.Mig (errors.DiskFailed dev n)) new a = absurd a
-  ended old (r.Guest reply) new a = absurd a
-  ended old (r.Copied item) new a = absurd a
-  ended old r.RoundDone new a = absurd a
-  ended old (r.Stopped pages sectors) new a = absurd a
+  ended old _ new a = absurd a
 
   stopped : (old : LiveSeen) (reply : LiveReply) (new : LiveSeen) → AfterStop old reply new → AfterStop (U old) reply (U new)
   stopped old (r.Stopped pages sectors) new a = stops old pages sectors new a
   stopped old (r.Mig (errors.DiskFailed dev n)) new a = stops_short old dev n new a
   stopped old (r.Mig errors.StreamFailed) new a = fails old new a
-  stopped old (r.Mig errors.NotBegun) new a = absurd a
-  stopped old (r.Mig errors.AlreadyBegun) new a = absurd a
-  stopped old (r.Mig errors.AlreadyStopped) new a = absurd a
-  stopped old (r.Mig errors.RoundsEnded) new a = absurd a
-  stopped old (r.Guest reply) new a = absurd a
-  stopped old (r.Begun k) new a = absurd a
-  stopped old (r.Copied item) new a = absurd a
-  stopped old r.RoundDone new a = absurd a
-  stopped old r.RoundOpen new a = absurd a
+  stopped old _ new a = absurd a
 
   does : (old : LiveSeen) (e : LiveEvent) (reply : LiveReply) (new : LiveSeen) → Does old e reply new → Does (U old) e reply (U new)
   does old (Guest e) reply new a = guests old e reply new a
@@ -161,10 +124,12 @@ module _ (taken : List ℕ) where
 pub calls_ignore_taken : CallsIgnoreTaken
 calls_ignore_taken taken old new e reply s = serves_by taken (refusal_for old.phase e) old e reply new s
 
+pub places_untaken : (taken : List ℕ) (s : LiveSeen) → HasPlaces s → HasPlaces (untaken taken s)
+places_untaken taken s places = record { sound = places.sound; few = places.few; due_size = places.due_size; dirty_size = places.dirty_size }
+
 pub taken_follow : TakenFollow
 taken_follow m h out taken e reply old new g places s =
-    let there : HasPlaces (untaken taken old) = record { sound = places.sound; few = places.few; due_size = places.due_size; dirty_size = places.dirty_size } in
-    let gone = relates_on m h out e reply (untaken taken old) (untaken taken new) g there (calls_ignore_taken taken old new e reply s) in
+    let gone = relates_on m h out e reply (untaken taken old) (untaken taken new) g (places_untaken taken old places) (calls_ignore_taken taken old new e reply s) in
     record { effect = gone.effect; relates = gone.relates }
 
 pub taken_are_whole : TakenAreWhole

@@ -1,6 +1,6 @@
 -- A flush that fails in place of its step, and the history.
 use Rattle.std.proofs.Common.{◌≡◌, ◌≢◌, ℕ, List, Bool, true, false, ◌||◌, refl, ap, sym, subst, ◌∙◌}
-use Rattle.std.specs.Prelude.{All, Err, IsTrue, Ok, Result, Some}
+use Rattle.std.specs.Prelude.{All, Err, IsTrue, Ok, Result}
 use Rattle.std.proofs.lemmas.List.{append-nil}
 use Rattle.machine.specs.Effect.{Effect, applied}
 use Rattle.machine.specs.Seen.{Marks, Seen, state_of}
@@ -9,14 +9,16 @@ use Rattle.machine.specs.State.{MachineState}
 use Rattle.machine.specs.Step.{HasEffect}
 use Rattle.machine.specs.Outcome.{disk_failed}
 use Rattle.machine.specs.Unsynced.{FailsFlushIf, makes_flush}
+use Rattle.machine.specs.declared.event.Event.{Event}
 use Rattle.machine.specs.declared.event.Event.TheVariants.{Step}
+use Rattle.machine.specs.declared.reply.Reply.{Reply}
 use Rattle.machine.specs.declared.reply.Reply.TheVariants.{DiskFailed}
 use Rattle.machine.proofs.Numbering.{same_layout}
 use Rattle.wire.specs.Sinks.{Digested, SinkState}
 use Rattle.wire.specs.Stream.{texts}
 use Rattle.sender.specs.Follows.{Relates}
 use Rattle.sender.specs.History.{History, has_fault, text, then_came}
-use Rattle.sender.specs.LiveState.{HasPlaces, LiveSeen, now, refusal_for}
+use Rattle.sender.specs.LiveState.{HasPlaces, LiveSeen, now}
 use Rattle.sender.specs.Stopping.{IsLive}
 use Rattle.sender.specs.Taking.{untaken}
 use Rattle.sender.specs.Unsynced.{FailsLiveFlush, FailsLiveFlushIf, FailureFollows, FailureGoesOn, TakenFailureFollows, TriesFlush}
@@ -27,22 +29,22 @@ use Rattle.sender.specs.declared.mig_error.MigError.TheVariants.{AlreadyStopped}
 use Rattle.sender.specs.declared.phase.Phase.{Phase}
 use Rattle.sender.specs.declared.phase.Phase.TheVariants as phases
 use Rattle.sender.proofs.Following.{IsLogged, guest_follows}
-use Rattle.sender.proofs.Living.{guest_free, live_on}
+use Rattle.sender.proofs.Living.{closed_refuses, guest_free, live_on}
+use Rattle.sender.proofs.Taking.{places_untaken}
 
 or_none : (b : Bool) → (b || false) ≡ b
 or_none true = refl
 or_none false = refl
 
-no_text : (m : MachineState) (h : History) (dev pick : ℕ) (f : Effect) → text m (then_came h (Guest (Step dev pick)) (r.Guest DiskFailed) f) ≡ text m h
+pub no_text : (m : MachineState) (h : History) (e : Event) (reply : Reply) (f : Effect) → text m (then_came h (Guest e) (r.Guest reply) f) ≡ text m h
 unfolding texts
-no_text m h dev pick f = append-nil (text m h)
+no_text m h e reply f = append-nil (text m h)
 
 -- After a stop that closed the stream it is refused.
 pub flush_refused : (s : LiveSeen) (dev pick : ℕ) (x : MigError) → (x ≡ AlreadyStopped) × (s.phase ≡ phases.Stopped) → TriesFlush s dev pick (Err x) s
 flush_refused s dev pick x closed =
-    let refused : refusal_for s.phase (Guest (Step dev pick)) ≡ Some AlreadyStopped = ap (λ (p : Phase). refusal_for p (Guest (Step dev pick))) closed.1 in
     let P : MigError → Result Bool MigError = λ y. Err y in
-    rw refused (ap P closed.0, refl)
+    rw (closed_refuses s.phase (Step dev pick) closed.1) (ap P closed.0, refl)
 
 module _ (m : MachineState) (h : History) (out : SinkState) (dev pick : ℕ) (old new : LiveSeen) (rel : Relates m h out old) (places : HasPlaces old) (goes : old.phase ≢ phases.Stopped) (f : FailsLiveFlush old dev pick new) where
   logged : IsLogged old (Step dev pick) DiskFailed new
@@ -76,10 +78,10 @@ module _ (m : MachineState) (h : History) (out : SinkState) (dev pick : ℕ) (ol
           honest = subst (λ (marks : List Marks). All (λ x. IsTrue x.honest) marks) (sym f.failed.marks) rel.honest;
           fault = λ some. ap (λ (x : LiveSeen). x.phase) f.rest ∙ rel.fault (sym (or_none (has_fault h)) ∙ some);
           count = rw (or_none (has_fault h), same_out) rel.count;
-          held = λ none. rw (no_text m h dev pick f.failed.effect, same_out) (rel.held (sym (or_none (has_fault h)) ∙ none));
-          taken = λ none going. rw (no_text m h dev pick f.failed.effect, ap (λ (x : LiveSeen). x.digest) f.rest) (rel.taken (sym (or_none (has_fault h)) ∙ none) going);
+          held = λ none. rw (no_text m h (Step dev pick) DiskFailed f.failed.effect, same_out) (rel.held (sym (or_none (has_fault h)) ∙ none));
+          taken = λ none going. rw (no_text m h (Step dev pick) DiskFailed f.failed.effect, ap (λ (x : LiveSeen). x.digest) f.rest) (rel.taken (sym (or_none (has_fault h)) ∙ none) going);
         };
-        text_is = no_text m h dev pick f.failed.effect;
+        text_is = no_text m h (Step dev pick) DiskFailed f.failed.effect;
       }
 
 pub failure_follows : FailureFollows
@@ -87,8 +89,7 @@ failure_follows m h out dev pick old new rel places goes f = goes_on m h out dev
 
 pub taken_failure_follows : TakenFailureFollows
 taken_failure_follows m h out taken dev pick old new rel places goes f =
-    let there : HasPlaces (untaken taken old) = record { sound = places.sound; few = places.few; due_size = places.due_size; dirty_size = places.dirty_size } in
-    failure_follows m h out dev pick (untaken taken old) (untaken taken new) rel there goes (record { failed = f.failed; rest = ap (untaken taken) f.rest })
+    failure_follows m h out dev pick (untaken taken old) (untaken taken new) rel (places_untaken taken old places) goes (record { failed = f.failed; rest = ap (untaken taken) f.rest })
 
 -- What a machine that is being migrated keeps.
 pub live_tried : (old new : Seen) (phase : Phase) (due dirty : List Bool) (firsts : List ℕ) (at dev pick : ℕ) (was : Bool) → IsLive old phase due dirty firsts at → FailsFlushIf was old dev pick new → IsLive new phase due dirty firsts at

@@ -137,16 +137,7 @@ sound_went m h (Guest e) (r.Guest reply) c a sound =
     elim (told (refusal_for (phase_of h) (Guest e)) (AllowedBy (layout_of m) (machine_after m h) (is_stale (layout_of m) h) (is_due (layout_of m) h) (phase_of h) (Guest e) (r.Guest reply) c) (λ x. r.Guest reply ≡ r.Mig x) a)
     as (λ _. IsSound (applied (machine_after m h) c))
     [ inl d ↦ d.1.1 | inr d ↦ (let wrong : r.Guest reply ≡ r.Mig d.0 = d.2 in cc) ]
-sound_went m h (Guest e) (r.Begun k) c a sound = sound
-sound_went m h (Guest e) (r.Copied i) c a sound = sound
-sound_went m h (Guest e) r.RoundDone c a sound = sound
-sound_went m h (Guest e) r.RoundOpen c a sound = sound
-sound_went m h (Guest e) (r.Stopped p q) c a sound = sound
-sound_went m h (Guest e) (r.Mig x) c a sound = sound
-sound_went m h Begin reply c a sound = sound
-sound_went m h Copy reply c a sound = sound
-sound_went m h EndRound reply c a sound = sound
-sound_went m h Stop reply c a sound = sound
+sound_went m h _ _ c a sound = sound
 
 sound_after : (m : MachineState) (h : History) → AllAllowed m h → IsSound m → IsSound (machine_after m h)
 sound_after m nothing a sound = sound

@@ -180,13 +180,8 @@ not_failed (phases.Open k) Stop is = cc
 -- In a failed phase only the guest goes on, and it writes nothing.
 pub failed_on : (old new : LiveSeen) (e : LiveEvent) (reply : LiveReply) → old.phase ≡ phases.Failed → Serves old e reply new → (new.phase ≡ phases.Failed) × (new.out ≡ old.out)
 failed_on old new (Guest e) (r.Guest reply) is s = let d = rw is at s in (ap (λ (x : LiveSeen). x.phase) d.rest, ap (λ (x : LiveSeen). x.out) d.rest)
-failed_on old new (Guest e) (r.Begun k) is s = let d = rw is at s in absurd d
-failed_on old new (Guest e) (r.Copied i) is s = let d = rw is at s in absurd d
-failed_on old new (Guest e) r.RoundDone is s = let d = rw is at s in absurd d
-failed_on old new (Guest e) r.RoundOpen is s = let d = rw is at s in absurd d
-failed_on old new (Guest e) (r.Stopped p q) is s = let d = rw is at s in absurd d
-failed_on old new (Guest e) (r.Mig x) is s = let d = rw is at s in absurd d
 failed_on old new Begin reply is s = let d = rw is at s in (ap (λ (x : LiveSeen). x.phase) d.1, ap (λ (x : LiveSeen). x.out) d.1)
 failed_on old new Copy reply is s = let d = rw is at s in (ap (λ (x : LiveSeen). x.phase) d.1, ap (λ (x : LiveSeen). x.out) d.1)
 failed_on old new EndRound reply is s = let d = rw is at s in (ap (λ (x : LiveSeen). x.phase) d.1, ap (λ (x : LiveSeen). x.out) d.1)
 failed_on old new Stop reply is s = let d = rw is at s in (ap (λ (x : LiveSeen). x.phase) d.1, ap (λ (x : LiveSeen). x.out) d.1)
+failed_on old new (Guest e) _ is s = let d = rw is at s in absurd d

@@ -276,34 +276,19 @@ impl<D: Disk, W: Digesting> LiveOver<D, W> {
         ensures same { IfErr result (λ l. l ≡ self) }
     {
         self.machine.ram().recall();
-        let LiveOver {
-            machine,
-            writer,
-            phase,
-            due,
-            at,
-            logs,
-        } = self;
-        match machine.lend() {
+        match self.machine.lend() {
             Ok((region, parked)) => Ok((
                 region,
                 LiveParked {
                     parked,
-                    writer,
-                    phase,
-                    due,
-                    at,
-                    dirty: logs.first,
+                    writer: self.writer,
+                    phase: self.phase,
+                    due: self.due,
+                    at: self.at,
+                    dirty: self.logs.first,
                 },
             )),
-            Err(machine) => Err(LiveOver {
-                machine,
-                writer,
-                phase,
-                due,
-                at,
-                logs,
-            }),
+            Err(machine) => Err(LiveOver { machine, ..self }),
         }
     }
 

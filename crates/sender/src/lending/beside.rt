@@ -37,23 +37,8 @@ impl<D: Disk, W: Digesting> LiveParked<D, W> {
         ensures place { address result.1 ≡ address window }
         ensures machine { result.2 ≡ self }
     {
-        let LiveParked {
-            parked,
-            writer,
-            phase,
-            due,
-            at,
-            dirty,
-        } = self;
-        let (lacking, window, parked) = parked.lacks(window, dev, pick, held);
-        let same = LiveParked {
-            parked,
-            writer,
-            phase,
-            due,
-            at,
-            dirty,
-        };
+        let (lacking, window, parked) = self.parked.lacks(window, dev, pick, held);
+        let same = LiveParked { parked, ..self };
         (lacking, window, same)
     }
 
@@ -71,23 +56,8 @@ impl<D: Disk, W: Digesting> LiveParked<D, W> {
         ensures place { address result.1 ≡ address window }
         ensures machine { result.2 ≡ self }
     {
-        let LiveParked {
-            parked,
-            writer,
-            phase,
-            due,
-            at,
-            dirty,
-        } = self;
-        let (asking, window, parked) = parked.asking(window, dev, pick);
-        let same = LiveParked {
-            parked,
-            writer,
-            phase,
-            due,
-            at,
-            dirty,
-        };
+        let (asking, window, parked) = self.parked.asking(window, dev, pick);
+        let same = LiveParked { parked, ..self };
         (asking, window, same)
     }
 
@@ -122,22 +92,12 @@ impl<D: Disk, W: Digesting> LiveParked<D, W> {
         requires size { length window.content ≡ PAGE_SIZE * length self.parked.versions }
         ensures { IsLiveMadeOver self window dev pick (reply_in result.0 sent.new.items) result.1 result.2 }
     {
-        let LiveParked {
-            parked,
-            writer,
-            phase,
-            due,
-            at,
-            mut dirty,
-        } = self;
-        let (stepped, window, parked) = parked.step_over(window, dev, pick, sent, &mut dirty);
+        let mut dirty = self.dirty;
+        let (stepped, window, parked) = self.parked.step_over(window, dev, pick, sent, &mut dirty);
         let next = LiveParked {
             parked,
-            writer,
-            phase,
-            due,
-            at,
             dirty,
+            ..self
         };
         (stepped, window, next)
     }

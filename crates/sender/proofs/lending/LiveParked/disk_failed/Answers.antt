@@ -1,8 +1,4 @@
 use Rattle.std.proofs.Common.{refl}
-use Rattle.blk.specs.Outside.{Failed}
-use Rattle.machine.specs.Outside.{disk_reply}
-use Rattle.machine.specs.declared.event.DiskAnswer.TheVariants as answers
-use Rattle.machine.specs.declared.event.Event.TheVariants.{Disk}
 use Rattle.sender.proofs.ParkedServed.{served_parked, sets_stay}
 use Rattle.sender.proofs.lending.LiveParked.disk_failed.Goals as goal
 
@@ -15,4 +11,4 @@ invariant_of-self g c =
 pub returns : goal.returns
 returns g c =
     let still = rw (← c.self.view_is) at c.in_ok-running.ensures.open in
-    rw (← c.self.view_is, c.from_failed.ensures) (served_parked _ _ (Disk c.args.dev c.args.pick answers.Failed) (disk_reply Failed c.disk_failed-answer.result) still c.disk_failed-answer.ensures refl)
+    rw (← c.self.view_is, c.from_failed.ensures) (served_parked _ _ _ _ still c.disk_failed-answer.ensures refl)

@@ -1,6 +1,4 @@
 use Rattle.std.proofs.Common.{refl}
-use Rattle.machine.specs.Direct.{accepted_reply}
-use Rattle.machine.specs.declared.event.Event.TheVariants.{Input}
 use Rattle.sender.proofs.ParkedServed.{served_parked, sets_stay}
 use Rattle.sender.proofs.lending.LiveParked.input.Goals as goal
 
@@ -13,4 +11,4 @@ invariant_of-self g c =
 pub returns : goal.returns
 returns g c =
     let still = rw (← c.self.view_is) at c.in_ok-running.ensures.open in
-    rw (← c.self.view_is, c.from_accepted.ensures) (served_parked _ _ (Input c.args.dev c.args.bytes.now) (accepted_reply c.input-answer.result) still c.input-answer.ensures refl)
+    rw (← c.self.view_is, c.from_accepted.ensures) (served_parked _ _ _ _ still c.input-answer.ensures refl)

@@ -1,6 +1,4 @@
 use Rattle.std.proofs.Common.{refl}
-use Rattle.machine.specs.Direct.{written_result}
-use Rattle.machine.specs.declared.event.Event.TheVariants.{RegWrite}
 use Rattle.sender.proofs.ParkedServed.{served_parked, sets_stay}
 use Rattle.sender.proofs.lending.LiveParked.write_register.Goals as goal
 
@@ -13,4 +11,4 @@ invariant_of-self g c =
 pub returns : goal.returns
 returns g c =
     let still = rw (← c.self.view_is) at c.in_ok-running.ensures.open in
-    rw (← c.self.view_is, c.from_written.ensures) (served_parked _ _ (RegWrite c.args.dev c.args.offset c.args.width c.args.value) (written_result c.write_register-answer.result) still c.write_register-answer.ensures refl)
+    rw (← c.self.view_is, c.from_written.ensures) (served_parked _ _ _ _ still c.write_register-answer.ensures refl)

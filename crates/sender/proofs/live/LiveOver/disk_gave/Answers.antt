@@ -1,7 +1,3 @@
-use Rattle.blk.specs.Outside.{Gave}
-use Rattle.machine.specs.Outside.{disk_reply}
-use Rattle.machine.specs.declared.event.DiskAnswer.TheVariants as answers
-use Rattle.machine.specs.declared.event.Event.TheVariants.{Disk}
 use Rattle.sender.proofs.Living.{guest_served, live_guest, may_all}
 use Rattle.sender.proofs.live.LiveOver.disk_gave.Goals as goal
 
@@ -12,14 +8,12 @@ pub invariant_of-self : goal.invariant_of-self
 invariant_of-self g c =
     let i = c.self.inside in
     let was = c.disk_gave_logged-answer in
-    let e = Disk c.args.dev c.args.pick (answers.Gave c.args.bytes.now) in
-    live_guest i.machine was.new.self i.logs.first was.new.log i.phase i.due i.at (g.W.Sink.sum i.writer) (g.W.Sink.state i.writer) e (disk_reply (Gave c.args.bytes.now) was.result) c.self.invariant was.ensures.applied
+    live_guest i.machine was.new.self i.logs.first was.new.log i.phase i.due i.at _ _ c.self.invariant was.ensures.applied
 
 pub returns-clause-served : goal.returns-clause-served
 returns-clause-served g c =
     let i = c.self.inside in
     let still = rw (← c.self.view_is) at c.in_ok-running.ensures.open in
     let was = c.disk_gave_logged-answer in
-    let e = Disk c.args.dev c.args.pick (answers.Gave c.args.bytes.now) in
     rw (← c.self.view_is, c.from_moved.ensures.gave c.args.bytes.now)
-    (guest_served i.machine was.new.self i.logs.first was.new.log i.phase i.due i.at (g.W.Sink.sum i.writer) (g.W.Sink.state i.writer) e (disk_reply (Gave c.args.bytes.now) was.result) c.self.invariant was.ensures.applied still)
+    (guest_served i.machine was.new.self i.logs.first was.new.log i.phase i.due i.at _ _ c.self.invariant was.ensures.applied (g.W.Sink.sum i.writer) (g.W.Sink.state i.writer) still)

@@ -1,36 +1,23 @@
-use Rattle.std.specs.Prelude.{Bool, List, Option}
-use Rattle.std.proofs.Common.{ap}
-use Rattle.blk.specs.Outside.{Gave}
-use Rattle.guestmem.specs.Both.{both_of}
-use Rattle.guestmem.specs.Maybe.{after_if}
-use Rattle.machine.specs.Outside.{disk_reply}
-use Rattle.machine.specs.PageLog.{noted}
-use Rattle.machine.specs.declared.event.DiskAnswer.TheVariants as answers
-use Rattle.machine.specs.declared.event.Event.TheVariants.{Disk}
-use Rattle.sender.proofs.Living.{live_guest, may_all}
-use Rattle.sender.proofs.Logging.{first_told, logged_served}
+use Rattle.guestmem.specs.Maybe.{after_if, may_if}
+use Rattle.machine.specs.PageLog.{may_note, noted}
+use Rattle.sender.proofs.Logging.{live_logged, logged_served, may_both}
 use Rattle.sender.proofs.live.LiveOver.disk_gave_logged.Goals as goal
 
 pub disk_gave_logged-answer-requires : goal.disk_gave_logged-answer-requires
 disk_gave_logged-answer-requires g c =
     let i = c.self.inside in
-    record { may = λ item there. (may_all i.machine i.logs.first i.phase i.due i.at c.self.invariant item there, rw c.swap.ensures.x_after ((rw (← c.self.view_is) at c.requires.may) item there)) }
+    record { may = may_both (may_if may_note) i.machine i.logs.first c.args.log.now c.swap.new.x i.phase i.due i.at c.self.invariant c.swap.ensures.x_after (rw (← c.self.view_is) at c.requires.may) }
 
 pub invariant_of-self : goal.invariant_of-self
 invariant_of-self g c =
     let i = c.self.inside in
     let was = c.disk_gave_logged-answer in
-    let e = Disk c.args.dev c.args.pick (answers.Gave c.args.bytes.now) in
-    let reply = disk_reply (Gave c.args.bytes.now) was.result in
-    live_guest i.machine was.new.self i.logs.first was.new.log.first i.phase i.due i.at (g.W.Sink.sum i.writer) (g.W.Sink.state i.writer) e reply c.self.invariant
-    (first_told (after_if noted) i.machine was.new.self i.logs.first c.args.log.now (both_of i.logs.first c.swap.new.x) was.new.log e reply (ap (λ (o : Option (List Bool)). both_of i.logs.first o) c.swap.ensures.x_after) was.ensures.applied)
+    live_logged (after_if noted) i.machine was.new.self i.logs.first c.args.log.now c.swap.new.x was.new.log _ _ c.swap.ensures.x_after was.ensures.applied i.phase i.due i.at c.self.invariant
 
 pub returns-clause-served : goal.returns-clause-served
 returns-clause-served g c =
     let i = c.self.inside in
     let still = rw (← c.self.view_is) at c.in_ok-running.ensures.open in
     let was = c.disk_gave_logged-answer in
-    let e = Disk c.args.dev c.args.pick (answers.Gave c.args.bytes.now) in
-    let reply = disk_reply (Gave c.args.bytes.now) was.result in
     rw (← c.self.view_is, c.swap-2.ensures.y_after, c.from_moved.ensures.gave c.args.bytes.now)
-    (logged_served (after_if noted) i.machine was.new.self i.logs.first c.args.log.now (both_of i.logs.first c.swap.new.x) was.new.log e reply (ap (λ (o : Option (List Bool)). both_of i.logs.first o) c.swap.ensures.x_after) was.ensures.applied i.phase i.due i.at (g.W.Sink.sum i.writer) (g.W.Sink.state i.writer) c.self.invariant still)
+    (logged_served (after_if noted) i.machine was.new.self i.logs.first c.args.log.now c.swap.new.x was.new.log _ _ c.swap.ensures.x_after was.ensures.applied i.phase i.due i.at c.self.invariant (g.W.Sink.sum i.writer) (g.W.Sink.state i.writer) still)

@@ -1,5 +1,3 @@
-use Rattle.machine.specs.Stepped.{reply_in}
-use Rattle.machine.specs.declared.event.Event.TheVariants.{Step}
 use Rattle.sender.proofs.Living.{guest_served, live_guest, may_all}
 use Rattle.sender.proofs.live.LiveOver.stepped.Goals as goal
 
@@ -10,7 +8,7 @@ pub invariant_of-self : goal.invariant_of-self
 invariant_of-self g c =
     let i = c.self.inside in
     let was = c.step_into_logged in
-    live_guest i.machine was.new.self i.logs.first was.new.log i.phase i.due i.at (g.W.Sink.sum i.writer) (g.W.Sink.state i.writer) (Step c.args.dev c.args.pick) (reply_in was.result was.new.sent.items) c.self.invariant was.ensures.applied
+    live_guest i.machine was.new.self i.logs.first was.new.log i.phase i.due i.at _ _ c.self.invariant was.ensures.applied
 
 pub returns-clause-served : goal.returns-clause-served
 returns-clause-served g c =
@@ -18,4 +16,4 @@ returns-clause-served g c =
     let still = rw (← c.self.view_is) at c.requires.running in
     let was = c.step_into_logged in
     rw (← c.self.view_is)
-    (guest_served i.machine was.new.self i.logs.first was.new.log i.phase i.due i.at (g.W.Sink.sum i.writer) (g.W.Sink.state i.writer) (Step c.args.dev c.args.pick) (reply_in was.result was.new.sent.items) c.self.invariant was.ensures.applied still)
+    (guest_served i.machine was.new.self i.logs.first was.new.log i.phase i.due i.at _ _ c.self.invariant was.ensures.applied (g.W.Sink.sum i.writer) (g.W.Sink.state i.writer) still)

@@ -1,5 +1,3 @@
-use Rattle.machine.specs.Direct.{done_reply}
-use Rattle.machine.specs.declared.event.Event.TheVariants.{MemWrite}
 use Rattle.sender.proofs.Living.{guest_served, live_guest, may_all}
 use Rattle.sender.proofs.live.LiveOver.write_ram.Goals as goal
 
@@ -10,7 +8,7 @@ pub invariant_of-self : goal.invariant_of-self
 invariant_of-self g c =
     let i = c.self.inside in
     let was = c.write_ram_logged-answer in
-    live_guest i.machine was.new.self i.logs.first was.new.log i.phase i.due i.at (g.W.Sink.sum i.writer) (g.W.Sink.state i.writer) (MemWrite c.args.addr c.args.bytes.now) (done_reply was.result) c.self.invariant was.ensures.applied
+    live_guest i.machine was.new.self i.logs.first was.new.log i.phase i.due i.at _ _ c.self.invariant was.ensures.applied
 
 pub returns-clause-served : goal.returns-clause-served
 returns-clause-served g c =
@@ -18,4 +16,4 @@ returns-clause-served g c =
     let still = rw (← c.self.view_is) at c.in_ok-running.ensures.open in
     let was = c.write_ram_logged-answer in
     rw (← c.self.view_is, c.from_done.ensures)
-    (guest_served i.machine was.new.self i.logs.first was.new.log i.phase i.due i.at (g.W.Sink.sum i.writer) (g.W.Sink.state i.writer) (MemWrite c.args.addr c.args.bytes.now) (done_reply was.result) c.self.invariant was.ensures.applied still)
+    (guest_served i.machine was.new.self i.logs.first was.new.log i.phase i.due i.at _ _ c.self.invariant was.ensures.applied (g.W.Sink.sum i.writer) (g.W.Sink.state i.writer) still)
