@@ -17,10 +17,7 @@ use wire::Told;
 
 impl<D: Disk> LiveOver<D, Told> {
     /// A machine of which nothing is sent yet. Fails only if memory is refused.
-    pub fn new(
-        alloc: Global,
-        machine: Machine<D>,
-    ) -> Result<LiveTold<D>, (AllocError, Machine<D>)>
+    pub fn new(alloc: Global, machine: Machine<D>) -> Result<LiveTold<D>, (AllocError, Machine<D>)>
         ensures machine { IfOk result (λ l. l.machine ≡ machine) }
         ensures fresh { IfOk result (λ l. l.phase ≡ Phase.Fresh) }
         ensures empty { IfOk result (λ l. HasNone l.due × HasNone l.dirty) }
