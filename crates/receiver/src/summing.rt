@@ -4,8 +4,8 @@ ghost use Rattle.std.specs.Prelude.{◌≡◌, ◌++◌, ◌↔◌, List, ℕ, I
 ghost use Rattle.sha2.specs.Sha256.{sha256};
 ghost use Rattle.receiver.specs.Sums.{CanSay, SaysOn, Sums};
 
-use crate::past::{Past, Piece};
 use sha2::{Digest, Sha256};
+use wire::{Past, Piece};
 
 /// What a receiver has of the digest of the bytes that it worked off.
 pub trait Summing: Drop {
