@@ -1,11 +1,12 @@
 -- What a sink holds whose digest is told.
-use Rattle.std.proofs.Common.{◌≡◌, ◌+◌, ◌-◌, ◌%◌, ◌^◌, ◌≤◌, ◌∙◌, ℕ, List, [], ◌∷◌, ◌++◌, drop, take, length, Result, Ok, Err, refl, ap, sym, append_assoc, arith}
-use Rattle.std.specs.Prelude.{Bool, true, false, IsErr, OnOk, Some}
+use Rattle.std.proofs.Common.{◌≡◌, ◌+◌, ◌-◌, ◌%◌, ◌^◌, ◌≤◌, ◌∙◌, ℕ, List, [], ◌++◌, drop, take, length, Result, Ok, Err, refl, ap, sym, append_assoc, arith}
+use Rattle.std.specs.Prelude.{Bool, true, false, IsErr, OnOk, Some, min}
+use Rattle.std.proofs.Math.Nat.{min-le_right}
 use Rattle.std.proofs.lemmas.List.{drop-append-le, length-append, take-append-drop, take-append-le}
 use Rattle.sha2.proofs.Facts256.{length-sha256}
 use Rattle.sha2.specs.Sha256.{sha256}
 use Rattle.wire.specs.Records.{commit, spelled_record}
-use Rattle.wire.specs.Sinks.{Appends, Covers, Seals, SinkState, Takes, over_writer, remembered}
+use Rattle.wire.specs.Sinks.{Appends, Seals, Takes, over_writer}
 use Rattle.wire.specs.Telling.{EndsIn, Gains, IsTold, TakenIsPut, ToldSeen, closing_record, held_in, out_of, owed_len, owing, sum_of}
 use Rattle.wire.proofs.Spelling.{split_same, tail_same}
 
@@ -42,8 +43,11 @@ sealed old new done was is ready past failures = record {
   count = failures;
   puts = λ bytes covers. record {
     count = failures;
-    holds = λ honest. (refl, owed_is new.ready new.past new.owed is ∙ ap (λ (x : List ℕ). x ++ closing_record new.past) (ready ∙ sym (open_is old.ready old.past old.owed was))
-      ∙ ap (λ (x : List ℕ). held_in old ++ closing_record x) (past ∙ sym covers.0));
+    holds = λ honest. (
+      refl,
+      owed_is new.ready new.past new.owed is ∙ ap (λ (x : List ℕ). x ++ closing_record new.past) (ready ∙ sym (open_is old.ready old.past old.owed was))
+          ∙ ap (λ (x : List ℕ). held_in old ++ closing_record x) (past ∙ sym covers.0),
+    );
   };
 }
 
@@ -99,22 +103,37 @@ length-ready : (ready past : List ℕ) (owed : Bool) → length ready ≡ length
 length-ready ready past false = omega arith
 length-ready ready past true = omega (arith, length-append ready (closing_record past), length-closing past)
 
-pub ready_len : (t : ToldSeen) → length t.ready ≡ length (held_in t) - owed_len t.owed
+ready_len : (t : ToldSeen) → length t.ready ≡ length (held_in t) - owed_len t.owed
 ready_len t = length-ready t.ready t.past t.owed
 
 take_front : (count : ℕ) (ready past : List ℕ) (owed : Bool) → count ≤ length ready → take count (owing ready owed past) ≡ take count ready
 take_front count ready past false le = refl
 take_front count ready past true le = take-append-le count ready (closing_record past) le
 
-pub take_ready : (t : ToldSeen) (count : ℕ) → count ≤ length t.ready → take count (held_in t) ≡ take count t.ready
+take_ready : (t : ToldSeen) (count : ℕ) → count ≤ length t.ready → take count (held_in t) ≡ take count t.ready
 take_ready t count le = take_front count t.ready t.past t.owed le
 
 drop_front : (count : ℕ) (ready past : List ℕ) (owed : Bool) → count ≤ length ready → owing (drop count ready) owed past ≡ drop count (owing ready owed past)
 drop_front count ready past false le = refl
 drop_front count ready past true le = sym (drop-append-le count ready (closing_record past) le)
 
-pub drop_ready : (t : ToldSeen) (count : ℕ) → count ≤ length t.ready → owing (drop count t.ready) t.owed t.past ≡ drop count (held_in t)
+drop_ready : (t : ToldSeen) (count : ℕ) → count ≤ length t.ready → owing (drop count t.ready) t.owed t.past ≡ drop count (held_in t)
 drop_ready t count le = drop_front count t.ready t.past t.owed le
+
+few : (t : ToldSeen) (room count : ℕ) → count ≡ min room (length t.ready) → count ≤ length t.ready
+few t room count is = rw is (min-le_right room (length t.ready))
+
+pub took_count : (t : ToldSeen) (room count : ℕ) → count ≡ min room (length t.ready) → count ≡ min room (length (held_in t) - owed_len t.owed)
+took_count t room count is = is ∙ ap (λ (n : ℕ). min room n) (ready_len t)
+
+pub took_front : (t : ToldSeen) (buf filled : List ℕ) (count : ℕ) → count ≡ min (length buf) (length t.ready) → filled ≡ take count t.ready ++ drop count buf → filled ≡ take count (held_in t) ++ drop count buf
+took_front t buf filled count is taken = taken ∙ ap (λ (x : List ℕ). x ++ drop count buf) (sym (take_ready t count (few t (length buf) count is)))
+
+pub took_left : (t next : ToldSeen) (room count : ℕ) → count ≡ min room (length t.ready) → next ≡ record t { ready = drop count t.ready; failures = 0; is_flushed = false } → out_of next ≡ over_writer (Some (drop count (held_in t))) 0 false
+took_left t next room count is left = ap out_of left ∙ ap (λ (x : List ℕ). over_writer (Some x) 0 false) (drop_ready t count (few t room count is))
+
+pub took_sum : (t next : ToldSeen) (count : ℕ) → next ≡ record t { ready = drop count t.ready; failures = 0; is_flushed = false } → sum_of next ≡ sum_of t
+took_sum t next count left = ap sum_of left
 
 -- What was taken.
 put_is : (taken text bytes old new : List ℕ) → new ≡ old ++ bytes → taken ++ old ≡ text → taken ++ new ≡ text ++ bytes

@@ -26,7 +26,8 @@
 //!   and is no version of a machine that has none. A disk outside has no sector in a stream. Version 1 has another encoding of a page of zeros, and no block device whose driver accepted
 //!   WRITE_ZEROES, so no request to clear sectors. They differ in nothing else. A page has one encoding in each.
 //! - `laws`: no encoding of a record is a prefix of another's; a stream has one machine of each base, one number of rounds and one version;
-//!   a sound machine has a stream in each version that has its devices, and the whole stream of it is one.
+//!   a sound machine has a stream in each version that has its devices, and the whole stream of it is one; what was taken from a `Told`, in its
+//!   order, and what it holds are what was put.
 //!
 //! It uses `machine`, whose devices and shapes these are. The digest is `sha2`'s, whose contract says that it is the one of
 //! FIPS 180-4.

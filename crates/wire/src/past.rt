@@ -16,14 +16,14 @@ impl Model for Past {
     ghost also_owns = { λ _. ftrue };
 }
 
-/// Bytes that follow.
+/// Bytes that come after those of a `Past`.
 #[derive(Clone, Copy, Drop)]
 pub struct Piece<'a> {
     pub bytes: &'a [u8],
 }
 
 impl Past {
-    /// None.
+    /// No bytes.
     pub fn new() -> Past
         ensures { result.bytes ≡ [] }
     {

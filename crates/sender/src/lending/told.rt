@@ -17,7 +17,7 @@ impl<D: Disk> LiveParked<D, Told> {
     }
 
     /// Takes the first of the bytes that wait, as `LiveTold::take` does.
-    #[tactic(auto, using(wire::proofs::ToldSinks::ready_len, wire::proofs::ToldSinks::take_ready, wire::proofs::ToldSinks::drop_ready))]
+    #[tactic(auto, using(wire::proofs::ToldSinks::took_count, wire::proofs::ToldSinks::took_front, wire::proofs::ToldSinks::took_left, wire::proofs::ToldSinks::took_sum))]
     pub fn take(&mut self, buf: &mut [u8]) -> usize
         ensures count { result ≡ min (length buf.old) (length self.old.out.held - owed_len (is_owed self.old.digest)) }
         ensures taken { buf.new ≡ take result self.old.out.held ++ drop result buf.old }

@@ -17,10 +17,7 @@ use wire::Told;
 
 impl<D: Disk> LiveOver<D, Told> {
     /// A machine of which nothing is sent yet. Fails only if memory is refused.
-    pub fn new(
-        alloc: Global,
-        machine: Machine<D>,
-    ) -> Result<LiveTold<D>, (AllocError, Machine<D>)>
+    pub fn new(alloc: Global, machine: Machine<D>) -> Result<LiveTold<D>, (AllocError, Machine<D>)>
         ensures machine { IfOk result (λ l. l.machine ≡ machine) }
         ensures fresh { IfOk result (λ l. l.phase ≡ Phase.Fresh) }
         ensures empty { IfOk result (λ l. HasNone l.due × HasNone l.dirty) }
@@ -52,7 +49,7 @@ impl<D: Disk> LiveOver<D, Told> {
 
     /// Takes the first of the bytes that wait, as `Told::take` does: all but the record that closes the stream while its digest is owed. No
     /// call depends on what the writer holds (`laws::calls_ignore_what_was_taken`), so bytes may be taken between two calls.
-    #[tactic(auto, using(wire::proofs::ToldSinks::ready_len, wire::proofs::ToldSinks::take_ready, wire::proofs::ToldSinks::drop_ready))]
+    #[tactic(auto, using(wire::proofs::ToldSinks::took_count, wire::proofs::ToldSinks::took_front, wire::proofs::ToldSinks::took_left, wire::proofs::ToldSinks::took_sum))]
     pub fn take(&mut self, buf: &mut [u8]) -> usize
         ensures count { result ≡ min (length buf.old) (length self.old.out.held - owed_len (is_owed self.old.digest)) }
         ensures taken { buf.new ≡ take result self.old.out.held ++ drop result buf.old }
