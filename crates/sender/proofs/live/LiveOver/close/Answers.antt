@@ -1,5 +1,4 @@
-use Rattle.std.proofs.Common.{ap, refl, ◌∙◌}
-use Rattle.wire.specs.Sinks.{SinkState}
+use Rattle.std.proofs.Common.{refl, ◌∙◌}
 use Rattle.sender.proofs.Living.{live_again}
 use Rattle.sender.proofs.Served.{closing_took}
 use Rattle.sender.proofs.live.LiveOver.close.Goals as goal
