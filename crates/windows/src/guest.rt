@@ -1,0 +1,279 @@
+//! A guest: what it does to its machine, between steps of the devices.
+
+use crate::bench::{Beginning, Bench, SECTORS};
+use crate::draws::Draws;
+use crate::queue::{AREAS, Queue};
+use crate::tally::Tally;
+use crate::window::BYTES;
+use anyhow::Result;
+use machine::{Shape, Work};
+use region::KeptRegion;
+use std::alloc::Global;
+
+/// How many devices each machine has: a network device, a disk, a disk outside, a console and an entropy device.
+pub const DEVICES: usize = 5;
+
+/// How many queues they have together.
+const QUEUES: usize = 7;
+
+/// The addresses at which RAM may begin: 0, the end of the lower half of 4 GiB, and as late as RAM can.
+const BASES: [u64; 4] = [0, 0, 0x8000_0000, 0u64.wrapping_sub(BYTES as u64)];
+
+/// The sizes of queues. Those that are no power of two are taken of packed rings alone.
+const SIZES: [u16; 8] = [8, 8, 16, 16, 4, 5, 2, 1];
+
+/// Registers that a driver writes at times when it should not.
+const REGISTERS: [u32; 8] = [0x014, 0x020, 0x024, 0x030, 0x038, 0x044, 0x050, 0x070];
+
+/// A guest in its machines.
+#[derive(Drop)]
+pub struct Guest {
+    bench: Bench,
+    queues: [Queue; QUEUES],
+    last: Work,
+}
+
+/// The devices of a guest.
+fn shapes_of(draws: &mut Draws) -> [Shape; DEVICES] {
+    let mac = [2, 0, 0, 0, 0, 1];
+    let (id, sectors) = ([b'd'; 20], SECTORS);
+    let net = if draws.once_in(2) {
+        Shape::Net { mac }
+    } else {
+        Shape::LongNet { mac, longest: 3000 }
+    };
+    let read_only = draws.once_in(8);
+    [
+        net,
+        Shape::Block {
+            sectors,
+            read_only,
+            id,
+        },
+        Shape::Outside {
+            sectors,
+            read_only,
+            id,
+        },
+        Shape::Console,
+        Shape::Entropy,
+    ]
+}
+
+impl Guest {
+    /// A guest of this seed, whose hosts have this memory for their windows.
+    pub fn new(alloc: Global, seed: u64, windows: (KeptRegion, KeptRegion)) -> Result<Guest> {
+        let mut draws = Draws::new(seed);
+        let base = draws.one_of(&BASES);
+        let shapes = shapes_of(&mut draws);
+        let plan = [
+            3 + draws.below(20) as u64,
+            30 + draws.below(40) as u64,
+        ];
+        let beginning = Beginning {
+            base,
+            shapes: &shapes,
+            plan: &plan,
+        };
+        let bench = Bench::new(alloc, &beginning, windows, draws)?;
+        let mut guest = Guest {
+            bench,
+            queues: [
+                Queue::first(0, 0, 0),
+                Queue::first(0, 1, AREAS),
+                Queue::first(1, 0, 2 * AREAS),
+                Queue::first(2, 0, 3 * AREAS),
+                Queue::first(3, 0, 4 * AREAS),
+                Queue::first(3, 1, 5 * AREAS),
+                Queue::first(4, 0, 6 * AREAS),
+            ],
+            last: Work { dev: 0, pick: 0 },
+        };
+        for dev in 0..DEVICES {
+            guest.set_up(dev as u8)?;
+        }
+        Ok(guest)
+    }
+
+    /// The guest does something, its hosts put something in or answer, and then devices make some steps. Returns false where the guest cannot
+    /// go on.
+    pub fn turn(self, tally: &mut Tally) -> Result<(bool, Guest)> {
+        let mut guest = self;
+        guest.act()?;
+        guest.mend()?;
+        let pick = 1 + guest.bench.draws.below(3) as u8;
+        let bench = guest.bench.answer(Work { dev: 2, pick })?;
+        let mut guest = Guest { bench, ..guest };
+        for _step in 0..guest.bench.draws.below(5) {
+            let (goes_on, next) = guest.step(tally)?;
+            guest = next;
+            if !goes_on {
+                return Ok((false, guest));
+            }
+        }
+        Ok((true, guest))
+    }
+
+    /// A step: mostly one that has something to do.
+    fn step(self, tally: &mut Tally) -> Result<(bool, Guest)> {
+        let mut guest = self;
+        let any = Work {
+            dev: guest.bench.draws.below(DEVICES as u32) as u8,
+            pick: guest.bench.draws.below(4) as u8,
+        };
+        let work = match guest.bench.next_work(guest.last)? {
+            Some(work) if !guest.bench.draws.once_in(6) => work,
+            _ => any,
+        };
+        let (made, bench) = guest.bench.step(work)?;
+        tally.count(work, made);
+        let mut guest = Guest {
+            bench,
+            last: work,
+            ..guest
+        };
+        guest.note(work, made.stepped.has_published());
+        Ok((!made.is_mixed, guest))
+    }
+
+    /// The driver of the queue of a step learns that a chain came back.
+    fn note(&mut self, work: Work, is_published: bool) {
+        let number = if work.dev == 0 || work.dev == 3 {
+            work.pick
+        } else {
+            0
+        };
+        for queue in &mut self.queues {
+            if is_published && queue.dev == work.dev && queue.number == number {
+                queue.out = queue.out.saturating_sub(1);
+            }
+        }
+    }
+
+    /// Something that a guest or a host does.
+    fn act(&mut self) -> Result<()> {
+        let dev = self.bench.draws.below(DEVICES as u32) as u8;
+        match self.bench.draws.below(60) {
+            0 => self.set_up(dev),
+            1 => self.write_somehow(dev),
+            2 | 3 => self.scribble(),
+            4..=12 => self.put_in(dev),
+            13..=20 => self.acknowledge(dev),
+            _ => self.offer(),
+        }
+    }
+
+    /// A driver makes a chain available, if it has room for one.
+    fn offer(&mut self) -> Result<()> {
+        let n = self.bench.draws.below(QUEUES as u32) as usize;
+        let queue = &mut self.queues[n];
+        if queue.out >= queue.size / 4 + 1 && !self.bench.draws.once_in(16) {
+            return Ok(());
+        }
+        queue.out = queue.out.saturating_add(1);
+        self.bench.offer(queue)
+    }
+
+    /// A driver writes a register when it should not.
+    fn write_somehow(&mut self, dev: u8) -> Result<()> {
+        let register = self.bench.draws.one_of(&REGISTERS);
+        let value = self.bench.draws.below(4);
+        self.bench.write_register(dev, register, value)
+    }
+
+    /// A byte of a ring is written by somebody.
+    fn scribble(&mut self) -> Result<()> {
+        let at = self.bench.draws.below((QUEUES * AREAS) as u32) as usize;
+        let byte = self.bench.draws.byte();
+        self.bench.write(at, &[byte])
+    }
+
+    /// The host puts bytes in.
+    fn put_in(&mut self, dev: u8) -> Result<()> {
+        let bytes = [self.bench.draws.byte(); 60];
+        let len = 14 + self.bench.draws.below(46) as usize;
+        self.bench.input(dev, &bytes[..len])
+    }
+
+    /// The driver acknowledges its interrupts.
+    fn acknowledge(&mut self, dev: u8) -> Result<()> {
+        let raised = self.bench.read_register(dev, 0x060)?;
+        self.bench.write_register(dev, 0x064, raised)
+    }
+
+    /// The driver of a device that asks for a reset sets it up again, sooner or later. That of another one acknowledges what it is told.
+    fn mend(&mut self) -> Result<()> {
+        let dev = self.bench.draws.below(DEVICES as u32) as u8;
+        if self.bench.read_register(dev, 0x070)? & 0x44 != 4 {
+            return self.set_up(dev);
+        }
+        self.acknowledge(dev)
+    }
+
+    /// The driver of a device begins anew (VIRTIO 1.2, 3.1.1).
+    fn set_up(&mut self, dev: u8) -> Result<()> {
+        let bench = &mut self.bench;
+        for status in [0, 1, 3] {
+            bench.write_register(dev, 0x070, status)?;
+        }
+        bench.write_register(dev, 0x014, 0)?;
+        let offered = bench.read_register(dev, 0x010)?;
+        let (tables, events) = (1 << 28, 1 << 29);
+        let left_out = [0, tables, events, tables | events];
+        let accepted = offered & (u32::MAX - bench.draws.one_of(&left_out));
+        let is_packed = bench.draws.once_in(2);
+        bench.write_register(dev, 0x024, 0)?;
+        bench.write_register(dev, 0x020, accepted)?;
+        bench.write_register(dev, 0x024, 1)?;
+        bench.write_register(dev, 0x020, if is_packed { 5 } else { 1 })?;
+        bench.write_register(dev, 0x070, 11)?;
+        for (n, queue) in self.queues.iter_mut().enumerate() {
+            if queue.dev == dev {
+                *queue = Queue::first(dev, queue.number, n.wrapping_mul(AREAS));
+                queue.is_packed = is_packed;
+                queue.has_tables = accepted & tables != 0;
+                self.bench.place_areas(queue)?;
+            }
+        }
+        self.bench.write_register(dev, 0x070, 15)
+    }
+
+    /// Ends the guest: compares the disks of its machines. Returns the memory of the windows.
+    pub fn end(self) -> Result<(KeptRegion, KeptRegion)> {
+        self.bench.end(DEVICES)
+    }
+}
+
+impl Bench {
+    /// The driver chooses a size for a queue and places for its areas, mostly apart from all else, and makes it ready.
+    fn place_areas(&mut self, queue: &mut Queue) -> Result<()> {
+        let size = self.draws.one_of(&SIZES);
+        queue.size = if queue.is_packed || size != 5 { size } else { 4 };
+        queue.driver = queue.descriptors.wrapping_add(0x100);
+        queue.device = queue.descriptors.wrapping_add(0x200);
+        if self.draws.once_in(8) {
+            let any = 16 * self.draws.below(0x600) as usize;
+            match self.draws.below(3) {
+                0 => queue.descriptors = any,
+                1 => queue.driver = any,
+                _ => queue.device = any,
+            }
+        }
+        self.write(queue.descriptors, &[0; 256])?;
+        self.write(queue.driver, &[0; 40])?;
+        self.write(queue.device, &[0; 134])?;
+        self.write_register(queue.dev, 0x030, queue.number as u32)?;
+        self.write_register(queue.dev, 0x038, queue.size as u32)?;
+        self.write_address(queue.dev, 0x080, queue.descriptors)?;
+        self.write_address(queue.dev, 0x090, queue.driver)?;
+        self.write_address(queue.dev, 0x0a0, queue.device)?;
+        self.write_register(queue.dev, 0x044, 1)
+    }
+
+    /// The driver writes the address of an area.
+    fn write_address(&mut self, dev: u8, register: u32, at: usize) -> Result<()> {
+        let addr = self.base.wrapping_add(at as u64);
+        self.write_register(dev, register, (addr % 0x1_0000_0000) as u32)?;
+        self.write_register(dev, register.wrapping_add(4), (addr / 0x1_0000_0000) as u32)
+    }
+}

@@ -1,0 +1,68 @@
+//! How many steps of each device did what.
+
+use crate::guest::DEVICES;
+use crate::stepping::Made;
+use machine::Work;
+
+/// How many steps of a device did what.
+#[derive(Clone, Copy, Debug)]
+pub struct Counts {
+    /// All steps.
+    pub steps: u64,
+
+    /// Those that published a chain.
+    pub published: u64,
+
+    /// Those that raised the interrupt.
+    pub raised: u64,
+
+    /// Those that published a chain and were open in one of the hosts.
+    pub open: u64,
+
+    /// Those that one host ended by raising the interrupt.
+    pub ended: u64,
+}
+
+/// How many steps of all devices did what.
+#[derive(Clone, Copy, Debug)]
+pub struct Tally {
+    /// The counts of each device.
+    pub devices: [Counts; DEVICES],
+
+    /// All steps.
+    pub steps: u64,
+
+    /// How many steps asked for an interrupt by what they wrote over the quiet word.
+    pub mixed: u64,
+}
+
+impl Tally {
+    /// No step yet.
+    pub const NONE: Tally = Tally {
+        devices: [Counts {
+            steps: 0,
+            published: 0,
+            raised: 0,
+            open: 0,
+            ended: 0,
+        }; DEVICES],
+        steps: 0,
+        mixed: 0,
+    };
+
+    /// A step went so.
+    pub fn count(&mut self, work: Work, made: Made) {
+        self.steps = self.steps.saturating_add(1);
+        self.mixed = self.mixed.saturating_add(made.is_mixed as u64);
+        let Some(counts) = self.devices.get_mut(work.dev as usize) else {
+            return;
+        };
+        let is_open = made.is_open && made.stepped.has_published();
+        let ended = is_open && made.is_raised && !made.is_mixed;
+        counts.steps = counts.steps.saturating_add(1);
+        counts.published = counts.published.saturating_add(made.stepped.has_published() as u64);
+        counts.raised = counts.raised.saturating_add(made.is_raised as u64);
+        counts.open = counts.open.saturating_add(is_open as u64);
+        counts.ended = counts.ended.saturating_add(ended as u64);
+    }
+}
