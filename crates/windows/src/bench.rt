@@ -127,6 +127,26 @@ impl Bench {
         Ok(())
     }
 
+    /// The host changes the size of a console, and drops what the guest has not taken of another device's input.
+    pub fn resize(&mut self, dev: u8) -> Result<()> {
+        let (cols, rows) = (self.draws.byte() as u16, self.draws.byte() as u16);
+        let reply = self.machine.resize(dev, cols, rows);
+        let (closing, opening) = (&mut self.closing.parked, &mut self.opening.parked);
+        ensure!(
+            closing.resize(dev, cols, rows) == reply && opening.resize(dev, cols, rows) == reply,
+            "a size"
+        );
+        if reply.is_ok() {
+            return Ok(());
+        }
+        let reply = self.machine.drop_input(dev);
+        ensure!(
+            closing.drop_input(dev) == reply && opening.drop_input(dev) == reply,
+            "input that is dropped"
+        );
+        Ok(())
+    }
+
     /// The next step that has something to do.
     pub fn next_work(&self, last: Work) -> Result<Option<Work>> {
         let next = self.machine.next_work(last);

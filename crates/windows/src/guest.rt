@@ -22,6 +22,9 @@ const BASES: [u64; 4] = [0, 0, 0x8000_0000, 0u64.wrapping_sub(BYTES as u64)];
 /// The sizes of queues. Those that are no power of two are taken of packed rings alone.
 const SIZES: [u16; 8] = [8, 8, 16, 16, 4, 5, 2, 1];
 
+/// The devices into which a host puts bytes, and one that takes none.
+const TAKING: [u8; 8] = [0, 0, 3, 3, 4, 4, 4, 1];
+
 /// Registers that a driver writes at times when it should not.
 const REGISTERS: [u32; 8] = [0x014, 0x020, 0x024, 0x030, 0x038, 0x044, 0x050, 0x070];
 
@@ -157,7 +160,7 @@ impl Guest {
             0 => self.set_up(dev),
             1 => self.write_somehow(dev),
             2 | 3 => self.scribble(),
-            4..=12 => self.put_in(dev),
+            4..=12 => self.put_in(),
             13..=20 => self.acknowledge(dev),
             _ => self.offer(),
         }
@@ -188,8 +191,12 @@ impl Guest {
         self.bench.write(at, &[byte])
     }
 
-    /// The host puts bytes in.
-    fn put_in(&mut self, dev: u8) -> Result<()> {
+    /// The host puts bytes in, or changes the size of the console.
+    fn put_in(&mut self) -> Result<()> {
+        let dev = self.bench.draws.one_of(&TAKING);
+        if self.bench.draws.once_in(16) {
+            return self.bench.resize(dev);
+        }
         let bytes = [self.bench.draws.byte(); 60];
         let len = 14 + self.bench.draws.below(46) as usize;
         self.bench.input(dev, &bytes[..len])
@@ -232,6 +239,7 @@ impl Guest {
                 *queue = Queue::first(dev, queue.number, n.wrapping_mul(AREAS));
                 queue.is_packed = is_packed;
                 queue.has_tables = accepted & tables != 0;
+                queue.has_events = accepted & events != 0;
                 self.bench.place_areas(queue)?;
             }
         }
@@ -251,13 +259,8 @@ impl Bench {
         queue.size = if queue.is_packed || size != 5 { size } else { 4 };
         queue.driver = queue.descriptors.wrapping_add(0x100);
         queue.device = queue.descriptors.wrapping_add(0x200);
-        if self.draws.once_in(8) {
-            let any = 16 * self.draws.below(0x600) as usize;
-            match self.draws.below(3) {
-                0 => queue.descriptors = any,
-                1 => queue.driver = any,
-                _ => queue.device = any,
-            }
+        if self.draws.once_in(6) {
+            self.misplace(queue);
         }
         self.write(queue.descriptors, &[0; 256])?;
         self.write(queue.driver, &[0; 40])?;
@@ -268,6 +271,20 @@ impl Bench {
         self.write_address(queue.dev, 0x090, queue.driver)?;
         self.write_address(queue.dev, 0x0a0, queue.device)?;
         self.write_register(queue.dev, 0x044, 1)
+    }
+
+    /// Places an area anywhere, or over another one of the queue.
+    fn misplace(&mut self, queue: &mut Queue) {
+        let any = 16 * self.draws.below(0x600) as usize;
+        let behind = queue.device.wrapping_add(4 * self.draws.below(8) as usize);
+        match self.draws.below(6) {
+            0 => queue.descriptors = any,
+            1 => queue.driver = any,
+            2 => queue.device = any,
+            3 => queue.device = queue.descriptors,
+            4 => queue.driver = behind,
+            _ => queue.driver = behind.wrapping_sub(2 + 2 * queue.size as usize),
+        }
     }
 
     /// The driver writes the address of an area.

@@ -134,18 +134,20 @@ impl Bench {
         }
     }
 
-    /// An address for a buffer: mostly from the index `area` of RAM on, else over a ring, a table, the end of RAM, or nowhere.
+    /// An address for a buffer: mostly from the index `area` of RAM on, else over a ring, its driver's word, a table, the end of RAM, or
+    /// nowhere.
     fn place(&mut self, queue: &Queue, area: usize) -> u64 {
         let near = self.draws.below(0x300) as u64;
-        let index = match self.draws.below(80) {
+        let index = match self.draws.below(60) {
             0 => queue.descriptors as u64 + near % 0x100,
             1 => queue.driver as u64 + near % 40,
             2 => queue.device as u64 + near % 0x80,
-            3 => 8 * near,
-            4 => TABLES as u64 + near,
-            5 => BYTES as u64 - near % 64,
-            6 => BYTES as u64 + near,
-            7 => u64::MAX - near,
+            3 | 4 => queue.word() as u64 + near % 4,
+            5 => 8 * near,
+            6 => TABLES as u64 + near,
+            7 => BYTES as u64 - near % 64,
+            8 => BYTES as u64 + near,
+            9 => u64::MAX - near,
             _ => area as u64 + 16 * (near % if area == BUFFERS { 0x300 } else { 0x7f }),
         };
         self.base.wrapping_add(index)

@@ -18,6 +18,9 @@ pub struct Queue {
     /// Whether tables of descriptors were negotiated.
     pub has_tables: bool,
 
+    /// Whether event indexes were negotiated.
+    pub has_events: bool,
+
     /// How many descriptors there are.
     pub size: u16,
 
@@ -51,6 +54,7 @@ impl Queue {
             number,
             is_packed: false,
             has_tables: false,
+            has_events: false,
             size: 1,
             descriptors: areas,
             driver: areas,
@@ -59,6 +63,14 @@ impl Queue {
             out: 0,
             slot: 0,
             wrap: true,
+        }
+    }
+    /// The index in RAM of the driver's word about interrupts (VIRTIO 1.2, 2.7.6, 2.7.7 and 2.8.10).
+    pub fn word(&self) -> usize {
+        if self.has_events && !self.is_packed {
+            self.driver.wrapping_add(4 + 2 * self.size as usize)
+        } else {
+            self.driver
         }
     }
 }

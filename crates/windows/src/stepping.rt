@@ -82,6 +82,7 @@ impl Bench {
         let (held, mut bench) = bench.copy_pieces(work)?;
         bench.write_beside(held.as_slice())?;
         let (asking, mut bench) = bench.asking(work)?;
+        bench.write_word(held.as_slice(), &asking)?;
         let was_raised = bench.is_raised(work.dev);
         let mut sent = Vec::new(bench.alloc);
         let stepped = bench.machine.step_into(work.dev, work.pick, &mut sent);
@@ -191,6 +192,23 @@ impl Bench {
             if !is_held(held, byte) {
                 self.write(at as usize, &[value])?;
             }
+        }
+        Ok(())
+    }
+
+    /// The driver writes its word late, once the hosts hold these pieces.
+    fn write_word(&mut self, held: &[Piece], asking: &Option<Asking>) -> Result<()> {
+        let Some(asking) = asking else {
+            return Ok(());
+        };
+        let word = asking.word();
+        if is_held(held, word) || !self.draws.once_in(4) {
+            return Ok(());
+        }
+        let at = word.at.wrapping_add(self.draws.below(2) as u64);
+        let value = self.draws.below(4) as u8;
+        if !is_held(held, Piece { at, count: 1 }) {
+            self.write(at as usize, &[value])?;
         }
         Ok(())
     }

@@ -1,7 +1,8 @@
 //! Memory for windows.
 
-ghost use Rattle.std.specs.Prelude.{◌≡◌};
+ghost use Rattle.std.specs.Prelude.{◌≡◌, length};
 
+use raw_box::OpenBox;
 use region::{KeptRegion, Region};
 use std::alloc::{AllocError, Global};
 
@@ -14,13 +15,14 @@ pub const BYTES: usize = 24_576;
 /// Memory of the size of RAM, of zeros. It is never freed.
 pub fn new_window(alloc: Global) -> Result<KeptRegion, AllocError> {
     let bytes = Box::new(alloc, [0u8; BYTES])?;
-    Ok(KeptRegion::of(region_of(bytes)))
+    Ok(KeptRegion::of(region_of(OpenBox::open(bytes))))
 }
 
-/// The bytes of a box, which is not freed.
-fn region_of(bytes: Box<[u8; BYTES], Global>) -> Region
-    ensures { result.content ≡ bytes.value }
+/// The bytes of an open box.
+fn region_of(opened: OpenBox<[u8; BYTES], Global>) -> Region
+    requires { length opened.held ≡ BYTES }
+    ensures { result.content ≡ opened.held }
 {
-    let at = Box::into_raw(bytes);
-    unsafe { Region::from_raw_parts(at as *mut u8, BYTES) }
+    let OpenBox { address, heap: _ } = opened;
+    unsafe { Region::from_raw_parts(address as *mut u8, BYTES) }
 }
