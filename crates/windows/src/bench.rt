@@ -5,9 +5,7 @@ use crate::host::{Host, TestDisk};
 use crate::sameness::are_same;
 use crate::window::{BYTES, PAGES};
 use anyhow::{Result, bail, ensure};
-use machine::{
-    Board, Device, FaultDisk, Limits, Machine, MemDisk, RamOf, Shape, Work,
-};
+use machine::{Board, Device, FaultDisk, Limits, Machine, MemDisk, RamOf, Shape, Work};
 use region::KeptRegion;
 use std::alloc::Global;
 

@@ -69,10 +69,7 @@ impl Guest {
         let mut draws = Draws::new(seed);
         let base = draws.one_of(&BASES);
         let shapes = shapes_of(&mut draws);
-        let plan = [
-            3 + draws.below(20) as u64,
-            30 + draws.below(40) as u64,
-        ];
+        let plan = [3 + draws.below(20) as u64, 30 + draws.below(40) as u64];
         let beginning = Beginning {
             base,
             shapes: &shapes,
@@ -256,7 +253,11 @@ impl Bench {
     /// The driver chooses a size for a queue and places for its areas, mostly apart from all else, and makes it ready.
     fn place_areas(&mut self, queue: &mut Queue) -> Result<()> {
         let size = self.draws.one_of(&SIZES);
-        queue.size = if queue.is_packed || size != 5 { size } else { 4 };
+        queue.size = if queue.is_packed || size != 5 {
+            size
+        } else {
+            4
+        };
         queue.driver = queue.descriptors.wrapping_add(0x100);
         queue.device = queue.descriptors.wrapping_add(0x200);
         if self.draws.once_in(6) {

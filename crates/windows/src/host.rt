@@ -78,8 +78,9 @@ impl Host {
         let Host { parked, window } = self;
         ensure!(window.len() == 4096 * parked.pages(), "the size of RAM");
         let window = window.into_region();
-        let (stepped, window, parked) =
-            parked.step_over(window, work.dev, work.pick, sent, &mut NoLog);
+        let (stepped, window, parked) = parked.step_over(
+            window, work.dev, work.pick, sent, &mut NoLog,
+        );
         let window = KeptRegion::of(window);
         Ok((stepped, Host { parked, window }))
     }

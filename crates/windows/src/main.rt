@@ -80,12 +80,12 @@ fn try_guests(alloc: Global, steps: u64) -> Result<Tally> {
     Ok(tally)
 }
 
-/// Fails unless a device did something in one step of each twenty at least, and a host ended some of them.
-fn did_something(name: &str, counts: Counts, steps: u64) -> Result<()> {
-    let least = steps / 100;
-    ensure!(counts.published >= least, "{name} published {}", counts.published);
-    ensure!(counts.raised >= least / 4, "{name} raised {}", counts.raised);
-    ensure!(counts.ended >= least / 8, "{name} ended {}", counts.ended);
+/// Fails unless enough of so many steps published a chain of this device, raised its interrupt, and were ended by a host that raised it.
+fn did_enough(counts: Counts, steps: u64) -> Result<()> {
+    ensure!(counts.published >= steps / 100, "seldom published");
+    ensure!(counts.raised >= steps / 250, "seldom raised");
+    ensure!(counts.ended >= steps / 250, "seldom ended");
+    ensure!(counts.published > counts.open, "each step was open");
     Ok(())
 }
 
@@ -96,8 +96,8 @@ fn main(rt: HostRuntime) -> Result<()> {
     };
     let tally = try_guests(rt.alloc(), steps.min(MOST))?;
     for (name, counts) in NAMES.iter().zip(tally.devices) {
-        eprintln!(rt; "{name}: {counts:?}")?;
-        did_something(name, counts, tally.steps)?;
+        eprintln!(rt; "{name}: {counts}")?;
+        did_enough(counts, tally.steps).context(*name)?;
         println!(rt; "{name}: each step is the same in all machines")?;
     }
     Ok(())

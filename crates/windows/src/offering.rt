@@ -7,9 +7,13 @@ use anyhow::Result;
 
 /// Flags of descriptors (VIRTIO 1.2, 2.7.5 and 2.8.1).
 const NEXT: u16 = 1;
+
 const WRITE: u16 = 2;
+
 const INDIRECT: u16 = 4;
+
 const AVAIL: u16 = 0x80;
+
 const USED: u16 = 0x8000;
 
 /// The values of the flags of a packed ring's event suppression, and one that is reserved (VIRTIO 1.2, 2.8.10).
@@ -167,7 +171,7 @@ impl Bench {
 
     /// Says at which descriptor the driver of a packed ring wants an interrupt (VIRTIO 1.2, 2.8.10).
     fn suppress_packed(&mut self, queue: &Queue) -> Result<()> {
-        let place = self.draws.below(queue.size.max(1) as u32) as u8;
+        let place = self.draws.below(queue.size.clamp(1, 100) as u32) as u8;
         let wrap = if self.draws.once_in(2) { 0x80 } else { 0 };
         let flags = self.draws.one_of(&EVENT_FLAGS);
         self.write(queue.driver, &[place, wrap, flags, 0])

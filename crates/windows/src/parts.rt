@@ -138,18 +138,20 @@ impl Bench {
     /// nowhere.
     fn place(&mut self, queue: &Queue, area: usize) -> u64 {
         let near = self.draws.below(0x300) as u64;
-        let index = match self.draws.below(60) {
-            0 => queue.descriptors as u64 + near % 0x100,
-            1 => queue.driver as u64 + near % 40,
-            2 => queue.device as u64 + near % 0x80,
-            3 | 4 => queue.word() as u64 + near % 4,
-            5 => 8 * near,
-            6 => TABLES as u64 + near,
-            7 => BYTES as u64 - near % 64,
-            8 => BYTES as u64 + near,
-            9 => u64::MAX - near,
-            _ => area as u64 + 16 * (near % if area == BUFFERS { 0x300 } else { 0x7f }),
+        let places = if area == BUFFERS { 0x300 } else { 0x7f };
+        let (begin, offset) = match self.draws.below(60) {
+            0 => (queue.descriptors, near % 0x100),
+            1 => (queue.driver, near % 40),
+            2 => (queue.device, near % 0x80),
+            3 | 4 => (queue.word(), near % 4),
+            5 => (0, 8 * near),
+            6 => (TABLES, near),
+            7 => (BYTES - 64, near % 65),
+            8 => (BYTES, near),
+            9 => (0, u64::MAX - near),
+            _ => (area, 16 * (near % places)),
         };
+        let index = (begin as u64).wrapping_add(offset);
         self.base.wrapping_add(index)
     }
 }

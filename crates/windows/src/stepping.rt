@@ -43,6 +43,27 @@ struct Known {
 }
 
 impl Known {
+    /// The driver's word in RAM, if the step publishes something.
+    fn word_of(&self, ram: &[u8]) -> Result<Option<Word>> {
+        match &self.asking {
+            Some(asking) => Ok(Some(word_in(ram, asking.word())?)),
+            None => Ok(None),
+        }
+    }
+
+    /// The quiet word, if the step may be open: no byte of the word is held, and in the window of the host that had this word it is as it was.
+    fn quiet_beside(&self, window: &[u8], word: Option<Word>) -> Result<Option<Word>> {
+        let (Some(asking), Some(word)) = (&self.asking, word) else {
+            return Ok(None);
+        };
+        let piece = word.piece;
+        if word_in(window, piece)? != word || !self.is_apart(piece) {
+            return Ok(None);
+        }
+        let word = asking.quiet();
+        Ok(Some(Word { piece, word }))
+    }
+
     /// Whether none of the pieces that are held has a byte of the driver's word.
     fn is_apart(&self, word: Piece) -> bool {
         for k in 0..word.count {
@@ -232,28 +253,22 @@ impl Bench {
         ))
     }
 
-    /// Both hosts make the step, and store what it wrote. Returns whether the step is open in one of them: it has the quiet word in its
-    /// window, of which no byte is held, nor written as far as the other host sees.
+    /// Both hosts make the step, and store what it wrote. Returns whether it is open in one of them.
     fn step_hosts(self, known: &Known) -> Result<(bool, Bench)> {
         let bench = self;
-        let (alloc, closing, opening) = (bench.alloc, bench.closing, bench.opening);
-        let Some(asking) = &known.asking else {
-            let (before, closing) = known.made_by(alloc, closing, None)?;
-            let (other, opening) = known.made_by(alloc, opening, None)?;
-            let mut bench = Bench { closing, opening, ..bench };
-            bench.store(before.as_slice(), other.as_slice())?;
-            return Ok((false, bench));
+        let alloc = bench.alloc;
+        let word = known.word_of(bench.ram.as_slice())?;
+        let (before, closing) = known.made_by(alloc, bench.closing, word)?;
+        let quiet = known.quiet_beside(closing.bytes()?, word)?;
+        let given = if quiet.is_some() { quiet } else { word };
+        let (other, opening) = known.made_by(alloc, bench.opening, given)?;
+        let mut bench = Bench {
+            closing,
+            opening,
+            ..bench
         };
-        let piece = asking.word();
-        let word = word_in(bench.ram.as_slice(), piece)?;
-        let (before, closing) = known.made_by(alloc, closing, Some(word))?;
-        let is_kept = word_in(closing.bytes()?, piece)? == word;
-        let is_open = is_kept && known.is_apart(piece);
-        let given = if is_open { Word { piece, word: asking.quiet() } } else { word };
-        let (other, opening) = known.made_by(alloc, opening, Some(given))?;
-        let mut bench = Bench { closing, opening, ..bench };
         bench.store(before.as_slice(), other.as_slice())?;
-        Ok((is_open, bench))
+        Ok((quiet.is_some(), bench))
     }
 
     /// Stores in RAM what a step wrote, by the windows as they were before it.

@@ -3,6 +3,7 @@
 use crate::guest::DEVICES;
 use crate::stepping::Made;
 use machine::Work;
+use std::fmt;
 
 /// How many steps of a device did what.
 #[derive(Clone, Copy, Debug)]
@@ -21,6 +22,17 @@ pub struct Counts {
 
     /// Those that one host ended by raising the interrupt.
     pub ended: u64,
+}
+
+impl fmt::Display for Counts {
+    fn fmt<W: fmt::Write>(&self, f: &mut fmt::Formatter<W>) -> fmt::Result {
+        let (steps, published, raised) = (self.steps, self.published, self.raised);
+        let (open, ended) = (self.open, self.ended);
+        write!(
+            f,
+            "{steps} steps, {published} published, {raised} raised, {open} open, {ended} ended"
+        )
+    }
 }
 
 /// How many steps of all devices did what.
@@ -60,7 +72,9 @@ impl Tally {
         let is_open = made.is_open && made.stepped.has_published();
         let ended = is_open && made.is_raised && !made.is_mixed;
         counts.steps = counts.steps.saturating_add(1);
-        counts.published = counts.published.saturating_add(made.stepped.has_published() as u64);
+        counts.published = counts
+            .published
+            .saturating_add(made.stepped.has_published() as u64);
         counts.raised = counts.raised.saturating_add(made.is_raised as u64);
         counts.open = counts.open.saturating_add(is_open as u64);
         counts.ended = counts.ended.saturating_add(ended as u64);
