@@ -69,7 +69,10 @@ impl Guest {
         let mut draws = Draws::new(seed);
         let base = draws.one_of(&BASES);
         let shapes = shapes_of(&mut draws);
-        let plan = [3 + draws.below(20) as u64, 30 + draws.below(40) as u64];
+        let mut plan = [0; 8];
+        for call in &mut plan {
+            *call = 1 + draws.below(60) as u64;
+        }
         let beginning = Beginning {
             base,
             shapes: &shapes,
@@ -100,6 +103,7 @@ impl Guest {
     pub fn turn(self, tally: &mut Tally) -> Result<(bool, Guest)> {
         let mut guest = self;
         guest.act()?;
+        guest.act()?;
         guest.mend()?;
         let pick = 1 + guest.bench.draws.below(3) as u8;
         let bench = guest.bench.answer(Work { dev: 2, pick })?;
@@ -114,16 +118,18 @@ impl Guest {
         Ok((true, guest))
     }
 
-    /// A step: mostly one that has something to do.
+    /// A step: mostly one that has something to do, if there is one.
     fn step(self, tally: &mut Tally) -> Result<(bool, Guest)> {
         let mut guest = self;
         let any = Work {
             dev: guest.bench.draws.below(DEVICES as u32) as u8,
             pick: guest.bench.draws.below(4) as u8,
         };
+        let is_any = guest.bench.draws.once_in(10);
         let work = match guest.bench.next_work(guest.last)? {
-            Some(work) if !guest.bench.draws.once_in(6) => work,
-            _ => any,
+            _ if is_any => any,
+            Some(work) => work,
+            None => return Ok((true, guest)),
         };
         let (made, bench) = guest.bench.step(work)?;
         tally.count(work, made);

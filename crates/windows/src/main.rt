@@ -26,7 +26,7 @@ mod window;
 mod word;
 
 use crate::guest::{DEVICES, Guest};
-use crate::tally::{Counts, Tally};
+use crate::tally::{ANSWERS, Counts, Tally};
 use crate::window::new_window;
 use anyhow::{Context, Result, ensure};
 use region::KeptRegion;
@@ -82,9 +82,9 @@ fn try_guests(alloc: Global, steps: u64) -> Result<Tally> {
 
 /// Fails unless enough of so many steps published a chain of this device, raised its interrupt, and were ended by a host that raised it.
 fn did_enough(counts: Counts, steps: u64) -> Result<()> {
-    ensure!(counts.published >= steps / 100, "seldom published");
-    ensure!(counts.raised >= steps / 250, "seldom raised");
-    ensure!(counts.ended >= steps / 250, "seldom ended");
+    ensure!(counts.published >= steps / 40, "seldom published");
+    ensure!(counts.raised >= steps / 100, "seldom raised");
+    ensure!(counts.ended >= steps / 100, "seldom ended");
     ensure!(counts.published > counts.open, "each step was open");
     Ok(())
 }
@@ -100,5 +100,11 @@ fn main(rt: HostRuntime) -> Result<()> {
         did_enough(counts, tally.steps).context(*name)?;
         println!(rt; "{name}: each step is the same in all machines")?;
     }
+    for (answer, count) in ANSWERS.iter().zip(tally.answers) {
+        eprintln!(rt; "{answer}: {count}")?;
+        ensure!(count > 0, "never: {answer}");
+    }
+    eprintln!(rt; "over the quiet word: {}", tally.mixed)?;
+    println!(rt; "each answer of a step was given")?;
     Ok(())
 }

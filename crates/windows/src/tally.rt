@@ -2,7 +2,7 @@
 
 use crate::guest::DEVICES;
 use crate::stepping::Made;
-use machine::Work;
+use machine::{Stepped, Work};
 use std::fmt;
 
 /// How many steps of a device did what.
@@ -35,11 +35,43 @@ impl fmt::Display for Counts {
     }
 }
 
+/// What steps answered that the guests here can bring about.
+pub const ANSWERS: [&str; 9] = [
+    "nothing to do",
+    "a request is taken",
+    "a request is moved",
+    "a bad sector",
+    "a disk that failed",
+    "a chain is completed",
+    "a message is sent",
+    "a frame is dropped",
+    "a reset is asked for",
+];
+
+/// The number of an answer among these. Others have none.
+fn number_of(stepped: Stepped) -> usize {
+    match stepped {
+        Stepped::Idle => 0,
+        Stepped::Taken => 1,
+        Stepped::Moved => 2,
+        Stepped::BadSector => 3,
+        Stepped::DiskFailed => 4,
+        Stepped::Completed(_) => 5,
+        Stepped::Sent => 6,
+        Stepped::Dropped => 7,
+        Stepped::NeedsReset => 8,
+        Stepped::NoMemory | Stepped::Refused(_) => ANSWERS.len(),
+    }
+}
+
 /// How many steps of all devices did what.
 #[derive(Clone, Copy, Debug)]
 pub struct Tally {
     /// The counts of each device.
     pub devices: [Counts; DEVICES],
+
+    /// How many steps had each of the answers.
+    pub answers: [u64; ANSWERS.len()],
 
     /// All steps.
     pub steps: u64,
@@ -58,6 +90,7 @@ impl Tally {
             open: 0,
             ended: 0,
         }; DEVICES],
+        answers: [0; ANSWERS.len()],
         steps: 0,
         mixed: 0,
     };
@@ -66,6 +99,9 @@ impl Tally {
     pub fn count(&mut self, work: Work, made: Made) {
         self.steps = self.steps.saturating_add(1);
         self.mixed = self.mixed.saturating_add(made.is_mixed as u64);
+        if let Some(count) = self.answers.get_mut(number_of(made.stepped)) {
+            *count = count.saturating_add(1);
+        }
         let Some(counts) = self.devices.get_mut(work.dev as usize) else {
             return;
         };
