@@ -16,11 +16,8 @@ pub const DEVICES: usize = 5;
 /// How many queues they have together.
 const QUEUES: usize = 7;
 
-/// The addresses at which RAM may begin: 0, the end of the lower half of 4 GiB, and as late as RAM can.
-const BASES: [u64; 4] = [0, 0, 0x8000_0000, 0u64.wrapping_sub(BYTES as u64)];
-
-/// The sizes of queues. Those that are no power of two are taken of packed rings alone.
-const SIZES: [u16; 8] = [8, 8, 16, 16, 4, 5, 2, 1];
+/// The addresses at which RAM may begin: 0, 2 GiB, and as late as RAM can.
+const BASES: [u64; 4] = [0, 0, 0x8000_0000, u64::MAX - BYTES as u64 + 1];
 
 /// The devices into which a host puts bytes, and one that takes none.
 const TAKING: [u8; 8] = [0, 0, 3, 3, 4, 4, 4, 1];
@@ -220,84 +217,13 @@ impl Guest {
         self.acknowledge(dev)
     }
 
-    /// The driver of a device begins anew (VIRTIO 1.2, 3.1.1).
+    /// The driver of a device begins anew.
     fn set_up(&mut self, dev: u8) -> Result<()> {
-        let bench = &mut self.bench;
-        for status in [0, 1, 3] {
-            bench.write_register(dev, 0x070, status)?;
-        }
-        bench.write_register(dev, 0x014, 0)?;
-        let offered = bench.read_register(dev, 0x010)?;
-        let (tables, events) = (1 << 28, 1 << 29);
-        let left_out = [0, tables, events, tables | events];
-        let accepted = offered & (u32::MAX - bench.draws.one_of(&left_out));
-        let is_packed = bench.draws.once_in(2);
-        bench.write_register(dev, 0x024, 0)?;
-        bench.write_register(dev, 0x020, accepted)?;
-        bench.write_register(dev, 0x024, 1)?;
-        bench.write_register(dev, 0x020, if is_packed { 5 } else { 1 })?;
-        bench.write_register(dev, 0x070, 11)?;
-        for (n, queue) in self.queues.iter_mut().enumerate() {
-            if queue.dev == dev {
-                *queue = Queue::first(dev, queue.number, n.wrapping_mul(AREAS));
-                queue.is_packed = is_packed;
-                queue.has_tables = accepted & tables != 0;
-                queue.has_events = accepted & events != 0;
-                self.bench.place_areas(queue)?;
-            }
-        }
-        self.bench.write_register(dev, 0x070, 15)
+        self.bench.set_up(dev, &mut self.queues)
     }
 
     /// Ends the guest: compares the disks of its machines. Returns the memory of the windows.
     pub fn end(self) -> Result<(KeptRegion, KeptRegion)> {
         self.bench.end(DEVICES)
-    }
-}
-
-impl Bench {
-    /// The driver chooses a size for a queue and places for its areas, mostly apart from all else, and makes it ready.
-    fn place_areas(&mut self, queue: &mut Queue) -> Result<()> {
-        let size = self.draws.one_of(&SIZES);
-        queue.size = if queue.is_packed || size != 5 {
-            size
-        } else {
-            4
-        };
-        queue.driver = queue.descriptors.wrapping_add(0x100);
-        queue.device = queue.descriptors.wrapping_add(0x200);
-        if self.draws.once_in(6) {
-            self.misplace(queue);
-        }
-        self.write(queue.descriptors, &[0; 256])?;
-        self.write(queue.driver, &[0; 40])?;
-        self.write(queue.device, &[0; 134])?;
-        self.write_register(queue.dev, 0x030, queue.number as u32)?;
-        self.write_register(queue.dev, 0x038, queue.size as u32)?;
-        self.write_address(queue.dev, 0x080, queue.descriptors)?;
-        self.write_address(queue.dev, 0x090, queue.driver)?;
-        self.write_address(queue.dev, 0x0a0, queue.device)?;
-        self.write_register(queue.dev, 0x044, 1)
-    }
-
-    /// Places an area anywhere, or over another one of the queue.
-    fn misplace(&mut self, queue: &mut Queue) {
-        let any = 16 * self.draws.below(0x600) as usize;
-        let behind = queue.device.wrapping_add(4 * self.draws.below(8) as usize);
-        match self.draws.below(6) {
-            0 => queue.descriptors = any,
-            1 => queue.driver = any,
-            2 => queue.device = any,
-            3 => queue.device = queue.descriptors,
-            4 => queue.driver = behind,
-            _ => queue.driver = behind.wrapping_sub(2 + 2 * queue.size as usize),
-        }
-    }
-
-    /// The driver writes the address of an area.
-    fn write_address(&mut self, dev: u8, register: u32, at: usize) -> Result<()> {
-        let addr = self.base.wrapping_add(at as u64);
-        self.write_register(dev, register, (addr % 0x1_0000_0000) as u32)?;
-        self.write_register(dev, register.wrapping_add(4), (addr / 0x1_0000_0000) as u32)
     }
 }

@@ -20,6 +20,7 @@ mod offering;
 mod parts;
 mod queue;
 mod sameness;
+mod setting_up;
 mod stepping;
 mod tally;
 mod window;
