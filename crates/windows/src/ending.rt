@@ -8,7 +8,7 @@ use region::KeptRegion;
 
 impl Bench {
     /// Gives RAM back, and compares the disks of so many devices. Returns the memory of the windows.
-    pub fn end(self, devices: usize) -> Result<(KeptRegion, KeptRegion)> {
+    pub fn end(self, devices: u8) -> Result<(KeptRegion, KeptRegion)> {
         let Bench {
             machine,
             closing,
@@ -20,7 +20,6 @@ impl Bench {
         let mut closed = back(closing, ram.as_slice())?;
         let mut opened = back(opening, ram.as_slice())?;
         for dev in 0..devices {
-            let dev = dev as u8;
             have_same_sectors(&mut machine, &mut closed, &mut opened, dev)?;
         }
         Ok((window_of(closed)?, window_of(opened)?))

@@ -224,6 +224,6 @@ impl Guest {
 
     /// Ends the guest: compares the disks of its machines. Returns the memory of the windows.
     pub fn end(self) -> Result<(KeptRegion, KeptRegion)> {
-        self.bench.end(DEVICES)
+        self.bench.end(DEVICES as u8)
     }
 }

@@ -5,6 +5,7 @@
 
 use crate::bench::Bench;
 use crate::host::Host;
+use crate::window::BYTES;
 use crate::word::{Word, copied, word_in};
 use anyhow::{Result, bail, ensure};
 use chains::is_held;
@@ -204,7 +205,7 @@ impl Bench {
     /// The guest writes bytes of RAM while the hosts hold these pieces. None of these bytes is read by the step, but the driver's word may be.
     fn write_beside(&mut self, held: &[Piece]) -> Result<()> {
         for _byte in 0..self.draws.below(4) {
-            let at = self.draws.below(self.ram.len() as u32);
+            let at = self.draws.below(BYTES as u32);
             let byte = Piece {
                 at: at as u64,
                 count: 1,
