@@ -28,7 +28,8 @@ pub struct Made {
     /// Whether it raised the interrupt.
     pub is_raised: bool,
 
-    /// Whether it wrote into the quiet word of a host so that this asked for an interrupt. Then no law speaks of that host.
+    /// Whether it wrote into the quiet word of a host, which then asked for an interrupt, as the driver's word does not. No law speaks of that
+    /// host then.
     pub is_mixed: bool,
 }
 
@@ -286,7 +287,7 @@ impl Bench {
         Ok(())
     }
 
-    /// Ends an open step by the driver's word in RAM. Returns true if the step asked for an interrupt by what it wrote over the quiet word.
+    /// Ends an open step by the driver's word in RAM. Returns true if the step has raised an interrupt for which that word does not ask.
     fn ends_mixed(&mut self, known: &Known) -> Result<bool> {
         let Some(asking) = &known.asking else {
             return Ok(false);
@@ -295,12 +296,12 @@ impl Bench {
             return Ok(false);
         }
         let window = word_in(self.opening.bytes()?, asking.word())?;
-        if asking.is_due(window.word) {
-            return Ok(true);
-        }
         let word = word_in(self.ram.as_slice(), asking.word())?;
-        let parked = &mut self.opening.parked;
-        parked.end(known.work.dev, asking.is_due(word.word));
+        let is_due = asking.is_due(word.word);
+        if asking.is_due(window.word) {
+            return Ok(!is_due);
+        }
+        self.opening.parked.end(known.work.dev, is_due);
         Ok(false)
     }
 }

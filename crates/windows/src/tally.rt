@@ -76,7 +76,7 @@ pub struct Tally {
     /// All steps.
     pub steps: u64,
 
-    /// How many steps asked for an interrupt by what they wrote over the quiet word.
+    /// How many steps raised an interrupt by what they wrote over the quiet word, for which the driver's word did not ask.
     pub mixed: u64,
 }
 
