@@ -106,6 +106,10 @@ fn main(rt: HostRuntime) -> Result<()> {
         ensure!(count > 0, "never: {answer}");
     }
     eprintln!(rt; "over the quiet word: {}", tally.mixed)?;
+    ensure!(
+        tally.mixed <= tally.steps / 1000,
+        "too many guests ended early"
+    );
     println!(rt; "each answer of a step was given")?;
     Ok(())
 }

@@ -63,6 +63,7 @@ impl Known {
             return Ok(None);
         }
         let word = asking.quiet();
+        ensure!(!asking.is_due(word), "the quiet word asks for an interrupt");
         Ok(Some(Word { piece, word }))
     }
 
