@@ -101,15 +101,12 @@ impl Bench {
             len: 1,
             is_writable: true,
         };
-        let has_data = kind != 4;
-        Ok(Parts {
-            parts: if has_data {
-                [head, data, status, status]
-            } else {
-                [head, status, status, status]
-            },
-            count: if has_data { 3 } else { 2 },
-        })
+        let (parts, count) = if kind == 4 {
+            ([head, status, status, status], 2)
+        } else {
+            ([head, data, status, status], 3)
+        };
+        Ok(Parts { parts, count })
     }
 
     /// Writes words at an address.
