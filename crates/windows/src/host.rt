@@ -1,0 +1,101 @@
+//! A machine whose RAM is lent, with the window of its host.
+
+use crate::window::BYTES;
+use anyhow::{Result, bail, ensure};
+use guestmem::NoLog;
+use machine::{Asking, FaultDisk, Machine, MemDisk, Parked, Piece, Refusal, Stepped, Work};
+use region::KeptRegion;
+
+/// A disk in memory, some of whose calls fail.
+pub type TestDisk = FaultDisk<MemDisk>;
+
+/// A machine whose RAM is lent, and a window of RAM's length.
+#[derive(Drop)]
+pub struct Host {
+    /// The machine.
+    pub parked: Parked<TestDisk>,
+
+    window: KeptRegion,
+}
+
+impl Host {
+    /// Lends the RAM of a machine. The memory in which it lay is the window.
+    pub fn of(machine: Machine<TestDisk>) -> Result<Host> {
+        match machine.lend() {
+            Ok((region, parked)) => Ok(Host {
+                parked,
+                window: KeptRegion::of(region),
+            }),
+            Err(_machine) => bail!("nothing was lent"),
+        }
+    }
+
+    /// The bytes of the window.
+    pub fn bytes(&self) -> Result<&[u8]> {
+        ensure!(self.window.len() == BYTES, "the length of a window");
+        Ok(self.window.as_slice())
+    }
+
+    /// The window, for all of its bytes to be written.
+    pub fn bytes_mut(&mut self) -> Result<&mut [u8]> {
+        ensure!(self.window.len() == BYTES, "the length of a window");
+        Ok(self.window.as_mut_slice())
+    }
+
+    /// Copies bytes into the window.
+    pub fn put(&mut self, at: usize, bytes: &[u8]) -> Result<()> {
+        let window = self.bytes_mut()?;
+        ensure!(
+            at <= window.len() && bytes.len() <= window.len() - at,
+            "past the end of a window"
+        );
+        window[at..at + bytes.len()].copy_from_slice(bytes);
+        Ok(())
+    }
+
+    /// The first piece that the step lacks, where these are held.
+    pub fn lacks(self, work: Work, held: &[Piece]) -> Result<(Option<Piece>, Host)> {
+        let Host { parked, window } = self;
+        ensure!(window.len() == 4096 * parked.pages(), "the size of RAM");
+        let window = window.into_region();
+        let (lacking, window, parked) = parked.lacks(window, work.dev, work.pick, held);
+        let window = KeptRegion::of(window);
+        Ok((lacking?, Host { parked, window }))
+    }
+
+    /// What the step publishes.
+    pub fn asking(self, work: Work) -> Result<(Option<Asking>, Host)> {
+        let Host { parked, window } = self;
+        ensure!(window.len() == 4096 * parked.pages(), "the size of RAM");
+        let window = window.into_region();
+        let (asking, window, parked) = parked.asking(window, work.dev, work.pick);
+        let window = KeptRegion::of(window);
+        Ok((asking?, Host { parked, window }))
+    }
+
+    /// Makes the step over the window.
+    pub fn step(self, work: Work, sent: &mut Vec<u8>) -> Result<(Stepped, Host)> {
+        let Host { parked, window } = self;
+        ensure!(window.len() == 4096 * parked.pages(), "the size of RAM");
+        let window = window.into_region();
+        let (stepped, window, parked) = parked.step_over(
+            window, work.dev, work.pick, sent, &mut NoLog,
+        );
+        let window = KeptRegion::of(window);
+        Ok((stepped, Host { parked, window }))
+    }
+
+    /// The machine with the window for its RAM.
+    pub fn into_machine(self) -> Result<Machine<TestDisk>> {
+        let Host { parked, window } = self;
+        ensure!(window.len() == 4096 * parked.pages(), "the size of RAM");
+        Ok(parked.give_back(window.into_region(), &[], &mut NoLog))
+    }
+
+    /// Hands in what a disk outside gave, with the window for RAM.
+    pub fn disk_gave(self, work: Work, bytes: &[u8]) -> Result<(Result<bool, Refusal>, Host)> {
+        let mut machine = self.into_machine()?;
+        let answer = machine.disk_gave(work.dev, work.pick, bytes);
+        Ok((answer, Host::of(machine)?))
+    }
+}
