@@ -8,8 +8,8 @@
 //! until it is interrupted. The thread of the host makes the steps of the device over a window. A run fails if both sleep while a chain is not
 //! back, or if the driver sees another chain, another length or other bytes than are due.
 //!
-//! A search goes through all orders in which a process is left no more than some times while it could go on. Hosts with a fault are searched
-//! too: the program fails where the fault is not found.
+//! A search goes through all orders in which a process is left no more than four times while it could go on, or three times where there are
+//! two chains. Hosts with a fault are searched too: the program fails where the fault is not found.
 
 mod driver;
 mod search;
