@@ -213,7 +213,7 @@ fn made(
 }
 
 /// The same machine over this memory, which is filled with zeros, and lent.
-fn host_of(alloc: Global, beginning: &Beginning<'_>, window: KeptRegion) -> Result<Host> {
+pub fn host_of(alloc: Global, beginning: &Beginning<'_>, window: KeptRegion) -> Result<Host> {
     let mut window = window;
     ensure!(window.len() == BYTES, "the length of a window");
     window.as_mut_slice().fill(0);

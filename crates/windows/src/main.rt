@@ -17,6 +17,7 @@ mod ending;
 mod guest;
 mod host;
 mod offering;
+mod orders;
 mod parts;
 mod queue;
 mod sameness;
@@ -27,6 +28,7 @@ mod window;
 mod word;
 
 use crate::guest::{DEVICES, Guest};
+use crate::orders::{Verdict, search_orders};
 use crate::tally::{ANSWERS, Counts, Tally};
 use crate::window::new_window;
 use anyhow::{Context, Result, ensure};
@@ -111,5 +113,15 @@ fn main(rt: HostRuntime) -> Result<()> {
         "too many guests ended early"
     );
     println!(rt; "each answer of a step was given")?;
+    for found in search_orders(rt.alloc())?.as_slice() {
+        let (name, runs) = (found.name, found.runs);
+        let end = match found.verdict {
+            Verdict::Fine => "all chains come back in each order",
+            Verdict::Hung => "found, by a driver that sleeps for ever",
+            Verdict::Wrong => "found, by a driver that sees another chain",
+        };
+        eprintln!(rt; "{name}: {runs} orders")?;
+        println!(rt; "{name}: {end}")?;
+    }
     Ok(())
 }
