@@ -7,7 +7,7 @@
 //! devices and RAM are compared; after each guest the disks.
 //!
 //! The argument says how many steps there are. The program ends with an error at the first difference, and where a device has published
-//! or interrupted so seldom that nothing was shown.
+//! or interrupted so seldom that nothing was shown. After the guests the orders of a driver and a host are searched (`orders`).
 #![tactic(auto)]
 
 mod answering;
