@@ -12,6 +12,7 @@ mod own_log;
 mod own_sink;
 mod streams;
 mod takings;
+mod telling;
 mod texts;
 mod written;
 

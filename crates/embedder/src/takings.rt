@@ -1,12 +1,13 @@
-//! A stream whose bytes are taken while it grows, beside one that is written at once.
+//! A stream whose bytes are taken while it grows, beside one that is written at once, and one whose digest is told.
 
 use crate::own_sink::OwnSink;
+use crate::telling::told_bytes;
 use anyhow::{Result, bail, ensure};
 use std::alloc::Global;
 use vmig::{Live, LiveWaiting, Machine, MemDisk, Shape, Waiting, encode_round, receive};
 
 /// The most that is taken at once: two pages and a bit.
-const TAKE_MAX: usize = 9000;
+pub const TAKE_MAX: usize = 9000;
 
 /// Moves of machines by calls and takings that a seed draws.
 pub fn agree(alloc: Global) -> Result<()> {
@@ -17,13 +18,13 @@ pub fn agree(alloc: Global) -> Result<()> {
 }
 
 /// A new machine of seven pages, a console and an entropy device.
-fn machine_of(alloc: Global) -> Result<Machine<MemDisk>> {
+pub fn machine_of(alloc: Global) -> Result<Machine<MemDisk>> {
     let shapes = [Shape::Console, Shape::Entropy];
     Ok(Machine::new(alloc, 7, &shapes, Vec::new(alloc))?)
 }
 
 /// The next number that a seed draws: a linear congruential generator, of whose numbers the high half is used.
-fn next_draw(draw: u32) -> u32 {
+pub fn next_draw(draw: u32) -> u32 {
     draw.wrapping_mul(1_664_525).wrapping_add(1_013_904_223)
 }
 
@@ -125,7 +126,8 @@ impl Twins {
 fn move_agrees(alloc: Global, seed: u32) -> Result<()> {
     let twins = moved(alloc, seed)?;
     let (taken, sent) = twins.into_bytes();
-    is_sent_and_arrives(alloc, taken.as_slice(), sent.as_slice())
+    is_sent_and_arrives(alloc, taken.as_slice(), sent.as_slice())?;
+    is_same(told_bytes(alloc, seed)?.as_slice(), sent.as_slice())
 }
 
 fn moved(alloc: Global, seed: u32) -> Result<Twins> {

@@ -5,7 +5,7 @@ ghost use Rattle.sha2.specs.Sha256.{sha256};
 ghost use Rattle.receiver.specs.Sums.{CanSay, SaysOn, Sums};
 
 use sha2::{Digest, Sha256};
-use wire::{Past, Piece};
+use wire::{Added, Past};
 
 /// What a receiver has of the digest of the bytes that it worked off.
 pub trait Summing: Drop {
@@ -102,7 +102,7 @@ impl Summing for Told {
 
     #[tactic(auto, using(crate::proofs::Summed::told_sums, crate::proofs::Summed::told_says))]
     fn add(&mut self, bytes: &[u8]) {
-        self.past = self.past.then(&Piece { bytes });
+        self.past = self.past.then(&Added { bytes });
     }
 
     fn agrees(&mut self, digest: &[u8]) -> bool {

@@ -10,10 +10,11 @@ use Rattle.sender.specs.Follows.{Relates}
 use Rattle.sender.specs.LiveState.{HasPlaces, LiveSeen, refusal_for}
 use Rattle.sender.specs.Marks.{AreAmong, BackIsBehind, BehindByNone, CallsStayBehind, FailureStaysBehind, FlushStaysBehind, MarksCatchUp, StaysBehind, TakenStaysBehind, if_dirty, live_marked, still_behind}
 use Rattle.sender.specs.Parked.{IsLiveParked, LiveParkedSeen, live_back, with_pages}
+use Rattle.sender.specs.ParkedCalls.{beside}
 use Rattle.sender.specs.Taking.{untaken}
 use Rattle.sender.proofs.Flushed.{flush_follows, relates_with}
 use Rattle.sender.proofs.LiveBack.{IsReady, all_related, live_back_follows}
-use Rattle.sender.proofs.Marking.{beside, beside_late, beside_named, both_ways, in_turn, may_call, named_both, named_first, or_behind, serves_late, still_among, taken_in}
+use Rattle.sender.proofs.Marking.{beside_late, beside_named, both_ways, in_turn, may_call, named_both, named_first, or_behind, serves_late, still_among, taken_in}
 use Rattle.sender.proofs.Parking.{length-with_pages}
 use Rattle.sender.proofs.Relating.{relates_on}
 use Rattle.sender.proofs.Taking.{calls_ignore_taken, places_untaken}

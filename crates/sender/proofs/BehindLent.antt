@@ -14,9 +14,9 @@ use Rattle.wire.specs.Sinks.{Covers, Digested, SinkState, Takes}
 use Rattle.sender.specs.Follows.{Relates}
 use Rattle.sender.specs.History.{History, guest_events, phase_of, text, then_came}
 use Rattle.sender.specs.LiveState.{HasPlaces, LiveSeen}
-use Rattle.sender.specs.Marks.{BehindGoesOn, IsBehind, LentIsBehind, TakingStaysBehind, if_dirty}
+use Rattle.sender.specs.Marks.{BehindSends, IsBehind, LentIsBehind, TakingStaysBehind, if_dirty}
 use Rattle.sender.specs.Parked.{IsLiveParked, KeepsWord, LiveParkedSeen, live_back, page_writes}
-use Rattle.sender.specs.ParkedCalls.{AreSeen, IsDoneLiveLent, IsLentCall, IsSeen, IsServedUncalled, LentCall, LentFollows, a_failed_flush, a_flush, a_step, a_taking, an_event, bytes_among, bytes_in, events_among, events_in, missing_among, missing_in, over_with, over_with_all, parked_base}
+use Rattle.sender.specs.ParkedCalls.{AreSeen, IsDoneLiveLent, IsLentCall, IsSeen, IsServedUncalled, LentCall, LentFollows, a_failed_flush, a_failed_page, a_flush, a_mark, a_page, a_step, a_taking, an_event, bytes_among, bytes_in, events_among, events_in, missing_among, missing_in, over_with, over_with_all, parked_base, sent_among, sent_in}
 use Rattle.sender.specs.Taking.{untaken}
 use Rattle.sender.specs.Unsynced.{FailsLiveFlush, FlushesLiveDisk}
 use Rattle.sender.specs.declared.event.LiveEvent.TheVariants.{Guest}
@@ -25,7 +25,9 @@ use Rattle.sender.specs.declared.phase.Phase.{Phase}
 use Rattle.sender.specs.declared.phase.Phase.TheVariants as phases
 use Rattle.sender.proofs.Behind.{behind_by_none, failure_stays_behind, flush_stays_behind, taken_stays_behind}
 use Rattle.sender.proofs.Flushed.{agrees_with}
+use Rattle.sender.proofs.HandingIn.{handed_in, handing_failed}
 use Rattle.sender.proofs.Marking.{named_both}
+use Rattle.sender.proofs.MarkingLent.{marked_lent}
 use Rattle.sender.proofs.StepBeside.{GoesOnLent, back, goes_beside, may_guest}
 use Rattle.sender.proofs.ParkedServed.{live_parked_flush_fails, live_parked_is_flushed, live_parked_is_served}
 use Rattle.sender.proofs.Taking.{places_untaken}
@@ -59,7 +61,7 @@ module _ (m : MachineState) (h : History) (out : SinkState) (taken pages : List 
 
   -- A call that was done with the machine that was lent.
   goes_with : (c : LentCall) (does : LiveSeen → Type 0) (one : IsDoneLiveLent l (over_with before c) mid does) (history : History) → IsBehind m history out (missing_in pages c) (untaken (taken ++ bytes_in c) one.after) → guest_events history ≡ guest_events h ++ events_in c
-      → text m history ≡ text m h → GoesOnLent m h out taken pages before c p mid
+      → text m history ≡ text m h ++ sent_in c → GoesOnLent m h out taken pages before c p mid
   goes_with c does one history behind came text_is = record {
     history = history;
     after = one.after;
@@ -78,16 +80,16 @@ module _ (m : MachineState) (h : History) (out : SinkState) (taken pages : List 
       let one : IsDoneLiveLent l before mid (IsServedUncalled l e (r.Guest reply)) = live_parked_is_served l p mid before e (r.Guest reply) places mem lent call in
       let gone = taken_stays_behind m h out taken pages (Guest e) (r.Guest reply) l one.after b places (may_guest pages e) one.done.serves in
       let next : History = then_came h (Guest e) (r.Guest reply) gone.effect in
-      goes_with (an_event e reply) (IsServedUncalled l e (r.Guest reply)) one next (nothing_taken next one.after gone.behind) refl (no_text m h e reply gone.effect)
+      goes_with (an_event e reply) (IsServedUncalled l e (r.Guest reply)) one next (nothing_taken next one.after gone.behind) refl (no_text m h e reply gone.effect ∙ sym (append-nil (text m h)))
   goes_on (a_failed_flush dev pick) call saw =
       let one : IsDoneLiveLent l before mid (FailsLiveFlush l dev pick) = live_parked_flush_fails l p mid before dev pick places mem lent call in
       let gone = failure_stays_behind m h out pages dev pick (untaken taken l) (untaken taken one.after) b (places_untaken taken l places) goes (record { failed = one.done.failed; rest = ap (untaken taken) one.done.rest }) in
       let next : History = then_came h (Guest (Step dev pick)) (r.Guest DiskFailed) gone.effect in
-      goes_with (a_failed_flush dev pick) (FailsLiveFlush l dev pick) one next (nothing_taken next one.after gone.behind) refl (no_text m h (Step dev pick) DiskFailed gone.effect)
+      goes_with (a_failed_flush dev pick) (FailsLiveFlush l dev pick) one next (nothing_taken next one.after gone.behind) refl (no_text m h (Step dev pick) DiskFailed gone.effect ∙ sym (append-nil (text m h)))
   goes_on (a_flush dev result) call saw =
       let one : IsDoneLiveLent l before mid (FlushesLiveDisk l dev result) = live_parked_is_flushed l p mid before dev result places lent call in
       let flushed = flush_stays_behind m h out pages dev result (untaken taken l) (untaken taken one.after) b (record { flushes = one.done.flushes; rest = ap (untaken taken) one.done.rest }) in
-      goes_with (a_flush dev result) (FlushesLiveDisk l dev result) one h (nothing_taken h one.after flushed) (sym (append-nil (guest_events h))) refl
+      goes_with (a_flush dev result) (FlushesLiveDisk l dev result) one h (nothing_taken h one.after flushed) (sym (append-nil (guest_events h))) (sym (append-nil (text m h)))
   goes_on (a_taking bytes) call saw =
       let out_is : p.out ≡ l.out = ap (λ (x : LiveParkedSeen). x.out) lent.rest in
       let digest_is : p.digest ≡ l.digest = ap (λ (x : LiveParkedSeen). x.digest) lent.rest in
@@ -97,7 +99,7 @@ module _ (m : MachineState) (h : History) (out : SinkState) (taken pages : List 
         behind = taking_stays_behind m h out mid.out mid.digest taken bytes pages l b (ap (λ (o : SinkState). o.held) (sym out_is) ∙ call.held) (call.count ∙ ap (λ (o : SinkState). o.failures) out_is) (call.honest ∙ ap (λ (o : SinkState). o.honest) out_is)
             (subst (λ (d : Digested). Takes d [] mid.digest) digest_is call.digest);
         came = sym (append-nil (guest_events h));
-        text_is = refl;
+        text_is = sym (append-nil (text m h));
         parked = record {
           parked = subst (λ (q : ParkedSeen). IsParked l.machine before q) (sym (ap (λ (x : LiveParkedSeen). x.parked) call.rest)) lent.parked;
           rest = ap (λ (x : LiveParkedSeen). record x { parked = mid.parked }) call.rest ∙ ap (λ (x : LiveParkedSeen). record x { parked = mid.parked; digest = mid.digest; out = mid.out }) lent.rest;
@@ -108,6 +110,9 @@ module _ (m : MachineState) (h : History) (out : SinkState) (taken pages : List 
         goes = goes;
       }
   goes_on (a_step base wrote seen dev pick reply effect) call saw = goes_beside m h out taken pages l p mid before b places mem goes lent base wrote seen dev pick reply effect call.0 call.1 saw
+  goes_on (a_page addr n bytes) call saw = handed_in m h out taken pages l p mid before b places mem goes lent addr n bytes call.0 call.1
+  goes_on (a_mark base bytes marks) call saw = marked_lent m h out taken pages l p mid before b places mem goes lent base bytes marks call.0 call.1 saw
+  goes_on a_failed_page call saw = handing_failed m h out taken pages l p mid before b places mem goes lent call
 
 -- As many versions.
 word_on : (before after : Region) (a b : ℕ) (pages : List ℕ) → b ≡ a → KeepsWord before after a pages → KeepsWord before after b pages
@@ -115,9 +120,10 @@ word_on before after a b pages is word = rw is word
 
 pub lent_is_behind : LentIsBehind
 lent_is_behind m h out taken pages l p next before after [] written named rest b places mem goes lent called saw word few all =
-    subst (λ (x : LiveParkedSeen). BehindGoesOn m h out (page_writes (parked_base x) written after.content) rest (untaken (taken ++ []) (live_back x (given_back after.content (address after) x.parked.versions named) named))) (sym called)
-    (subst (λ (t : List ℕ). BehindGoesOn m h out (page_writes (parked_base p) written after.content) rest (untaken t (live_back p (given_back after.content (address after) p.parked.versions named) named))) (sym (append-nil taken))
-    (back m h out taken pages l p before after written named rest b places mem goes lent word few all))
+    let gone = back m h out taken pages l p before after written named rest b places mem goes lent word few all in
+    subst (λ (x : LiveParkedSeen). BehindSends m h out (page_writes (parked_base x) written after.content) [] rest (untaken (taken ++ []) (live_back x (given_back after.content (address after) x.parked.versions named) named))) (sym called)
+    (subst (λ (t : List ℕ). BehindSends m h out (page_writes (parked_base p) written after.content) [] rest (untaken t (live_back p (given_back after.content (address after) p.parked.versions named) named))) (sym (append-nil taken))
+    (record { history = gone.history; behind = gone.behind; came = gone.came; text_is = gone.text_is ∙ sym (append-nil (text m h)) }))
 lent_is_behind m h out taken pages l p next before after (c ∷ cs) written named rest b places mem goes lent called saw word few all =
     let mid = called.0 in
     let one : GoesOnLent m h out taken pages before c p mid = goes_on m h out taken pages l p mid before b places mem goes lent c called.1 saw.0 in
@@ -128,7 +134,7 @@ lent_is_behind m h out taken pages l p next before after (c ∷ cs) written name
       history = more.history;
       behind = subst (λ (t : List ℕ). IsBehind m more.history out rest (untaken t (live_back next (given_back after.content (address after) next.parked.versions named) named))) (append_assoc taken (bytes_in c) (bytes_among cs)) more.behind;
       came = more.came ∙ ap (λ (es : List Event). es ++ (events_among cs ++ writes)) one.came ∙ append_assoc (guest_events h) (events_in c) (events_among cs ++ writes) ∙ ap (λ (es : List Event). guest_events h ++ es) (sym (append_assoc (events_in c) (events_among cs) writes));
-      text_is = more.text_is ∙ one.text_is;
+      text_is = more.text_is ∙ ap (λ (x : List ℕ). x ++ sent_among cs) one.text_is ∙ append_assoc (text m h) (sent_in c) (sent_among cs);
     }
 
 or_none : (a b : Bool) → (a ≡ true → b ≡ true) → (a || b) ≡ true → b ≡ true

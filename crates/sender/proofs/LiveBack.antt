@@ -56,7 +56,7 @@ one_told firsts s n bytes size =
     sym here ∙ told_pages {L = List Bool} (taking firsts) (λ log i j. set_order log (number_in firsts i) (number_in firsts j)) (λ log i. set_once log (number_in firsts i)) s (4096 * n) bytes (omega (arith, size))
 
 -- It with these pages written.
-abbrev with_page : LiveSeen → List ℕ → ℕ → LiveSeen
+abbrev pub with_page : LiveSeen → List ℕ → ℕ → LiveSeen
 with_page l bytes n = record l { machine = with_memory l.machine (written l.machine.memory (4096 * n) (page_of bytes n)); dirty = set l.dirty n true }
 
 abbrev pub with_all : LiveSeen → List ℕ → List ℕ → LiveSeen
@@ -71,7 +71,7 @@ pub record IsReady (l : LiveSeen) (bytes pages : List ℕ) : Type 0 where
   pub long : length bytes ≡ length l.machine.memory.bytes
   pub are : IsBytes bytes
 
-abbrev write_of : LiveSeen → List ℕ → ℕ → Event
+abbrev pub write_of : LiveSeen → List ℕ → ℕ → Event
 write_of l bytes n = MemWrite (page_address l.machine n) (page_of bytes n)
 
 logged : (l : LiveSeen) (bytes : List ℕ) (n : ℕ) (pages : List ℕ) → IsReady l bytes (n ∷ pages) → IsAppliedLogged (taking (firsts_of (layout_of (now l)))) l.machine l.dirty (write_of l bytes n) Done (with_page l bytes n).machine (set l.dirty n true)
@@ -81,7 +81,7 @@ logged l bytes n pages ready =
     let size : length (page_of bytes n) ≡ 4096 = whole_page bytes n (omega (arith, here, ready.memory.pages, ready.long)) in
     page_logged {L = List Bool} (taking firsts) l.machine l.dirty (set l.dirty n true) bytes n ready.places.sound ready.memory here ready.long ready.are (one_told firsts l.dirty n (page_of bytes n) size)
 
-served : (l : LiveSeen) (bytes : List ℕ) (n : ℕ) (pages : List ℕ) → IsReady l bytes (n ∷ pages) → Serves l (Guest (write_of l bytes n)) (r.Guest Done) (with_page l bytes n)
+pub served : (l : LiveSeen) (bytes : List ℕ) (n : ℕ) (pages : List ℕ) → IsReady l bytes (n ∷ pages) → Serves l (Guest (write_of l bytes n)) (r.Guest Done) (with_page l bytes n)
 served l bytes n pages ready =
     let h = logged l bytes n pages ready in
     rw (guest_free l.phase (write_of l bytes n) ready.goes) (record {
@@ -90,7 +90,7 @@ served l bytes n pages ready =
       rest = refl;
     })
 
-ready_still : (l : LiveSeen) (bytes : List ℕ) (n : ℕ) (pages : List ℕ) → IsReady l bytes (n ∷ pages) → IsReady (with_page l bytes n) bytes pages
+pub ready_still : (l : LiveSeen) (bytes : List ℕ) (n : ℕ) (pages : List ℕ) → IsReady l bytes (n ∷ pages) → IsReady (with_page l bytes n) bytes pages
 ready_still l bytes n pages ready =
     let h = (logged l bytes n pages ready).is_applied in
     let next = with_page l bytes n in

@@ -1,5 +1,5 @@
 -- Pages that are named later than they were written.
-use Rattle.std.proofs.Common.{◌≡◌, ℕ, ◌||◌, ◌++◌, Bool, true, false, Option, Some, None, List, [], ◌∷◌, set, cond, eqb, refl, sym, ap, ◌∙◌, ◌⊎◌, inl, inr}
+use Rattle.std.proofs.Common.{◌≡◌, ℕ, ◌||◌, ◌++◌, Bool, true, false, Option, Some, None, List, [], ◌∷◌, set, cond, eqb, refl, sym, ap, subst, ◌∙◌, ◌⊎◌, inl, inr}
 use Rattle.std.specs.Prelude.{MatchOption}
 use Rattle.std.proofs.lemmas.Bool.{eqb-true, eqb-false, eq-eqb}
 use Rattle.std.proofs.lemmas.List.{set-set, set_comm}
@@ -15,6 +15,7 @@ use Rattle.sender.specs.Dirty.{set_once, set_order}
 use Rattle.sender.specs.LiveState.{LiveSeen, now}
 use Rattle.sender.specs.Marks.{AreAmong, MayCall, if_dirty, still_behind}
 use Rattle.sender.specs.Parked.{with_pages}
+use Rattle.sender.specs.ParkedCalls.{beside, without}
 use Rattle.sender.specs.declared.event.Item.{Item as Sent}
 use Rattle.sender.specs.declared.event.LiveEvent.{LiveEvent}
 use Rattle.sender.specs.declared.event.LiveEvent.TheVariants.{Guest, Begin, Copy, EndRound, Stop}
@@ -69,11 +70,6 @@ pub taken_in : (s : List Bool) (a b : List ℕ) → AreAmong a b → with_pages 
 taken_in s [] b among = refl
 taken_in s (n ∷ a) b among = taken_in (set s n true) a b (among_rest n a b among) ∙ once_more s n b (among n (named_first n a))
 
--- The pages that are not among others.
-abbrev pub beside : List ℕ → List ℕ → List ℕ
-beside marks [] = []
-beside marks (n ∷ pages) = cond (is_named marks n) (beside marks pages) (n ∷ beside marks pages)
-
 beside_by : (b : Bool) (s : List Bool) (n : ℕ) (marks late : List ℕ) → is_named marks n ≡ b → ((t : List Bool) → with_pages (with_pages t marks) (beside marks late) ≡ with_pages (with_pages t marks) late)
     → with_pages (with_pages s marks) (cond b (beside marks late) (n ∷ beside marks late)) ≡ with_pages (with_pages (set s n true) marks) late
 beside_by true s n marks late is rest = rest s ∙ ap (λ (t : List Bool). with_pages t late) (sym (once_more s n marks is))
@@ -110,10 +106,6 @@ items_late firsts s [] is = refl
 items_late firsts s (n ∷ late) is = ap (λ (t : List Bool). with_pages t late) (sym (items_after firsts s n is)) ∙ items_late firsts (set s n true) late is
 
 -- These pages without one.
-abbrev pub without : ℕ → List ℕ → List ℕ
-without i [] = []
-without i (n ∷ pages) = cond (eqb n i) (without i pages) (n ∷ without i pages)
-
 without_by : (b : Bool) (i n : ℕ) (pages : List ℕ) → AreAmong (without i pages) pages → AreAmong (cond b (without i pages) (n ∷ without i pages)) (n ∷ pages)
 without_by true i n pages rest k is = named_rest k n pages (rest k is)
 without_by false i n pages rest k is = elim (either_way (eqb k n)) as (λ _. is_named (n ∷ pages) k ≡ true) [
@@ -124,6 +116,32 @@ without_by false i n pages rest k is = elim (either_way (eqb k n)) as (λ _. is_
 pub without_among : (i : ℕ) (pages : List ℕ) → AreAmong (without i pages) pages
 without_among i [] = λ k is. is
 without_among i (n ∷ pages) = without_by (eqb n i) i n pages (without_among i pages)
+
+without_none : (i : ℕ) (pages : List ℕ) → is_named (without i pages) i ≡ false
+without_none i [] = refl
+without_none i (n ∷ pages) = elim (either_way (eqb n i)) as (λ _. is_named (without i (n ∷ pages)) i ≡ false) [
+  | inl e ↦ rw e (without_none i pages)
+  | inr e ↦ elim (either_way (eqb i n)) as (λ _. is_named (without i (n ∷ pages)) i ≡ false) [
+    | inl f ↦ let same : i ≡ n = eqb-true i n f in let wrong : true ≡ false = sym (subst (λ (x : ℕ). eqb x n ≡ true) same f) ∙ subst (λ (x : ℕ). eqb n x ≡ false) same e in cc
+    | inr f ↦ rw (e, f) (without_none i pages)
+  ]
+]
+
+without_rest : (i k : ℕ) (pages : List ℕ) → eqb k i ≡ false → is_named pages k ≡ true → is_named (without i pages) k ≡ true
+without_rest i k [] other is = is
+without_rest i k (n ∷ pages) other is = elim (either_way (eqb n i)) as (λ _. is_named (without i (n ∷ pages)) k ≡ true) [
+  | inl e ↦ let same : n ≡ i = eqb-true n i e in rw e (without_rest i k pages other (rw (subst (λ (x : ℕ). eqb k x ≡ false) (sym same) other) at is))
+  | inr e ↦ elim (either_way (eqb k n)) as (λ _. is_named (without i (n ∷ pages)) k ≡ true) [
+    | inl f ↦ rw (e, f) refl
+    | inr f ↦ rw (e, f) (without_rest i k pages other (rw f at is))
+  ]
+]
+
+pub without_both : (i : ℕ) (a b : List ℕ) → AreAmong a b → AreAmong (without i a) (without i b)
+without_both i a b among k is = elim (either_way (eqb k i)) as (λ _. is_named (without i b) k ≡ true) [
+  | inl e ↦ let same : k ≡ i = eqb-true k i e in let wrong : true ≡ false = sym (subst (λ (x : ℕ). is_named (without i a) x ≡ true) same is) ∙ without_none i a in cc
+  | inr e ↦ without_rest i k b e (among k (without_among i a k is))
+]
 
 sent_by : (b : Bool) (s : List Bool) (i n : ℕ) (pages : List ℕ) → eqb n i ≡ b → with_pages (set (set s n true) i false) (without i pages) ≡ with_pages (set s i false) (cond b (without i pages) (n ∷ without i pages))
 sent_by true s i n pages is =

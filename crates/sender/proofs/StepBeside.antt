@@ -23,7 +23,7 @@ use Rattle.sender.specs.History.{History, guest_events, text, then_came}
 use Rattle.sender.specs.LiveState.{HasPlaces, LiveSeen, now}
 use Rattle.sender.specs.Marks.{AreAmong, BehindGoesOn, IsBehind, MayCall, StaysBehind}
 use Rattle.sender.specs.Parked.{IsLiveParked, KeepsWord, LiveParkedSeen, live_back, live_base, page_writes, parked_layout}
-use Rattle.sender.specs.ParkedCalls.{LentCall, StepsBeside, a_step, bytes_in, events_in, missing_in, over_with, parked_base}
+use Rattle.sender.specs.ParkedCalls.{LentCall, StepsBeside, a_step, bytes_in, events_in, missing_in, over_with, parked_base, sent_in}
 use Rattle.sender.specs.Taking.{untaken}
 use Rattle.sender.specs.declared.event.LiveEvent.TheVariants.{Guest}
 use Rattle.sender.specs.declared.event.LiveReply.TheVariants as r
@@ -47,7 +47,7 @@ pub record GoesOnLent (m : MachineState) (h : History) (out : SinkState) (taken 
   pub after : LiveSeen
   pub behind : IsBehind m history out (missing_in pages c) (untaken (taken ++ bytes_in c) after)
   pub came : guest_events history ≡ guest_events h ++ events_in c
-  pub text_is : text m history ≡ text m h
+  pub text_is : text m history ≡ text m h ++ sent_in c
   pub parked : IsLiveParked after (over_with before c) mid
   pub places : HasPlaces after
   pub memory : IsMemory after.machine.memory
@@ -160,7 +160,7 @@ module _ (m : MachineState) (h : History) (out : SinkState) (taken pages : List 
         behind = subst (λ (t : List ℕ). IsBehind m next out (pages ++ wrote) (untaken t stepped)) (sym (append-nil taken)) goes_behind.behind;
         came = ap (λ (es : List Event). es ++ Step dev pick ∷ []) wrote_so.came ∙ append_assoc (guest_events h) (page_writes (parked_base p) wrote seen) (Step dev pick ∷ [])
             ∙ ap (λ (k : ℕ). guest_events h ++ (page_writes k wrote seen ++ Step dev pick ∷ [])) (sym base_at);
-        text_is = no_text m wrote_so.history (Step dev pick) reply goes_behind.effect ∙ wrote_so.text_is;
+        text_is = no_text m wrote_so.history (Step dev pick) reply goes_behind.effect ∙ wrote_so.text_is ∙ sym (append-nil (text m h));
         parked = record {
           parked = record {
             lent = record { bytes = sym made.bytes; place = made.applied.later.place; versions_are = sym made.versions };

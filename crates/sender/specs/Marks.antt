@@ -19,7 +19,7 @@ use Rattle.sender.specs.History.{History, guest_events, text, then_came}
 use Rattle.sender.specs.LiveState.{HasPlaces, LiveSeen}
 use Rattle.sender.specs.Parked.{IsLiveParked, KeepsWord, LiveParkedSeen, live_back, live_base, page_writes, with_pages}
 use Rattle.sender.specs.Taking.{untaken}
-use Rattle.sender.specs.ParkedCalls.{AreLentCalls, AreSeen, LentCall, bytes_among, events_among, missing_among, over_with_all, parked_base}
+use Rattle.sender.specs.ParkedCalls.{AreLentCalls, AreSeen, LentCall, bytes_among, events_among, missing_among, over_with_all, parked_base, sent_among}
 use Rattle.sender.specs.Unsynced.{FailsLiveFlush, FlushesLiveDisk}
 use Rattle.sender.specs.declared.event.LiveEvent.{LiveEvent}
 use Rattle.sender.specs.declared.event.LiveEvent.TheVariants.{Guest, EndRound, Stop}
@@ -60,13 +60,20 @@ BackIsBehind = (m : MachineState) (h : History) (out : SinkState) (pages : List 
     → l.phase ≢ phases.Stopped → IsLiveParked l before p → KeepsWord before after (length p.parked.versions) written → AreAmong named written
     → AreAmong (pages ++ written) (named ++ rest) → BehindGoesOn m h out (page_writes (live_base l) written after.content) rest (live_back p (given_back after.content (address after) p.parked.versions named) named)
 
+-- The same, and these bytes are written meanwhile.
+pub record BehindSends (m : MachineState) (h : History) (out : SinkState) (events : List Event) (bytes pages : List ℕ) (new : LiveSeen) : Type 0 where
+  pub history : History
+  pub behind : IsBehind m history out pages new
+  pub came : guest_events history ≡ guest_events h ++ events
+  pub text_is : text m history ≡ text m h ++ bytes
+
 -- As above, with calls that were made while the RAM was lent, and bytes that were taken before and meanwhile: the history goes on by the
 -- events of these calls first. The pages that the guest had written before a step are to be named too.
 abbrev pub LentIsBehind : Type 0
 LentIsBehind = (m : MachineState) (h : History) (out : SinkState) (taken pages : List ℕ) (l : LiveSeen) (p next : LiveParkedSeen) (before after : Region) (calls : List LentCall) (written named rest : List ℕ) → IsBehind m h out pages (untaken taken l) → HasPlaces l
     → IsMemory l.machine.memory → l.phase ≢ phases.Stopped → IsLiveParked l before p → AreLentCalls p calls next → AreSeen before (length p.parked.versions) calls → KeepsWord (over_with_all before calls) after (length p.parked.versions) written
     → AreAmong named written → AreAmong (missing_among pages calls ++ written) (named ++ rest)
-    → BehindGoesOn m h out (events_among calls ++ page_writes (parked_base next) written after.content) rest (untaken (taken ++ bytes_among calls) (live_back next (given_back after.content (address after) next.parked.versions named) named))
+    → BehindSends m h out (events_among calls ++ page_writes (parked_base next) written after.content) (sent_among calls) rest (untaken (taken ++ bytes_among calls) (live_back next (given_back after.content (address after) next.parked.versions named) named))
 
 -- A round is ended, and a stop made, only of a machine that is behind by no page: these two send by the set of dirty items.
 abbrev pub MayCall : List ℕ → LiveEvent → Type 0

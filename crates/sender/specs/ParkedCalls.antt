@@ -1,10 +1,12 @@
 -- What is done to a machine that is being migrated while its RAM is lent.
-use Rattle.std.specs.Prelude.{◌≡◌, ◌≢◌, ℕ, ◌++◌, List, [], ◌∷◌, length, Bool, true, false, Result, Ok, Err, MatchOption}
+use Rattle.std.specs.Prelude.{◌≡◌, ◌≢◌, ℕ, ◌+◌, ◌*◌, ◌++◌, ◌==◌, if◌then◌else◌, List, [], ◌∷◌, length, Bool, true, false, Result, Ok, Err, MatchOption}
 use Rattle.blk.specs.declared.disk.DiskFault.{DiskFault}
-use Rattle.guestmem.specs.Lent.{given_back, is_named}
+use Rattle.guestmem.specs.Lent.{AreBelow, given_back, is_named}
 use Rattle.guestmem.specs.Memory.{IsMemory}
 use Rattle.guestmem.specs.Number.{IsBytes}
+use Rattle.guestmem.specs.Write.{put_at}
 use Rattle.guestmem.specs.Writes.{set_all}
+use Rattle.guestmem.specs.declared.limits.TheConstants.{PAGE_SIZE}
 use Rattle.region.specs.Address.{address}
 use Rattle.region.specs.Lending.{with_content}
 use Rattle.region.specs.declared.region.Region.{Region}
@@ -15,14 +17,15 @@ use Rattle.machine.specs.Parked.{FailsParkedFlush, FlushesParked, IsAppliedParke
 use Rattle.machine.specs.Seen.{Seen}
 use Rattle.machine.specs.State.{MachineState, base_of}
 use Rattle.machine.specs.declared.event.Event.{Event}
-use Rattle.machine.specs.declared.event.Event.TheVariants.{Step}
+use Rattle.machine.specs.declared.event.Event.TheVariants.{MemWrite, Step}
 use Rattle.machine.specs.declared.reply.Reply.{Reply}
 use Rattle.wire.specs.Sinks.{SinkState, Takes}
 use Rattle.sender.specs.Calls.{Serves, with_items}
 use Rattle.sender.specs.Follows.{Relates}
-use Rattle.sender.specs.History.{History}
+use Rattle.sender.specs.HandedIn.{HandingFails, HandsIn, page_text}
+use Rattle.sender.specs.History.{History, guest_events, text}
 use Rattle.sender.specs.LiveState.{HasPlaces, LiveSeen, refusal_for}
-use Rattle.sender.specs.Parked.{BackGoesOn, IsLiveParked, KeepsWord, LiveParkedSeen, live_back, page_writes, parked_layout}
+use Rattle.sender.specs.Parked.{BackGoesOn, IsLiveParked, KeepsWord, LiveParkedSeen, live_back, page_writes, parked_layout, with_pages}
 use Rattle.sender.specs.Uncalled.{CallsNone}
 use Rattle.sender.specs.Taking.{untaken}
 use Rattle.sender.specs.Unsynced.{FailsLiveFlush, FlushesLiveDisk}
@@ -112,15 +115,24 @@ pub record StepsBeside (p : LiveParkedSeen) (seen : List ℕ) (dev pick : ℕ) (
   pub dirty : next.dirty ≡ with_items (firsts_of (parked_layout p.parked)) p.dirty (items_of effect)
   pub rest : next ≡ record p { parked = next.parked; dirty = next.dirty }
 
+-- These pages became dirty, and nothing else changed.
+pub record MarksParked (p : LiveParkedSeen) (marks : List ℕ) (next : LiveParkedSeen) : Type 0 where
+  pub below : AreBelow (length p.parked.versions) marks
+  pub rest : next ≡ record p { dirty = with_pages p.dirty marks }
+
 -- A call that was made while the RAM was lent, and not refused: an event that needs no RAM, with its reply; a flush that failed in place of
 -- its step; a flush beside all steps; a taking of these bytes; a step beside the guest, where RAM begins at this base, the guest had written
--- these pages, and RAM was as these bytes then.
+-- these pages, and RAM was as these bytes then; a page that was handed in, by its address, its number and its bytes; one at which the writer failed; a mark of these
+-- pages, where RAM begins at this base and is these bytes by the history.
 pub data LentCall : Type 0 where
   an_event : Event → Reply → LentCall
   a_failed_flush : ℕ → ℕ → LentCall
   a_flush : ℕ → Result (Unit {0}) DiskFault → LentCall
   a_taking : List ℕ → LentCall
   a_step : ℕ → List ℕ → List ℕ → ℕ → ℕ → Reply → Effect → LentCall
+  a_page : ℕ → ℕ → List ℕ → LentCall
+  a_failed_page : LentCall
+  a_mark : ℕ → List ℕ → List ℕ → LentCall
 
 -- The address at which its RAM begins.
 abbrev pub parked_base : LiveParkedSeen → ℕ
@@ -132,6 +144,9 @@ IsLentCall p (a_failed_flush dev pick) next = FailsLiveParked p dev pick next
 IsLentCall p (a_flush dev result) next = FlushesLiveParked p dev result next
 IsLentCall p (a_taking bytes) next = TakesParked p bytes next
 IsLentCall p (a_step base wrote seen dev pick reply effect) next = (base ≡ parked_base p) × StepsBeside p seen dev pick reply effect next
+IsLentCall p (a_page addr n bytes) next = (addr ≡ parked_base p + PAGE_SIZE * n) × HandsIn p n bytes next
+IsLentCall p a_failed_page next = HandingFails p next
+IsLentCall p (a_mark base bytes marks) next = (base ≡ parked_base p) × MarksParked p marks next
 
 -- Calls, one after another.
 abbrev pub AreLentCalls : LiveParkedSeen → List LentCall → LiveParkedSeen → Type 0
@@ -145,6 +160,9 @@ events_in (a_failed_flush dev pick) = Step dev pick ∷ []
 events_in (a_flush dev result) = []
 events_in (a_taking bytes) = []
 events_in (a_step base wrote seen dev pick reply effect) = page_writes base wrote seen ++ Step dev pick ∷ []
+events_in (a_page addr n bytes) = MemWrite addr bytes ∷ []
+events_in a_failed_page = []
+events_in (a_mark base bytes marks) = page_writes base marks bytes
 
 abbrev pub bytes_in : LentCall → List ℕ
 bytes_in (a_taking bytes) = bytes
@@ -161,15 +179,18 @@ bytes_among (c ∷ cs) = bytes_in c ++ bytes_among cs
 -- RAM by the history: as it was lent, and after each step as the step saw it, with what it wrote.
 abbrev pub over_with : Region → LentCall → Region
 over_with region (a_step base wrote seen dev pick reply effect) = with_content region (set_all seen effect.writes)
+over_with region (a_page addr n bytes) = with_content region (put_at region.content (PAGE_SIZE * n) bytes)
 over_with region _ = region
 
 abbrev pub over_with_all : Region → List LentCall → Region
 over_with_all region [] = region
 over_with_all region (c ∷ cs) = over_with_all (over_with region c) cs
 
--- What a step saw of RAM differs from RAM by the history in no other pages than those that the guest had written.
+-- What a step saw of RAM differs from RAM by the history in no other pages than those that the guest had written. A mark is by RAM as it is
+-- by the history.
 abbrev pub IsSeen : Region → ℕ → LentCall → Type 0
 IsSeen region count (a_step base wrote seen dev pick reply effect) = KeepsWord region (with_content region seen) count wrote
+IsSeen region count (a_mark base bytes marks) = bytes ≡ region.content
 IsSeen region count _ = Unit {0}
 
 abbrev pub AreSeen : Region → ℕ → List LentCall → Type 0
@@ -177,13 +198,40 @@ AreSeen region count [] = Unit {0}
 AreSeen region count (c ∷ cs) = IsSeen region count c × AreSeen (over_with region c) count cs
 
 -- The pages that are still to be named after calls: also those that the guest had written before a step.
+abbrev pub without : ℕ → List ℕ → List ℕ
+without i [] = []
+without i (n ∷ pages) = if n == i then without i pages else n ∷ without i pages
+
+-- The pages that are not among these marks.
+abbrev pub beside : List ℕ → List ℕ → List ℕ
+beside marks [] = []
+beside marks (n ∷ pages) = if is_named marks n then beside marks pages else n ∷ beside marks pages
+
 abbrev pub missing_in : List ℕ → LentCall → List ℕ
 missing_in pages (a_step base wrote seen dev pick reply effect) = pages ++ wrote
+missing_in pages (a_page addr n bytes) = without n pages
+missing_in pages (a_mark base bytes marks) = beside marks pages
 missing_in pages _ = pages
 
 abbrev pub missing_among : List ℕ → List LentCall → List ℕ
 missing_among pages [] = pages
 missing_among pages (c ∷ cs) = missing_among (missing_in pages c) cs
+
+-- What calls write.
+abbrev pub sent_in : LentCall → List ℕ
+sent_in (a_page addr n bytes) = page_text n bytes
+sent_in _ = []
+
+abbrev pub sent_among : List LentCall → List ℕ
+sent_among [] = []
+sent_among (c ∷ cs) = sent_in c ++ sent_among cs
+
+-- The history goes on by these events of the guest, and these bytes are written meanwhile.
+pub record LentGoesOn (m : MachineState) (h : History) (out : SinkState) (events : List Event) (bytes : List ℕ) (new : LiveSeen) : Type 0 where
+  pub history : History
+  pub relates : Relates m history out new
+  pub came : guest_events history ≡ guest_events h ++ events
+  pub text_is : text m history ≡ text m h ++ bytes
 
 -- The history goes on by the events of the calls that were made while the RAM was lent, and then by the guest's writes of the pages that are
 -- named, in whatever order the guest made them. A step is, by the history, the guest's writes of the pages that it had written till then, as
@@ -192,4 +240,4 @@ missing_among pages (c ∷ cs) = missing_among (missing_in pages c) cs
 abbrev pub LentFollows : Type 0
 LentFollows = (m : MachineState) (h : History) (out : SinkState) (taken : List ℕ) (l : LiveSeen) (p next : LiveParkedSeen) (before after : Region) (calls : List LentCall) (pages : List ℕ) → Relates m h out (untaken taken l) → HasPlaces l → IsMemory l.machine.memory
     → l.phase ≢ phases.Stopped → IsLiveParked l before p → AreLentCalls p calls next → AreSeen before (length p.parked.versions) calls → KeepsWord (over_with_all before calls) after (length p.parked.versions) pages → ((n : ℕ) → is_named (missing_among [] calls) n ≡ true → is_named pages n ≡ true)
-    → BackGoesOn m h out (events_among calls ++ page_writes (parked_base next) pages after.content) (untaken (taken ++ bytes_among calls) (live_back next (given_back after.content (address after) next.parked.versions pages) pages))
+    → LentGoesOn m h out (events_among calls ++ page_writes (parked_base next) pages after.content) (sent_among calls) (untaken (taken ++ bytes_among calls) (live_back next (given_back after.content (address after) next.parked.versions pages) pages))

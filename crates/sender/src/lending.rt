@@ -28,7 +28,7 @@ use std::marker::Model;
 use wire::{Digesting, Eager, Sink, Waiting};
 
 /// A machine that is being migrated, and whose RAM is lent. What needs none of its bytes can be done to it, and what was written can be
-/// taken; nothing of it is sent.
+/// taken; of its items pages alone are sent, with bytes that the caller copied out of the RAM.
 #[derive(Drop)]
 pub struct LiveParked<D: Disk, W: Digesting> {
     pub(crate) parked: Parked<D>,

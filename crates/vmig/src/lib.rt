@@ -144,6 +144,7 @@ pub use wire::Header;
 pub use wire::Record;
 pub use wire::Sink;
 pub use wire::SinkFault;
+pub use wire::Told as ToldWriter;
 pub use wire::Waiting;
 pub use wire::WriteSink;
 pub use wire::decode_device;

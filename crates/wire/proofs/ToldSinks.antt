@@ -7,7 +7,7 @@ use Rattle.sha2.proofs.Facts256.{length-sha256}
 use Rattle.sha2.specs.Sha256.{sha256}
 use Rattle.wire.specs.Records.{commit, spelled_record}
 use Rattle.wire.specs.Sinks.{Appends, Seals, Takes, over_writer}
-use Rattle.wire.specs.Telling.{EndsIn, Gains, IsTold, TakenIsPut, ToldSeen, closing_record, held_in, out_of, owed_len, owing, sum_of}
+use Rattle.wire.specs.Telling.{EndsIn, Gains, IsTold, IsToldBy, EndsInstead, TakenIsPut, ToldSeen, closing_record, held_in, out_of, owed_len, owing, sum_of}
 use Rattle.wire.proofs.Spelling.{split_same, tail_same}
 
 open_is : (ready past : List ℕ) (owed : Bool) → owed ≡ false → owing ready owed past ≡ ready
@@ -64,6 +64,29 @@ same_state old new was told =
     ap (λ (x : List ℕ). over_writer (Some x) new.failures new.is_flushed) (same_held old new was told)
     ∙ ap (λ (n : ℕ). over_writer (Some (held_in old)) n new.is_flushed) told.failures
     ∙ ap (λ (b : Bool). over_writer (Some (held_in old)) old.failures b) told.is_flushed
+
+-- Where it was the digest of all that was put.
+pub told_right : (old new : ToldSeen) (digest : List ℕ) → digest ≡ sha256 old.past → IsToldBy digest old new → IsTold old new
+told_right old new digest is told = record {
+  ready = told.ready ∙ ap (λ (d : List ℕ). old.ready ++ spelled_record (commit d)) is;
+  past = told.past ∙ ap (λ (d : List ℕ). old.past ++ spelled_record (commit d)) is;
+  owed = told.owed;
+  failures = told.failures;
+  is_flushed = told.is_flushed;
+}
+
+-- Whatever it was, only the digest of the last record changes.
+pub told_ends : (old new : ToldSeen) (digest : List ℕ) → old.owed ≡ true → IsToldBy digest old new → EndsInstead (held_in old) digest (held_in new)
+told_ends old new digest was told = record {
+  front = old.ready;
+  before = sha256 old.past;
+  size = length-sha256 old.past;
+  was = owed_is old.ready old.past old.owed was;
+  is = open_is new.ready new.past new.owed told.owed ∙ told.ready;
+}
+
+pub told_out : (old new : ToldSeen) (digest : List ℕ) → IsToldBy digest old new → out_of new ≡ over_writer (Some (held_in new)) old.failures old.is_flushed
+told_out old new digest told = ap (λ (n : ℕ). over_writer (Some (held_in new)) n new.is_flushed) told.failures ∙ ap (λ (b : Bool). over_writer (Some (held_in new)) old.failures b) told.is_flushed
 
 -- The record of a digest has 33 bytes, and no other digest.
 length-closing : (past : List ℕ) → length (closing_record past) ≡ 33

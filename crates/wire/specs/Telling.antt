@@ -1,5 +1,5 @@
 -- Bytes that wait until they are taken, and whose digest is told by whoever took them.
-use Rattle.std.specs.Prelude.{◌≡◌, ◌++◌, ℕ, List, Bool, true, false, Some, Result, Ok, OnOk, drop, take}
+use Rattle.std.specs.Prelude.{◌≡◌, ◌++◌, ℕ, List, Bool, true, false, Some, Result, Ok, OnOk, drop, length, take}
 use Rattle.guestmem.specs.Failures.{counted}
 use Rattle.sha2.specs.Sha256.{sha256}
 use Rattle.wire.specs.Records.{commit, spelled_record}
@@ -68,6 +68,22 @@ pub record IsTold (old new : ToldSeen) : Type 0 where
   pub owed : new.owed ≡ false
   pub failures : new.failures ≡ old.failures
   pub is_flushed : new.is_flushed ≡ old.is_flushed
+
+-- The record of this digest can be taken, as if it had been put, whatever was put.
+pub record IsToldBy (digest : List ℕ) (old new : ToldSeen) : Type 0 where
+  pub ready : new.ready ≡ old.ready ++ spelled_record (commit digest)
+  pub past : new.past ≡ old.past ++ spelled_record (commit digest)
+  pub owed : new.owed ≡ false
+  pub failures : new.failures ≡ old.failures
+  pub is_flushed : new.is_flushed ≡ old.is_flushed
+
+-- The bytes ended in the record of one digest, and now end in that of another one.
+pub record EndsInstead (old digest new : List ℕ) : Type 0 where
+  pub front : List ℕ
+  pub before : List ℕ
+  pub size : length before ≡ 32
+  pub was : old ≡ front ++ spelled_record (commit before)
+  pub is : new ≡ front ++ spelled_record (commit digest)
 
 -- What was taken, in its order, and what is held are what was put: after each put, each take, and the record that closes the stream.
 -- Where that record is owed, what was taken and what can be taken are the text before it, whose digest is the one to tell.

@@ -70,7 +70,7 @@ pub use header::{
 pub use header_error::HeaderError;
 pub use lengths::{device_len, header_len, page_len};
 pub use numbers::{u8_at, u32_at};
-pub use past::{Past, Piece};
+pub use past::{Added, Past};
 pub use record::{Record, decode_record, has_record};
 pub use record_head::{
     BAD_SECTOR_RECORD, BODY_MAX, COMMIT_RECORD, COMMIT_TAG, DEVICE_TAG, FoundHead,

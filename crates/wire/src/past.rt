@@ -18,7 +18,7 @@ impl Model for Past {
 
 /// Bytes that come after those of a `Past`.
 #[derive(Clone, Copy, Drop)]
-pub struct Piece<'a> {
+pub struct Added<'a> {
     pub bytes: &'a [u8],
 }
 
@@ -32,7 +32,7 @@ impl Past {
 
     /// These, and the piece after them.
     #[inline(always)]
-    pub fn then(&self, _piece: &Piece<'_>) -> Past
+    pub fn then(&self, _piece: &Added<'_>) -> Past
         ensures { result.bytes ≡ self.now.bytes ++ _piece.now.bytes.now }
     {
         Past {}

@@ -9,10 +9,10 @@
 ghost use Rattle.std.specs.Prelude.{◌≡◌, ◌++◌, ◌+◌, ◌%◌, ◌^◌, IsErr, [], drop, false, length, min, take, true};
 ghost use Rattle.sha2.specs.Sha256.{sha256};
 ghost use Rattle.wire.specs.Records.{commit, spelled_record};
-ghost use Rattle.wire.specs.Telling.{Gains, IsTold};
+ghost use Rattle.wire.specs.Telling.{Gains, IsTold, IsToldBy};
 
 use crate::digesting::Digesting;
-use crate::past::{Past, Piece};
+use crate::past::{Added, Past};
 use crate::record_head::{COMMIT_RECORD, COMMIT_TAG};
 use crate::sink::{Sink, SinkFault};
 use std::alloc::Global;
@@ -84,16 +84,26 @@ impl Told {
 
     /// The digest of all that was put, once the stream was closed and while its record is owed. What it holds as a sink is the same after it;
     /// now all of it can be taken. It takes no memory: the record's is there since the stream was closed.
+    #[tactic(auto, using(crate::proofs::ToldSinks::told_right))]
     pub fn tell(&mut self, digest: &[u8; 32])
         requires owed { self.old.owed ≡ true }
         requires digest { digest.now ≡ sha256 self.old.past }
         ensures { IsTold self.old self.new }
     {
+        self.tell_on_trust(digest)
+    }
+
+    /// As `tell`, for a caller who cannot prove whose digest it is: nobody compares it here. The record that closes the stream has this one, and
+    /// whoever receives the stream refuses a wrong one.
+    pub fn tell_on_trust(&mut self, digest: &[u8; 32])
+        requires owed { self.old.owed ≡ true }
+        ensures { IsToldBy digest.now self.old self.new }
+    {
         let record = commit_bytes(digest);
         let Ok(()) = self.bytes.extend_from_slice(&record) else {
             unreachable!()
         };
-        self.past = self.past.then(&Piece { bytes: &record });
+        self.past = self.past.then(&Added { bytes: &record });
         self.owed = false;
     }
 
@@ -117,7 +127,7 @@ impl Told {
         self.flushed = false;
         match self.bytes.extend_from_slice(bytes) {
             Ok(()) => {
-                self.past = self.past.then(&Piece { bytes });
+                self.past = self.past.then(&Added { bytes });
                 Ok(())
             }
             Err(_) => {

@@ -3,20 +3,27 @@
 //! Nothing that they do is to be sent but with the devices, by the stop. So they make no item dirty, and a migration that failed to write
 //! still answers them.
 
-ghost use Rattle.std.specs.Prelude.{◌≡◌, ◌≢◌, IfErr, OnOk, true};
+ghost use Rattle.std.specs.Prelude.{◌≡◌, ◌≢◌, ◌<◌, IfErr, OnOk, length, true};
+ghost use Rattle.guestmem.specs.Lent.{AreBelow};
 ghost use Rattle.guestmem.specs.Memory.{Memory};
 ghost use Rattle.machine.specs.Calls.{CallsDisk};
 ghost use Rattle.machine.specs.Parked.{back_with};
 ghost use Rattle.machine.specs.declared.event.DiskAnswer.TheVariants as answers;
 ghost use Rattle.machine.specs.declared.event.Event.TheVariants as events;
+ghost use Rattle.dirtylog.specs.Members.{IsLeast};
 ghost use Rattle.sender.specs.Calls.{guest_reply};
+ghost use Rattle.sender.specs.HandedIn.{HandsInPage, IsNextPage};
+ghost use Rattle.sender.specs.LiveState.{refusal_for};
+ghost use Rattle.sender.specs.Parked.{with_pages};
 ghost use Rattle.sender.specs.ParkedCalls.{FlushesLiveParked, ServesParked, TriesParkedFlush};
 
+use crate::event::LiveEvent;
 use crate::lending::LiveParked;
 use crate::mig_error::MigError;
 use crate::phase::Phase;
+use dirtylog::BitSet;
 use machine::{Disk, DiskFault, Reply};
-use wire::Digesting;
+use wire::{Digesting, write_page};
 
 impl<D: Disk, W: Digesting> LiveParked<D, W> {
     /// Whether the guest still runs: a stop that closed the stream has paused it.
@@ -122,5 +129,75 @@ impl<D: Disk, W: Digesting> LiveParked<D, W> {
     {
         self.running()?;
         Ok(self.parked.fail_flush(dev, pick))
+    }
+
+    /// The least due item, if it is a page: the one that `copy_page` takes next.
+    pub fn next_due(&self) -> Option<u32>
+        ensures { IsNextPage (length self.now.parked.versions) self.now.due result }
+    {
+        self.parked.recall();
+        let Some(number) = self.due.first_from(self.at) else {
+            return None;
+        };
+        if number < self.parked.pages() as u64 {
+            Some(number as u32)
+        } else {
+            None
+        }
+    }
+
+    /// Sends the least due item, a page, with bytes that the caller copied out of the RAM while it may have been written: by the history
+    /// the guest wrote this page with these bytes, and then it was copied. Where the RAM that is given back holds others there, the page
+    /// is among those that were written.
+    pub fn copy_page(&mut self, page: u32, bytes: &[u8; 4096]) -> Result<(), MigError>
+        requires next { IsLeast self.old.due 0 page }
+        requires inside { page < length self.old.parked.versions }
+        ensures { HandsInPage self.old page bytes.now result self.new }
+    {
+        if let Some(error) = copy_refusal(self.phase) {
+            return Err(error);
+        }
+        if let Err(_) = write_page(page, bytes, &mut self.writer) {
+            self.phase = Phase::Failed;
+            return Err(MigError::StreamFailed);
+        }
+        let number = page as u64;
+        self.due.remove(number);
+        self.dirty.set.remove(number);
+        self.at = number + 1;
+        Ok(())
+    }
+
+    /// Names pages that the guest has written, also in this loan: they are dirty. In the history it is a write of each with the bytes that RAM has
+    /// there by the history: as it was lent, or as the page was handed in, or as a step beside the guest saw it. A page that may have other
+    /// bytes at the return is named there too, as if it had not been marked. No byte is read or written, and no version rises.
+    pub fn mark(&mut self, pages: &[u32])
+        requires below { AreBelow (length self.old.parked.versions) pages.now }
+        ensures { self.new ≡ record self.old { dirty = with_pages self.old.dirty pages.now } }
+    {
+        self.parked.recall();
+        insert_each(&mut self.dirty.set, pages);
+    }
+}
+
+/// Makes each of these pages a member.
+fn insert_each(set: &mut BitSet, pages: &[u32])
+    requires { AreBelow (length set.old) pages.now }
+    ensures { set.new ≡ with_pages set.old pages.now }
+{
+    for n in pages {
+        set.insert(*n as u64);
+    }
+}
+
+/// Which phase refuses a copy.
+fn copy_refusal(phase: Phase) -> Option<MigError>
+    ensures { result ≡ refusal_for phase LiveEvent.Copy }
+{
+    match phase {
+        Phase::Failed => Some(MigError::StreamFailed),
+        Phase::Stopped => Some(MigError::AlreadyStopped),
+        Phase::Fresh => Some(MigError::NotBegun),
+        Phase::Open(_) => None,
     }
 }

@@ -6,7 +6,7 @@
 ghost use Rattle.std.specs.Prelude.{◌≡◌, ◌-◌, ◌++◌, IfErr, IfOk, Some, [], drop, false, length, min, take, true};
 ghost use Rattle.dirtylog.specs.Members.{HasNone};
 ghost use Rattle.wire.specs.Sinks.{Covers, over_writer};
-ghost use Rattle.wire.specs.Telling.{EndsIn, is_owed, out_of, owed_len};
+ghost use Rattle.wire.specs.Telling.{EndsIn, EndsInstead, is_owed, out_of, owed_len};
 ghost use Rattle.sender.specs.LiveState.{HasPlaces};
 
 use crate::live::{LiveOver, LiveTold, make_room};
@@ -68,5 +68,17 @@ impl<D: Disk> LiveOver<D, Told> {
         ensures rest { self.new ≡ record self.old { digest = self.new.digest } }
     {
         self.writer.tell(digest)
+    }
+
+    /// As `tell`, for a caller who cannot prove whose digest it is: nobody compares it here. The record that closes the stream has this one, and
+    /// whoever receives the stream refuses a wrong one.
+    #[tactic(auto, using(wire::proofs::ToldSinks::told_ends, wire::proofs::ToldSinks::told_out))]
+    pub fn tell_on_trust(&mut self, digest: &[u8; 32])
+        requires owed { is_owed self.old.digest ≡ true }
+        ensures told { is_owed self.new.digest ≡ false }
+        ensures record { EndsInstead self.old.out.held digest.now self.new.out.held }
+        ensures rest { self.new ≡ record self.old { digest = self.new.digest; out = record self.old.out { held = self.new.out.held } } }
+    {
+        self.writer.tell_on_trust(digest)
     }
 }
