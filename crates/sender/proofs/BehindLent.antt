@@ -16,7 +16,7 @@ use Rattle.sender.specs.History.{History, guest_events, phase_of, text, then_cam
 use Rattle.sender.specs.LiveState.{HasPlaces, LiveSeen}
 use Rattle.sender.specs.Marks.{BehindSends, IsBehind, LentIsBehind, TakingStaysBehind, if_dirty}
 use Rattle.sender.specs.Parked.{IsLiveParked, KeepsWord, LiveParkedSeen, live_back, page_writes}
-use Rattle.sender.specs.ParkedCalls.{AreSeen, IsDoneLiveLent, IsLentCall, IsSeen, IsServedUncalled, LentCall, LentFollows, a_failed_flush, a_failed_page, a_flush, a_mark, a_page, a_step, a_taking, an_event, bytes_among, bytes_in, events_among, events_in, missing_among, missing_in, over_with, over_with_all, parked_base, sent_among, sent_in}
+use Rattle.sender.specs.ParkedCalls.{AreSeen, IsDoneLiveLent, IsLentCall, IsSeen, IsServedUncalled, LentCall, LentFollows, MayEnd, a_failed_flush, a_failed_page, a_flush, a_mark, a_page, a_round_end, a_step, a_taking, an_event, bytes_among, bytes_in, events_among, events_in, missing_among, missing_in, over_with, over_with_all, parked_base, sent_among, sent_in}
 use Rattle.sender.specs.Taking.{untaken}
 use Rattle.sender.specs.Unsynced.{FailsLiveFlush, FlushesLiveDisk}
 use Rattle.sender.specs.declared.event.LiveEvent.TheVariants.{Guest}
@@ -28,6 +28,7 @@ use Rattle.sender.proofs.Flushed.{agrees_with}
 use Rattle.sender.proofs.HandingIn.{handed_in, handing_failed}
 use Rattle.sender.proofs.Marking.{named_both}
 use Rattle.sender.proofs.MarkingLent.{marked_lent}
+use Rattle.sender.proofs.RoundLent.{round_ended}
 use Rattle.sender.proofs.StepBeside.{GoesOnLent, back, goes_beside, may_guest}
 use Rattle.sender.proofs.ParkedServed.{live_parked_flush_fails, live_parked_is_flushed, live_parked_is_served}
 use Rattle.sender.proofs.Taking.{places_untaken}
@@ -75,22 +76,22 @@ module _ (m : MachineState) (h : History) (out : SinkState) (taken pages : List 
     goes = subst (λ (f : Phase). f ≢ phases.Stopped) (sym one.phase) goes;
   }
 
-  goes_on : (c : LentCall) → IsLentCall p c mid → IsSeen before (length p.parked.versions) c → GoesOnLent m h out taken pages before c p mid
-  goes_on (an_event e reply) call saw =
+  goes_on : (c : LentCall) → IsLentCall p c mid → IsSeen before (length p.parked.versions) c → MayEnd pages c → GoesOnLent m h out taken pages before c p mid
+  goes_on (an_event e reply) call saw may =
       let one : IsDoneLiveLent l before mid (IsServedUncalled l e (r.Guest reply)) = live_parked_is_served l p mid before e (r.Guest reply) places mem lent call in
       let gone = taken_stays_behind m h out taken pages (Guest e) (r.Guest reply) l one.after b places (may_guest pages e) one.done.serves in
       let next : History = then_came h (Guest e) (r.Guest reply) gone.effect in
       goes_with (an_event e reply) (IsServedUncalled l e (r.Guest reply)) one next (nothing_taken next one.after gone.behind) refl (no_text m h e reply gone.effect ∙ sym (append-nil (text m h)))
-  goes_on (a_failed_flush dev pick) call saw =
+  goes_on (a_failed_flush dev pick) call saw may =
       let one : IsDoneLiveLent l before mid (FailsLiveFlush l dev pick) = live_parked_flush_fails l p mid before dev pick places mem lent call in
       let gone = failure_stays_behind m h out pages dev pick (untaken taken l) (untaken taken one.after) b (places_untaken taken l places) goes (record { failed = one.done.failed; rest = ap (untaken taken) one.done.rest }) in
       let next : History = then_came h (Guest (Step dev pick)) (r.Guest DiskFailed) gone.effect in
       goes_with (a_failed_flush dev pick) (FailsLiveFlush l dev pick) one next (nothing_taken next one.after gone.behind) refl (no_text m h (Step dev pick) DiskFailed gone.effect ∙ sym (append-nil (text m h)))
-  goes_on (a_flush dev result) call saw =
+  goes_on (a_flush dev result) call saw may =
       let one : IsDoneLiveLent l before mid (FlushesLiveDisk l dev result) = live_parked_is_flushed l p mid before dev result places lent call in
       let flushed = flush_stays_behind m h out pages dev result (untaken taken l) (untaken taken one.after) b (record { flushes = one.done.flushes; rest = ap (untaken taken) one.done.rest }) in
       goes_with (a_flush dev result) (FlushesLiveDisk l dev result) one h (nothing_taken h one.after flushed) (sym (append-nil (guest_events h))) (sym (append-nil (text m h)))
-  goes_on (a_taking bytes) call saw =
+  goes_on (a_taking bytes) call saw may =
       let out_is : p.out ≡ l.out = ap (λ (x : LiveParkedSeen). x.out) lent.rest in
       let digest_is : p.digest ≡ l.digest = ap (λ (x : LiveParkedSeen). x.digest) lent.rest in
       record {
@@ -109,26 +110,27 @@ module _ (m : MachineState) (h : History) (out : SinkState) (taken pages : List 
         versions = ap (λ (q : ParkedSeen). length q.versions) (ap (λ (x : LiveParkedSeen). x.parked) call.rest);
         goes = goes;
       }
-  goes_on (a_step base wrote seen dev pick reply effect) call saw = goes_beside m h out taken pages l p mid before b places mem goes lent base wrote seen dev pick reply effect call.0 call.1 saw
-  goes_on (a_page addr n bytes) call saw = handed_in m h out taken pages l p mid before b places mem goes lent addr n bytes call.0 call.1
-  goes_on (a_mark base bytes marks) call saw = marked_lent m h out taken pages l p mid before b places mem goes lent base bytes marks call.0 call.1 saw
-  goes_on a_failed_page call saw = handing_failed m h out taken pages l p mid before b places mem goes lent call
+  goes_on (a_step base wrote seen dev pick reply effect) call saw may = goes_beside m h out taken pages l p mid before b places mem goes lent base wrote seen dev pick reply effect call.0 call.1 saw
+  goes_on (a_page addr n bytes) call saw may = handed_in m h out taken pages l p mid before b places mem goes lent addr n bytes call.0 call.1
+  goes_on (a_round_end reply) call saw may = round_ended m h out taken pages l p mid before b places mem goes lent reply call may
+  goes_on (a_mark base bytes marks) call saw may = marked_lent m h out taken pages l p mid before b places mem goes lent base bytes marks call.0 call.1 saw
+  goes_on a_failed_page call saw may = handing_failed m h out taken pages l p mid before b places mem goes lent call
 
 -- As many versions.
 word_on : (before after : Region) (a b : ℕ) (pages : List ℕ) → b ≡ a → KeepsWord before after a pages → KeepsWord before after b pages
 word_on before after a b pages is word = rw is word
 
 pub lent_is_behind : LentIsBehind
-lent_is_behind m h out taken pages l p next before after [] written named rest b places mem goes lent called saw word few all =
+lent_is_behind m h out taken pages l p next before after [] written named rest b places mem goes lent called saw may word few all =
     let gone = back m h out taken pages l p before after written named rest b places mem goes lent word few all in
     subst (λ (x : LiveParkedSeen). BehindSends m h out (page_writes (parked_base x) written after.content) [] rest (untaken (taken ++ []) (live_back x (given_back after.content (address after) x.parked.versions named) named))) (sym called)
     (subst (λ (t : List ℕ). BehindSends m h out (page_writes (parked_base p) written after.content) [] rest (untaken t (live_back p (given_back after.content (address after) p.parked.versions named) named))) (sym (append-nil taken))
     (record { history = gone.history; behind = gone.behind; came = gone.came; text_is = gone.text_is ∙ sym (append-nil (text m h)) }))
-lent_is_behind m h out taken pages l p next before after (c ∷ cs) written named rest b places mem goes lent called saw word few all =
+lent_is_behind m h out taken pages l p next before after (c ∷ cs) written named rest b places mem goes lent called saw may word few all =
     let mid = called.0 in
-    let one : GoesOnLent m h out taken pages before c p mid = goes_on m h out taken pages l p mid before b places mem goes lent c called.1 saw.0 in
+    let one : GoesOnLent m h out taken pages before c p mid = goes_on m h out taken pages l p mid before b places mem goes lent c called.1 saw.0 may.0 in
     let more = lent_is_behind m one.history out (taken ++ bytes_in c) (missing_in pages c) one.after mid next (over_with before c) after cs written named rest one.behind one.places one.memory one.goes one.parked called.2
-    (subst (λ (k : ℕ). AreSeen (over_with before c) k cs) (sym one.versions) saw.1) (word_on (over_with_all (over_with before c) cs) after (length p.parked.versions) (length mid.parked.versions) written one.versions word) few all in
+    (subst (λ (k : ℕ). AreSeen (over_with before c) k cs) (sym one.versions) saw.1) may.1 (word_on (over_with_all (over_with before c) cs) after (length p.parked.versions) (length mid.parked.versions) written one.versions word) few all in
     let writes = page_writes (parked_base next) written after.content in
     record {
       history = more.history;
@@ -142,8 +144,8 @@ or_none true b f is = f refl
 or_none false b f is = is
 
 pub lent_follows : LentFollows
-lent_follows m h out taken l p next before after calls pages rel places mem goes lent called saw word all =
-    let gone = lent_is_behind m h out taken [] l p next before after calls pages pages [] ((behind_by_none m h out (untaken taken l)).1 rel) places mem goes lent called saw word (λ n is. is)
+lent_follows m h out taken l p next before after calls pages rel places mem goes lent called saw may word all =
+    let gone = lent_is_behind m h out taken [] l p next before after calls pages pages [] ((behind_by_none m h out (untaken taken l)).1 rel) places mem goes lent called saw may word (λ n is. is)
     (λ n is. rw (append-nil pages) (or_none (is_named (missing_among [] calls) n) (is_named pages n) (all n) (sym (named_both n (missing_among [] calls) pages) ∙ is))) in
     record {
       history = gone.history;

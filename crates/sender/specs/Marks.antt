@@ -19,7 +19,7 @@ use Rattle.sender.specs.History.{History, guest_events, text, then_came}
 use Rattle.sender.specs.LiveState.{HasPlaces, LiveSeen}
 use Rattle.sender.specs.Parked.{IsLiveParked, KeepsWord, LiveParkedSeen, live_back, live_base, page_writes, with_pages}
 use Rattle.sender.specs.Taking.{untaken}
-use Rattle.sender.specs.ParkedCalls.{AreLentCalls, AreSeen, LentCall, bytes_among, events_among, missing_among, over_with_all, parked_base, sent_among}
+use Rattle.sender.specs.ParkedCalls.{AreLentCalls, AreSeen, LentCall, MayEndAll, bytes_among, events_among, missing_among, over_with_all, parked_base, sent_among}
 use Rattle.sender.specs.Unsynced.{FailsLiveFlush, FlushesLiveDisk}
 use Rattle.sender.specs.declared.event.LiveEvent.{LiveEvent}
 use Rattle.sender.specs.declared.event.LiveEvent.TheVariants.{Guest, EndRound, Stop}
@@ -71,7 +71,7 @@ pub record BehindSends (m : MachineState) (h : History) (out : SinkState) (event
 -- events of these calls first. The pages that the guest had written before a step are to be named too.
 abbrev pub LentIsBehind : Type 0
 LentIsBehind = (m : MachineState) (h : History) (out : SinkState) (taken pages : List ℕ) (l : LiveSeen) (p next : LiveParkedSeen) (before after : Region) (calls : List LentCall) (written named rest : List ℕ) → IsBehind m h out pages (untaken taken l) → HasPlaces l
-    → IsMemory l.machine.memory → l.phase ≢ phases.Stopped → IsLiveParked l before p → AreLentCalls p calls next → AreSeen before (length p.parked.versions) calls → KeepsWord (over_with_all before calls) after (length p.parked.versions) written
+    → IsMemory l.machine.memory → l.phase ≢ phases.Stopped → IsLiveParked l before p → AreLentCalls p calls next → AreSeen before (length p.parked.versions) calls → MayEndAll pages calls → KeepsWord (over_with_all before calls) after (length p.parked.versions) written
     → AreAmong named written → AreAmong (missing_among pages calls ++ written) (named ++ rest)
     → BehindSends m h out (events_among calls ++ page_writes (parked_base next) written after.content) (sent_among calls) rest (untaken (taken ++ bytes_among calls) (live_back next (given_back after.content (address after) next.parked.versions named) named))
 

@@ -1,5 +1,5 @@
 -- What is done to a machine that is being migrated while its RAM is lent.
-use Rattle.std.specs.Prelude.{◌≡◌, ◌≢◌, ℕ, ◌+◌, ◌*◌, ◌++◌, ◌==◌, if◌then◌else◌, List, [], ◌∷◌, length, Bool, true, false, Result, Ok, Err, MatchOption}
+use Rattle.std.specs.Prelude.{◌≡◌, ◌≢◌, ℕ, ◌+◌, ◌-◌, ◌*◌, ◌++◌, ◌==◌, if◌then◌else◌, List, [], ◌∷◌, length, Bool, true, false, Result, Ok, Err, MatchOption}
 use Rattle.blk.specs.declared.disk.DiskFault.{DiskFault}
 use Rattle.guestmem.specs.Lent.{AreBelow, given_back, is_named}
 use Rattle.guestmem.specs.Memory.{IsMemory}
@@ -13,12 +13,13 @@ use Rattle.region.specs.declared.region.Region.{Region}
 use Rattle.machine.specs.Beside.{IsStepOf}
 use Rattle.machine.specs.Effect.{Effect, items_of}
 use Rattle.machine.specs.Layout.{firsts_of}
-use Rattle.machine.specs.Parked.{FailsParkedFlush, FlushesParked, IsAppliedParked, ParkedSeen, makes_flush_parked, parked_states}
+use Rattle.machine.specs.Parked.{FailsParkedFlush, FlushesParked, IsAppliedParked, ParkedSeen, WhateverRam, makes_flush_parked, parked_states}
 use Rattle.machine.specs.Seen.{Seen}
 use Rattle.machine.specs.State.{MachineState, base_of}
 use Rattle.machine.specs.declared.event.Event.{Event}
 use Rattle.machine.specs.declared.event.Event.TheVariants.{MemWrite, Step}
 use Rattle.machine.specs.declared.reply.Reply.{Reply}
+use Rattle.wire.specs.Records.{round_end, spelled_record}
 use Rattle.wire.specs.Sinks.{SinkState, Takes}
 use Rattle.sender.specs.Calls.{Serves, with_items}
 use Rattle.sender.specs.Follows.{Relates}
@@ -29,7 +30,7 @@ use Rattle.sender.specs.Parked.{BackGoesOn, IsLiveParked, KeepsWord, LiveParkedS
 use Rattle.sender.specs.Uncalled.{CallsNone}
 use Rattle.sender.specs.Taking.{untaken}
 use Rattle.sender.specs.Unsynced.{FailsLiveFlush, FlushesLiveDisk}
-use Rattle.sender.specs.declared.event.LiveEvent.TheVariants.{Guest}
+use Rattle.sender.specs.declared.event.LiveEvent.TheVariants.{EndRound, Guest}
 use Rattle.sender.specs.declared.event.LiveReply.{LiveReply}
 use Rattle.sender.specs.declared.event.LiveReply.TheVariants as r
 use Rattle.sender.specs.declared.mig_error.MigError.{MigError}
@@ -120,10 +121,18 @@ pub record MarksParked (p : LiveParkedSeen) (marks : List ℕ) (next : LiveParke
   pub below : AreBelow (length p.parked.versions) marks
   pub rest : next ≡ record p { dirty = with_pages p.dirty marks }
 
+-- The end of a round reads no byte of RAM: it is that call of the machine with whatever RAM, and the guest may still run after it.
+pub record EndsLent (p : LiveParkedSeen) (reply : LiveReply) (next : LiveParkedSeen) : Type 0 where
+  pub serves : WhateverRam p.parked (λ m. Serves (live_back p m []) EndRound reply (live_back next m []))
+  pub parked : next.parked ≡ p.parked
+  pub due_size : length next.due ≡ length p.due
+  pub dirty_size : length next.dirty ≡ length p.dirty
+  pub goes : p.phase ≢ phases.Stopped → next.phase ≢ phases.Stopped
+
 -- A call that was made while the RAM was lent, and not refused: an event that needs no RAM, with its reply; a flush that failed in place of
 -- its step; a flush beside all steps; a taking of these bytes; a step beside the guest, where RAM begins at this base, the guest had written
 -- these pages, and RAM was as these bytes then; a page that was handed in, by its address, its number and its bytes; one at which the writer failed; a mark of these
--- pages, where RAM begins at this base and is these bytes by the history.
+-- pages, where RAM begins at this base and is these bytes by the history; the end of a round, with its reply.
 pub data LentCall : Type 0 where
   an_event : Event → Reply → LentCall
   a_failed_flush : ℕ → ℕ → LentCall
@@ -133,6 +142,7 @@ pub data LentCall : Type 0 where
   a_page : ℕ → ℕ → List ℕ → LentCall
   a_failed_page : LentCall
   a_mark : ℕ → List ℕ → List ℕ → LentCall
+  a_round_end : LiveReply → LentCall
 
 -- The address at which its RAM begins.
 abbrev pub parked_base : LiveParkedSeen → ℕ
@@ -147,6 +157,7 @@ IsLentCall p (a_step base wrote seen dev pick reply effect) next = (base ≡ par
 IsLentCall p (a_page addr n bytes) next = (addr ≡ parked_base p + PAGE_SIZE * n) × HandsIn p n bytes next
 IsLentCall p a_failed_page next = HandingFails p next
 IsLentCall p (a_mark base bytes marks) next = (base ≡ parked_base p) × MarksParked p marks next
+IsLentCall p (a_round_end reply) next = EndsLent p reply next
 
 -- Calls, one after another.
 abbrev pub AreLentCalls : LiveParkedSeen → List LentCall → LiveParkedSeen → Type 0
@@ -163,6 +174,7 @@ events_in (a_step base wrote seen dev pick reply effect) = page_writes base wrot
 events_in (a_page addr n bytes) = MemWrite addr bytes ∷ []
 events_in a_failed_page = []
 events_in (a_mark base bytes marks) = page_writes base marks bytes
+events_in (a_round_end reply) = []
 
 abbrev pub bytes_in : LentCall → List ℕ
 bytes_in (a_taking bytes) = bytes
@@ -220,11 +232,21 @@ missing_among pages (c ∷ cs) = missing_among (missing_in pages c) cs
 -- What calls write.
 abbrev pub sent_in : LentCall → List ℕ
 sent_in (a_page addr n bytes) = page_text n bytes
+sent_in (a_round_end (r.Begun k)) = spelled_record (round_end (k - 1))
 sent_in _ = []
 
 abbrev pub sent_among : List LentCall → List ℕ
 sent_among [] = []
 sent_among (c ∷ cs) = sent_in c ++ sent_among cs
+
+-- A round is ended only where no page that was written before this loan, or before a step beside the guest, is still to be named.
+abbrev pub MayEnd : List ℕ → LentCall → Type 0
+MayEnd (n ∷ pages) (a_round_end reply) = ⊥
+MayEnd pages c = Unit {0}
+
+abbrev pub MayEndAll : List ℕ → List LentCall → Type 0
+MayEndAll pages [] = Unit {0}
+MayEndAll pages (c ∷ cs) = MayEnd pages c × MayEndAll (missing_in pages c) cs
 
 -- The history goes on by these events of the guest, and these bytes are written meanwhile.
 pub record LentGoesOn (m : MachineState) (h : History) (out : SinkState) (events : List Event) (bytes : List ℕ) (new : LiveSeen) : Type 0 where
@@ -239,5 +261,5 @@ pub record LentGoesOn (m : MachineState) (h : History) (out : SinkState) (events
 -- the history, and those that the guest had written before a step. Bytes may have been taken before, and meanwhile.
 abbrev pub LentFollows : Type 0
 LentFollows = (m : MachineState) (h : History) (out : SinkState) (taken : List ℕ) (l : LiveSeen) (p next : LiveParkedSeen) (before after : Region) (calls : List LentCall) (pages : List ℕ) → Relates m h out (untaken taken l) → HasPlaces l → IsMemory l.machine.memory
-    → l.phase ≢ phases.Stopped → IsLiveParked l before p → AreLentCalls p calls next → AreSeen before (length p.parked.versions) calls → KeepsWord (over_with_all before calls) after (length p.parked.versions) pages → ((n : ℕ) → is_named (missing_among [] calls) n ≡ true → is_named pages n ≡ true)
+    → l.phase ≢ phases.Stopped → IsLiveParked l before p → AreLentCalls p calls next → AreSeen before (length p.parked.versions) calls → MayEndAll [] calls → KeepsWord (over_with_all before calls) after (length p.parked.versions) pages → ((n : ℕ) → is_named (missing_among [] calls) n ≡ true → is_named pages n ≡ true)
     → LentGoesOn m h out (events_among calls ++ page_writes (parked_base next) pages after.content) (sent_among calls) (untaken (taken ++ bytes_among calls) (live_back next (given_back after.content (address after) next.parked.versions pages) pages))

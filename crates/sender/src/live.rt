@@ -44,7 +44,7 @@ use std::marker::Model;
 use wire::{Digesting, Eager, Sink, Told, Waiting, encode_header, encode_round};
 
 /// The last round that the record of a round's end can number. It can't be ended.
-const LAST_ROUND: u32 = u32::MAX;
+pub(crate) const LAST_ROUND: u32 = u32::MAX;
 
 /// A machine, the stream that is written of it, and what is still to be sent. The writer digests what it takes, when it will, or is told the digest.
 #[derive(Drop)]

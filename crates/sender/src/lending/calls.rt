@@ -11,19 +11,20 @@ ghost use Rattle.machine.specs.Parked.{back_with};
 ghost use Rattle.machine.specs.declared.event.DiskAnswer.TheVariants as answers;
 ghost use Rattle.machine.specs.declared.event.Event.TheVariants as events;
 ghost use Rattle.dirtylog.specs.Members.{IsLeast};
-ghost use Rattle.sender.specs.Calls.{guest_reply};
+ghost use Rattle.sender.specs.Calls.{ended_reply, guest_reply};
 ghost use Rattle.sender.specs.HandedIn.{HandsInPage, IsNextPage};
 ghost use Rattle.sender.specs.LiveState.{refusal_for};
 ghost use Rattle.sender.specs.Parked.{with_pages};
-ghost use Rattle.sender.specs.ParkedCalls.{FlushesLiveParked, ServesParked, TriesParkedFlush};
+ghost use Rattle.sender.specs.ParkedCalls.{EndsLent, FlushesLiveParked, ServesParked, TriesParkedFlush};
 
-use crate::event::LiveEvent;
+use crate::event::{End, LiveEvent};
 use crate::lending::LiveParked;
+use crate::live::LAST_ROUND;
 use crate::mig_error::MigError;
 use crate::phase::Phase;
 use dirtylog::BitSet;
 use machine::{Disk, DiskFault, Reply};
-use wire::{Digesting, write_page};
+use wire::{Digesting, encode_round, write_page};
 
 impl<D: Disk, W: Digesting> LiveParked<D, W> {
     /// Whether the guest still runs: a stop that closed the stream has paused it.
@@ -177,6 +178,43 @@ impl<D: Disk, W: Digesting> LiveParked<D, W> {
     {
         self.parked.recall();
         insert_each(&mut self.dirty.set, pages);
+    }
+
+    /// Ends a round, as `LiveOver::end_round` does: the dirty items become due. It reads no byte of RAM. What the guest writes in this loan
+    /// counts as written at the return, after the end of the round; so no page may be missing that was written before the loan.
+    pub fn end_round(&mut self) -> Result<End, MigError>
+        ensures { EndsLent self.old (ended_reply result) self.new }
+    {
+        if let Some(error) = round_refusal(self.phase) {
+            return Err(error);
+        }
+        let Phase::Open(round) = self.phase else {
+            return Err(MigError::NotBegun);
+        };
+        if !self.due.is_empty() {
+            return Ok(End::RoundOpen);
+        }
+        if let Err(_) = encode_round(round, &mut self.writer) {
+            self.phase = Phase::Failed;
+            return Err(MigError::StreamFailed);
+        }
+        self.dirty.set.swap_out(&mut self.due);
+        self.at = 0;
+        self.phase = Phase::Open(round + 1);
+        Ok(End::Begun(round + 1))
+    }
+}
+
+/// Which phase refuses the end of a round.
+fn round_refusal(phase: Phase) -> Option<MigError>
+    ensures { result ≡ refusal_for phase LiveEvent.EndRound }
+{
+    match phase {
+        Phase::Failed => Some(MigError::StreamFailed),
+        Phase::Stopped => Some(MigError::AlreadyStopped),
+        Phase::Fresh => Some(MigError::NotBegun),
+        Phase::Open(LAST_ROUND) => Some(MigError::RoundsEnded),
+        Phase::Open(_) => None,
     }
 }
 
