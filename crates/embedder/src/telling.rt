@@ -4,7 +4,7 @@ use crate::takings::{TAKE_MAX, machine_of, next_draw};
 use anyhow::{Result, bail, ensure};
 use sha2::{Digest, Sha256};
 use std::alloc::Global;
-use vmig::{LiveTold, MemDisk};
+use vmig::{LiveTold, Machine, MemDisk};
 
 /// A machine that is moved to memory, and what was taken from there.
 #[derive(Drop)]
@@ -13,19 +13,39 @@ struct Teller {
     taken: Vec<u8>,
 }
 
-/// The stream of the calls that a seed draws.
+/// The stream of the calls that a seed draws. Before it a move of the same machine is aborted, after its stop and before its digest was told.
 pub fn told_bytes(alloc: Global, seed: u32) -> Result<Vec<u8>> {
-    let Ok(live) = LiveTold::new(alloc, machine_of(alloc)?) else {
-        bail!("out of memory");
-    };
-    let teller = Teller {
-        live,
-        taken: Vec::new(alloc),
-    };
-    teller.moved(seed)
+    let mut teller = Teller::new(alloc, machine_of(alloc)?)?;
+    teller.stop_untold()?;
+    teller.begun_anew(alloc)?.moved(seed)
 }
 
 impl Teller {
+    /// Nothing is sent yet.
+    fn new(alloc: Global, machine: Machine<MemDisk>) -> Result<Teller> {
+        let Ok(live) = LiveTold::new(alloc, machine) else {
+            bail!("out of memory");
+        };
+        Ok(Teller {
+            live,
+            taken: Vec::new(alloc),
+        })
+    }
+
+    /// A move up to its stop, with some of its bytes taken.
+    fn stop_untold(&mut self) -> Result<()> {
+        ensure!(self.live.begin().is_ok(), "a begin");
+        ensure!(self.live.copy().is_ok(), "a copy");
+        ensure!(self.live.stop().is_ok(), "a stop");
+        ensure!(self.live.owes(), "no digest is owed");
+        self.take(TAKE_MAX)
+    }
+
+    /// The same machine, once the move was aborted.
+    fn begun_anew(self, alloc: Global) -> Result<Teller> {
+        Teller::new(alloc, self.live.abort())
+    }
+
     /// All bytes of a move, of which the seed draws the calls.
     fn moved(self, seed: u32) -> Result<Vec<u8>> {
         let mut teller = self;
