@@ -210,11 +210,8 @@ fn round_refusal(phase: Phase) -> Option<MigError>
     ensures { result ≡ refusal_for phase LiveEvent.EndRound }
 {
     match phase {
-        Phase::Failed => Some(MigError::StreamFailed),
-        Phase::Stopped => Some(MigError::AlreadyStopped),
-        Phase::Fresh => Some(MigError::NotBegun),
         Phase::Open(LAST_ROUND) => Some(MigError::RoundsEnded),
-        Phase::Open(_) => None,
+        _ => copy_refusal(phase),
     }
 }
 
