@@ -61,7 +61,7 @@ published_fine (replies.Bytes bytes) is = cc
 published_fine (replies.Accepted count) is = cc
 
 -- One that sees a malformed chain has published nothing.
-malformed_quiet : (features : ℕ) (kind : Kind) (number : ℕ) (ram : List ℕ) (q : RingState) → has_published (reply_of (serve features kind number ram q Malformed).answer) ≡ false
+pub malformed_quiet : (features : ℕ) (kind : Kind) (number : ℕ) (ram : List ℕ) (q : RingState) → has_published (reply_of (serve features kind number ram q Malformed).answer) ≡ false
 malformed_quiet features (Network mac inbox) zero ram q = refl
 malformed_quiet features (Network mac inbox) (suc number) ram q = refl
 malformed_quiet features (Block block) number ram q = refl

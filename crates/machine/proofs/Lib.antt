@@ -28,6 +28,7 @@ pub mod Footprint
 pub mod Beside
 pub mod Asked
 pub mod Stored
+pub mod Writing
 pub mod Lacking
 mod Raised
 pub mod Running

@@ -43,3 +43,4 @@ pub mod Stored
 pub mod Turn
 pub mod MachineTurn
 pub mod Unsynced
+pub mod Writing

@@ -14,6 +14,7 @@ ghost use Rattle.machine.specs.Footprint.{asks_interrupt, device_reads, device_w
 ghost use Rattle.machine.specs.Outcome.{Outcome};
 ghost use Rattle.machine.specs.State.{DeviceState};
 ghost use Rattle.machine.specs.Stored.{HasId, copied, device_writes, indexes_in, indexes_of};
+ghost use Rattle.machine.specs.Writing.{StoringIsWrites};
 
 /// A step of a device over a RAM `w` is that step over every RAM `m` of its length that agrees with it in what the step reads, whatever they
 /// hold elsewhere. Where they agree in all but the driver's word, and that of `w` asks for no interrupt, it is that step but for the
@@ -77,4 +78,9 @@ pub fn asking_is_publishing()
 pub fn held_stays_known()
     ensures known { HeldStaysKnown }
     ensures elsewhere { PutIsElsewhere }
+{}
+
+/// What was known of a step before it, `Stores`, is what the step writes, by its reply: byte for byte, and in order.
+pub fn storing_is_writes()
+    ensures { StoringIsWrites }
 {}
