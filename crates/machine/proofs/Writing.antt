@@ -130,7 +130,7 @@ request_split q r (replies.OutByte byte) = refl
 request_split q r (replies.Bytes bytes) = refl
 request_split q r (replies.Accepted count) = refl
 
-writes_split : (w : Writing) (reply : Reply) → indexes_of (writes_of w reply) ≡ map (index_of (writing_base w)) (places_of w reply) ++ indexes_of (last_of w reply)
+pub writes_split : (w : Writing) (reply : Reply) → indexes_of (writes_of w reply) ≡ map (index_of (writing_base w)) (places_of w reply) ++ indexes_of (last_of w reply)
 writes_split nothing reply = refl
 writes_split (an_empty q first) reply = empty_split q reply
 writes_split (a_chain q c) reply = chain_split q c reply
@@ -258,7 +258,7 @@ last_bytes w reply skip count from r last are inside more last_is is =
     )
 
 -- A part of one segment.
-index_addresses : (base a n : ℕ) → base ≤ a → map (index_of base) (addresses a n) ≡ addresses (index_of base a) n
+pub index_addresses : (base a n : ℕ) → base ≤ a → map (index_of base) (addresses a n) ≡ addresses (index_of base a) n
 index_addresses base a zero above = refl
 index_addresses base a (suc n) above =
     let one : index_of base (a + 1) ≡ index_of base a + 1 = omega (arith, above) in

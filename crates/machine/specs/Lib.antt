@@ -34,6 +34,7 @@ pub mod Room
 pub mod Run
 pub mod Seen
 pub mod Shapes
+pub mod Opening
 pub mod Sound
 pub mod State
 pub mod Step

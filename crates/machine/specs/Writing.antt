@@ -2,7 +2,6 @@
 -- the writes piece after piece.
 use Rattle.std.specs.Prelude.{◌≡◌, ℕ, ◌+◌, ◌*◌, ◌-◌, ◌<◌, ◌≤◌, ◌^◌, nat_lt, Bool, true, false, List, [], ◌∷◌, ◌++◌, length, map, take, drop, Option, Some, None, slice_get, if◌then◌else◌}
 use Rattle.guestmem.specs.Address.{index_of}
-use Rattle.guestmem.specs.Lent.{is_named}
 use Rattle.guestmem.specs.Memory.{Memory}
 use Rattle.chains.specs.Footprint.{entry_piece, event_piece, index_piece, place_pieces}
 use Rattle.chains.specs.Places.{AreSegmentsInside, addresses, last_place, places}
@@ -168,7 +167,7 @@ pub record IsApartAtEnd (first : ℕ) (last : List Piece) (n : ℕ) (piece : Opt
   pub before : (p : Piece) → piece ≡ Some p → n < first → n + p.count ≤ first
   pub behind : first ≤ n → piece ≡ rest_from last (n - first)
 
--- The pieces into which the step may write, whatever its reply.
+-- Where the step may write, whatever its reply: into these segments, and into the last pieces.
 abbrev pub segments_of : Writing → List Seg
 segments_of nothing = []
 segments_of (an_empty q first) = []
@@ -180,22 +179,6 @@ last_pieces nothing = []
 last_pieces (an_empty q first) = note_pieces q
 last_pieces (a_chain q c) = published_pieces (after_take q c.slots)
 last_pieces (a_request q r) = published_pieces q
-
-abbrev pub reach_of : Writing → List Piece
-reach_of w = place_pieces (writing_base w) (places (segments_of w)) ++ last_pieces w
-
--- A byte of a piece is at one of these indexes; or none is.
-pub record IsShared (indexes : List ℕ) (p : Piece) : Type 0 where
-  pub k : ℕ
-  pub below : k < p.count
-  pub there : is_named indexes (p.at + k) ≡ true
-
-abbrev pub IsClear : List ℕ → Piece → Type 0
-IsClear indexes p = (k : ℕ) → k < p.count → is_named indexes (p.at + k) ≡ false
-
-abbrev pub TellsShared : List ℕ → Piece → Bool → Type 0
-TellsShared indexes p true = IsShared indexes p
-TellsShared indexes p false = IsClear indexes p
 
 -- It lies inside a RAM of `len` bytes.
 abbrev pub LiesInRam : ℕ → Writing → Type 0

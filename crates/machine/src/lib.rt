@@ -108,6 +108,7 @@ mod outside_call;
 mod page_log;
 mod reply;
 mod shape;
+mod sharing;
 mod state;
 mod stepped;
 mod stores;

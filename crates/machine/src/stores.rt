@@ -5,11 +5,13 @@ ghost use Rattle.std.specs.Prelude.{◌≡◌, ◌+◌, ◌<◌, ◌≤◌, ◌^
 ghost use Rattle.chains.specs.Places.{places};
 ghost use Rattle.chains.specs.Publish.{after_take};
 ghost use Rattle.machine.specs.AnyRing.{ring_in};
+ghost use Rattle.machine.specs.Opening.{TellsShared, reach_of};
 ghost use Rattle.machine.specs.Stepped.{reply_in};
 ghost use Rattle.machine.specs.Stored.{indexes_of};
 ghost use Rattle.machine.specs.Writing.{AreNear, IsApartAtEnd, IsHeldIn, IsNext, chain_places, in_two, last_of, last_pieces, no_bytes, places_of, request_places, segments_of, unit_places, writes_of, writing_in};
 
 use crate::any_ring::AnyRing;
+use crate::sharing::{pieces_meet, segments_meet};
 use crate::stepped::Stepped;
 use crate::stores::parts::{part_from, rest_from};
 use blk::{ID_SIZE, Kind, Request, SECTOR_SIZE};
@@ -86,6 +88,18 @@ impl Stores {
             );
         }
         rest_from(self.last(stepped), from - span.count)
+    }
+
+    /// Whether the step may write into a byte of this piece, whatever its answer: one of the chain's or the request's writable segments
+    /// has it, or what the step writes last. Where it may write into the driver's word (`Asking::word`), a host closes the step at once: it
+    /// reads the word before it, as the other pieces.
+    pub fn may_write(&self, piece: Piece) -> bool
+        ensures { TellsShared (indexes_of (reach_of self.now)) piece result }
+    {
+        if segments_meet(self.base, self.segments(), piece) {
+            return true;
+        }
+        pieces_meet(self.ends().as_slice(), piece)
     }
 
     /// The writable segments into which the step may write.
