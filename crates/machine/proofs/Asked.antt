@@ -61,7 +61,7 @@ published_fine (replies.Bytes bytes) is = cc
 published_fine (replies.Accepted count) is = cc
 
 -- One that sees a malformed chain has published nothing.
-malformed_quiet : (features : ℕ) (kind : Kind) (number : ℕ) (ram : List ℕ) (q : RingState) → has_published (reply_of (serve features kind number ram q Malformed).answer) ≡ false
+pub malformed_quiet : (features : ℕ) (kind : Kind) (number : ℕ) (ram : List ℕ) (q : RingState) → has_published (reply_of (serve features kind number ram q Malformed).answer) ≡ false
 malformed_quiet features (Network mac inbox) zero ram q = refl
 malformed_quiet features (Network mac inbox) (suc number) ram q = refl
 malformed_quiet features (Block block) number ram q = refl
@@ -225,7 +225,7 @@ if_asks P Q (Ok asking) f h = f asking h
 if_asks P Q (Err error) f h = h
 
 -- What is known over a window, over another that agrees with it in what is held.
-agree_on : (a b c : List ℕ) (ps : List Piece) → AgreeOn a b ps → AgreeOn b c ps → AgreeOn a c ps
+pub agree_on : (a b c : List ℕ) (ps : List Piece) → AgreeOn a b ps → AgreeOn b c ps → AgreeOn a c ps
 agree_on a b c [] h k = tt
 agree_on a b c (p ∷ ps) h k = (λ i below. h.0 i below ∙ k.0 i below, agree_on a b c ps h.1 k.1)
 
@@ -259,7 +259,7 @@ looks_on d w m held pick q answer same agree answers known =
       there,
     )
 
-known_ring : (ring : Option RingState) (d : DeviceState) (w m : List ℕ) (held : List Piece) (pick : ℕ) (answer : Next) → length w ≡ length m → AgreeOn w m held → MayAnswer ring w answer
+pub known_ring : (ring : Option RingState) (d : DeviceState) (w m : List ℕ) (held : List Piece) (pick : ℕ) (answer : Next) → length w ≡ length m → AgreeOn w m held → MayAnswer ring w answer
     → ((o : Outcome) (seen : Next) → MayLook (wanted_of d.kind pick) ring w o seen → Knows held w (reads_at d w pick ring o seen))
     → ((o : Outcome) (seen : Next) → MayLook (wanted_of d.kind pick) ring m o seen → Knows held m (reads_at d m pick ring o seen)) × MayAnswer ring m answer
 known_ring None d w m held pick answer same agree answers known = (λ o seen may. knows_on held (request_reads d.kind (pick - 1) (advanced_at d pick)) w m agree (known o seen tt), tt)

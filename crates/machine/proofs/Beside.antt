@@ -28,7 +28,7 @@ use Rattle.region.specs.declared.region.Region.{Region}
 use Rattle.machine.specs.Parked.{IsParked, ParkedSeen, WasHeld, back_with, parked_sectors}
 use Rattle.machine.specs.Held.{IsHeld}
 use Rattle.machine.specs.declared.shape.Shape.{Shape}
-use Rattle.machine.specs.Footprint.{Publishing, asks_at, has_published, publishing, asks_by, asks_interrupt, device_word, raised, reads_of, step_asks, step_reads, word_by}
+use Rattle.machine.specs.Footprint.{Publishing, asks_at, has_published, publishing, asks_by, asks_interrupt, device_word, raised, reads_of, step_asks, step_reads, step_word, word_by}
 use Rattle.machine.specs.Outcome.{Outcome, outcome_of}
 use Rattle.machine.specs.Seen.{DeviceSeen, Seen, state_of}
 use Rattle.machine.specs.Shapes.{made_as}
@@ -435,6 +435,12 @@ by_items : (old new : Seen) (dev pick : ℕ) (reply : Reply) (h : IsApplied old 
 unfolding applied_by
 by_items old new dev pick reply h ram after has bytes same written = refl
 
+pub local_items : (old new : Seen) (dev pick : ℕ) (reply : Reply) (h : IsApplied old (Step dev pick) reply new) (ram after : Memory) (bytes : IsBytes ram.bytes) (same : length old.memory.bytes ≡ length ram.bytes)
+    (reads : AgreeOn old.memory.bytes ram.bytes (step_reads (state_of old) dev pick (outcome_of reply) h.has.seen)) (word : AgreeOn old.memory.bytes ram.bytes (step_word (state_of old) dev pick h.has.seen reply))
+    (written : IsWritten h.effect ram after) → items_of (applied_local old new dev pick reply h ram after bytes same reads word written).effect ≡ items_of h.effect
+unfolding applied_local
+local_items old new dev pick reply h ram after bytes same reads word written = by_items old new dev pick reply h ram after _ bytes same written
+
 held_items : (p next : ParkedSeen) (window after : Memory) (held : List Piece) (dev pick : ℕ) (reply : Reply) (h : IsApplied (back_with p window) (Step dev pick) reply (back_with next after))
     (reads : KnowsReads held (state_of (back_with p window)) dev pick) (word : KnowsWord held (state_of (back_with p window)) dev pick) (ram written : Memory) (bytes : IsBytes ram.bytes) (same : length window.bytes ≡ length ram.bytes)
     (agree : AgreeOn window.bytes ram.bytes held) (is : IsWritten h.effect ram written) → items_of (held_beside p next window after held dev pick reply h reads word ram written bytes same agree is).effect ≡ items_of h.effect
@@ -470,7 +476,7 @@ unfolding applied_last
 open_items old new dev pick reply h ram after bytes same reads quiet written = last_items _ old new dev pick reply h ram after refl _ bytes same written
 
 -- The machine that was lent made it.
-step_of : (m : Seen) (p q : ParkedSeen) (dev pick : ℕ) (reply : Reply) (f : Effect) (x : Memory) → m.devices ≡ p.devices → (a : IsApplied (back_with p m.memory) (Step dev pick) reply (back_with q x)) → items_of a.effect ≡ items_of f
+pub step_of : (m : Seen) (p q : ParkedSeen) (dev pick : ℕ) (reply : Reply) (f : Effect) (x : Memory) → m.devices ≡ p.devices → (a : IsApplied (back_with p m.memory) (Step dev pick) reply (back_with q x)) → items_of a.effect ≡ items_of f
     → x.bytes ≡ set_all m.memory.bytes f.writes → x.versions ≡ q.versions → IsStepOf m dev pick reply f q
 step_of m p q dev pick reply f x devices a items bytes versions =
     let P : List DeviceSeen → Type 0 = λ ds. (b : IsApplied (record { memory = m.memory; devices = ds }) (Step dev pick) reply (back_with q x)) × (items_of b.effect ≡ items_of f) in

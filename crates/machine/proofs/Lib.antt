@@ -28,6 +28,9 @@ pub mod Footprint
 pub mod Beside
 pub mod Asked
 pub mod Stored
+pub mod Writing
+pub mod Meeting
+pub mod Opening
 pub mod Lacking
 mod Raised
 pub mod Running

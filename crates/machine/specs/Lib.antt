@@ -34,6 +34,7 @@ pub mod Room
 pub mod Run
 pub mod Seen
 pub mod Shapes
+pub mod Opening
 pub mod Sound
 pub mod State
 pub mod Step
@@ -43,3 +44,4 @@ pub mod Stored
 pub mod Turn
 pub mod MachineTurn
 pub mod Unsynced
+pub mod Writing

@@ -3,6 +3,8 @@
 //! The layout is named by feature bit 34, which is fixed while a queue is ready; devices are generic over `Ring` and see
 //! neither. This type keeps the ring of a queue and is no `Ring` itself: each of its calls would tell the layout apart again.
 
+mod storing;
+
 ghost use Rattle.std.specs.Prelude.{◌≡◌, ◌<◌, ◌≤◌, ◌^◌, ℕ, List, take, true, false, length, None};
 ghost use Rattle.chains.specs.Footprint.{event_piece, look_pieces, quiet_word};
 ghost use Rattle.chains.specs.Lacking.{TellsLacking};

@@ -3,14 +3,17 @@
 //! A host that makes the step beside the guest (`Parked::step_over`) takes this value before it, and so knows where the word lies, which word
 //! asks for nothing, and, once the true word was read, whether that asks for an interrupt.
 
-ghost use Rattle.std.specs.Prelude.{◌≡◌, ◌<◌, ◌^◌, ℕ, List, take};
-ghost use Rattle.chains.specs.Footprint.{event_piece, quiet_word};
+ghost use Rattle.std.specs.Prelude.{◌≡◌, ◌<◌, ◌^◌, ℕ, IsTrue, List, take};
+ghost use Rattle.chains.specs.Footprint.{KnowsPiece, event_piece, quiet_word};
 ghost use Rattle.chains.specs.Publish.{is_interrupt_due};
 ghost use Rattle.machine.specs.AnyRing.{ring_in};
 ghost use Rattle.machine.specs.Asked.{IsWordAt};
+ghost use Rattle.machine.specs.Opening.{TellsShared};
+ghost use Rattle.machine.specs.Stored.{indexes_of};
 
 use crate::any_ring::AnyRing;
-use chains::Piece;
+use crate::sharing::pieces_meet;
+use chains::{Piece, is_held};
 use std::marker::Model;
 
 /// What a step publishes, if it publishes a chain: the ring as it is then, and the slots of the chain.
@@ -47,6 +50,21 @@ impl Asking {
         ensures { result ≡ event_piece self.now.ring }
     {
         self.ring.word()
+    }
+
+    /// Whether a byte of the word lies in one of these pieces. Where it lies in one of those that are held, the step reads it beside all else:
+    /// so the quiet word cannot be put there.
+    pub fn shares(&self, held: &[Piece]) -> bool
+        ensures { TellsShared (indexes_of held.now) (event_piece self.now.ring) result }
+    {
+        pieces_meet(held, self.ring.word())
+    }
+
+    /// Whether the whole word lies in one of the pieces that are held. Then the step over the window is closed at once.
+    pub fn is_held(&self, held: &[Piece]) -> bool
+        ensures { IsTrue result → KnowsPiece held.now (event_piece self.now.ring) }
+    {
+        is_held(held, self.ring.word())
     }
 
     /// A word that asks for no interrupt, in as many bytes as the piece of the word has.

@@ -77,7 +77,8 @@
 //!   RAM back, and so do steps, but for those that are made over a window.
 //! - A step may be made while the RAM is lent and the guest runs: over a window, a second memory of RAM's size into which the caller copies
 //!   the pieces for which `Parked::lacks` asks. `Parked::asking` says before it which word of the driver is read last, which word is quiet
-//!   meanwhile, and whether the true one asks for an interrupt; `Parked::step_over` makes the step, and `Parked::end` ends it. It is that step
+//!   meanwhile, and whether the true one asks for an interrupt; `Parked::storing` says, by the step's answer, which pieces are to be stored in
+//!   RAM after it, in which order (`laws::storing_is_writes`); `Parked::step_over` makes the step, and `Parked::end` ends it. It is that step
 //!   of the machine, whatever its RAM holds elsewhere (`laws::held_is_beside`, `beside_is_step`, `asking_is_publishing`), and reads and writes
 //!   no other pieces (`laws::device_steps_are_local`, `stores_are_writes`).
 //! - `are_disks_of` says whether disks are those of some devices, in their order.
@@ -107,8 +108,10 @@ mod outside_call;
 mod page_log;
 mod reply;
 mod shape;
+mod sharing;
 mod state;
 mod stepped;
+mod stores;
 mod turn;
 mod work;
 
@@ -130,5 +133,6 @@ pub use reply::{Refusal, Reply};
 pub use shape::Shape;
 pub use state::{DeviceState, offered};
 pub use stepped::Stepped;
+pub use stores::Stores;
 pub use turn::{Turn, TurnEnd, goes_on};
 pub use work::Work;

@@ -9,6 +9,7 @@ mod asking;
 mod first_pick;
 mod lacking;
 mod outside;
+mod storing;
 mod unsynced;
 
 ghost use Rattle.std.specs.Prelude.{◌≡◌, ◌≤◌, ◌<◌, ℕ, List, IfOk, length, take, if◌then◌else◌};

@@ -11,9 +11,11 @@ ghost use Rattle.machine.specs.Asked.{AskedIsDue, AskingIsPublishing, HeldStaysK
 ghost use Rattle.machine.specs.Beside.{AppliedIsLocal, AppliedWordIsLast, BesideIsStep, EffectsAreLocal, HeldIsBeside, OpenIsStep, QuietIsOpen, WordIsLast, WrittenIsThere};
 ghost use Rattle.machine.specs.DeviceStep.{MayLook, device_step, looked_at, wanted_of};
 ghost use Rattle.machine.specs.Footprint.{asks_interrupt, device_reads, device_word, raised_if};
+ghost use Rattle.machine.specs.Opening.{ApartIsOpen, ApartIsStep, HeldWordIsClosed, HeldWordIsStep};
 ghost use Rattle.machine.specs.Outcome.{Outcome};
 ghost use Rattle.machine.specs.State.{DeviceState};
 ghost use Rattle.machine.specs.Stored.{HasId, copied, device_writes, indexes_in, indexes_of};
+ghost use Rattle.machine.specs.Writing.{StoringIsWrites};
 
 /// A step of a device over a RAM `w` is that step over every RAM `m` of its length that agrees with it in what the step reads, whatever they
 /// hold elsewhere. Where they agree in all but the driver's word, and that of `w` asks for no interrupt, it is that step but for the
@@ -77,4 +79,22 @@ pub fn asking_is_publishing()
 pub fn held_stays_known()
     ensures known { HeldStaysKnown }
     ensures elsewhere { PutIsElsewhere }
+{}
+
+/// What was known of a step before it, `Stores`, is what the step writes, by its reply: byte for byte, and in order.
+pub fn storing_is_writes()
+    ensures { StoringIsWrites }
+{}
+
+/// A step is open where neither a piece that is held nor a byte into which the step may write has a byte of the driver's word (`Asking::shares`,
+/// `Stores::may_write`) and the quiet word was put into the window: whatever its reply, it is ended by the word that is read last.
+pub fn apart_is_open()
+    ensures ended { ApartIsOpen }
+    ensures step { ApartIsStep }
+{}
+
+/// A step is closed at once where the driver's word is known by the pieces that are held (`Asking::is_held`): whatever its reply.
+pub fn held_word_is_closed()
+    ensures closed { HeldWordIsClosed }
+    ensures step { HeldWordIsStep }
 {}
