@@ -5,6 +5,7 @@
 
 mod beside;
 mod calls;
+mod held;
 
 ghost use Rattle.std.specs.Prelude.{◌≡◌, ◌*◌, ◌<◌, ◌≤◌, length, map, None, Some, IfOk, IfErr, slice_get};
 ghost use Rattle.region.specs.Address.{address};
