@@ -27,6 +27,8 @@ pub mod At
 pub mod Footprint
 pub mod Beside
 pub mod Asked
+mod Holding
+mod Touching
 pub mod Stored
 pub mod Writing
 pub mod Meeting

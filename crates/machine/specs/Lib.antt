@@ -28,6 +28,8 @@ pub mod Outside
 pub mod OutsideLaws
 pub mod PageLog
 pub mod Parked
+pub mod Serials
+pub mod Pieces
 pub mod QueuePositions
 pub mod Refusal
 pub mod Room

@@ -2,6 +2,7 @@
 
 mod beside;
 mod outside;
+mod pieces;
 mod work;
 
 ghost use Rattle.machine.specs.AppliedLaws.{HonestDisksGiveTheirs, AnyDiskActsAlike, RefusedChangesNothing};
@@ -17,6 +18,7 @@ pub use beside::{
     effects_are_local, held_is_beside, held_stays_known, stores_are_writes,
 };
 pub use outside::{answers_are_their_parts, asked_is_taken, waiting_is_idle};
+pub use pieces::{touched_is_stale, untouched_devices_stay};
 pub use work::{idle_without_work, turn_is_steps, work_gets_on};
 
 /// What an effect does not touch stays as it was.

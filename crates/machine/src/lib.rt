@@ -81,6 +81,9 @@
 //!   RAM after it, in which order (`laws::storing_is_writes`); `Parked::step_over` makes the step, and `Parked::end` ends it. It is that step
 //!   of the machine, whatever its RAM holds elsewhere (`laws::held_is_beside`, `beside_is_step`, `asking_is_publishing`), and reads and writes
 //!   no other pieces (`laws::device_steps_are_local`, `stores_are_writes`).
+//! - `Serials` counts how often each device was touched, and `Pieces` are those that are held of a step: stale once its device was touched since
+//!   they were begun (`laws::touched_is_stale`, `untouched_devices_stay`). `Parked::step_held` makes the step with them, where they are not stale
+//!   and lack none. It asks for both by itself, and where the step is not made nothing has changed.
 //! - `are_disks_of` says whether disks are those of some devices, in their order.
 //! - `laws`: what an effect does not touch stays, what it touches exists, the shape stays. Equal outcomes give equal effects,
 //!   replies and machines, whatever a guest wrote into its rings. A step of a sound machine stays within it, keeps its shape
@@ -106,7 +109,9 @@ mod machine;
 mod new_error;
 mod outside_call;
 mod page_log;
+mod pieces;
 mod reply;
+mod serials;
 mod shape;
 mod sharing;
 mod state;
@@ -129,7 +134,9 @@ pub use machine::{DEVICES_MAX, Machine, Parked, Room, is_base};
 pub use new_error::NewError;
 pub use outside_call::OutsideCall;
 pub use page_log::PageLog;
+pub use pieces::{NotMade, Pieces};
 pub use reply::{Refusal, Reply};
+pub use serials::Serials;
 pub use shape::Shape;
 pub use state::{DeviceState, offered};
 pub use stepped::Stepped;

@@ -5,6 +5,7 @@
 
 mod beside;
 mod calls;
+mod held;
 mod storing;
 
 ghost use Rattle.std.specs.Prelude.{◌≡◌, ◌*◌, ◌<◌, ◌≤◌, length, map, None, Some, IfOk, IfErr, slice_get};
