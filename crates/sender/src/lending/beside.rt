@@ -13,12 +13,13 @@ ghost use Rattle.machine.specs.Beside.{KnowsReads, window_memory};
 ghost use Rattle.machine.specs.Parked.{back_with};
 ghost use Rattle.machine.specs.Seen.{state_of};
 ghost use Rattle.machine.specs.Stepped.{reply_in};
+ghost use Rattle.machine.specs.Writing.{StepStores};
 ghost use Rattle.sender.specs.Beside.{IsLiveMadeOver, TriesOver, live_ended};
 
 use crate::lending::LiveParked;
 use crate::mig_error::MigError;
 use guestmem::NoMemory;
-use machine::{Asking, Disk, Piece, Stepped};
+use machine::{Asking, Disk, Piece, Stepped, Stores};
 use region::Region;
 use wire::Digesting;
 
@@ -59,6 +60,24 @@ impl<D: Disk, W: Digesting> LiveParked<D, W> {
         let (asking, window, parked) = self.parked.asking(window, dev, pick);
         let same = LiveParked { parked, ..self };
         (asking, window, same)
+    }
+
+    /// What the step of this pick writes by, by the pieces that the window holds (`Parked::storing`). No phase refuses it.
+    pub fn storing(
+        self,
+        window: Region,
+        dev: u8,
+        pick: u8,
+    ) -> (Result<Stores, NoMemory>, Region, LiveParked<D, W>)
+        requires size { length window.content ≡ PAGE_SIZE * length self.parked.versions }
+        ensures storing { IfOk result.0 (λ stores. StepStores (state_of (back_with self.parked (window_memory self.parked window))) dev pick stores) }
+        ensures content { result.1.content ≡ window.content }
+        ensures place { address result.1 ≡ address window }
+        ensures machine { result.2 ≡ self }
+    {
+        let (storing, window, parked) = self.parked.storing(window, dev, pick);
+        let same = LiveParked { parked, ..self };
+        (storing, window, same)
     }
 
     /// Makes a step over a window, as `Parked::step_over` does. Exactly the items that the step writes into become dirty: a page of which it
