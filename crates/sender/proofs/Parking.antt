@@ -1,8 +1,8 @@
 -- A machine that is being migrated, whose RAM is lent and given back.
-use Rattle.std.proofs.Common.{◌≡◌, ℕ, ◌*◌, ◌/◌, ◌<◌, Bool, true, List, [], ◌∷◌, length, map, set, refl, sym, ap, subst, ◌∙◌, arith}
+use Rattle.std.proofs.Common.{◌≡◌, ℕ, ◌*◌, ◌/◌, ◌<◌, Bool, true, List, [], ◌∷◌, get_or, length, map, set, refl, sym, ap, subst, ◌∙◌, arith}
 use Rattle.std.proofs.lemmas.List.{length-set}
 use Rattle.guestmem.specs.Item.{MayPages, after_all, page}
-use Rattle.guestmem.specs.Lent.{page_items}
+use Rattle.guestmem.specs.Lent.{AreBelow, page_items}
 use Rattle.guestmem.specs.Memory.{IsMemory}
 use Rattle.machine.specs.Layout.{Layout, layout_of, size_of}
 use Rattle.machine.specs.Parked.{ParkedSeen, machine_marked}
@@ -60,6 +60,10 @@ noted_pages d pages = all_noted d (page_items pages) ∙ ap (λ (s : List Bool).
 pub length-with_pages : (s : List Bool) (pages : List ℕ) → length (with_pages s pages) ≡ length s
 length-with_pages s [] = refl
 length-with_pages s (n ∷ pages) = length-with_pages (set s n true) pages ∙ length-set s n true
+
+-- Pages of its RAM have a place in the set.
+pub marks_fit : (p : ParkedSeen) (phase : Phase) (due : List Bool) (d : Dirty) (at : ℕ) (pages : List ℕ) → SetsFit (parked_layout p) phase due d.set d.firsts.items at → AreBelow (length p.versions) pages → AreBelow (length d.set) pages
+marks_fit p phase due d at pages was below k x lt = (may_page (parked_layout p) phase due d at (get_or pages k x) was (below k x lt)).place
 
 -- So may that of a machine whose RAM is not lent.
 pub may_marks : (m : Seen) (phase : Phase) (due : List Bool) (d : Dirty) (at : ℕ) → IsLive m phase due d.set d.firsts.items at → MayPages may_take d (length m.memory.bytes)
