@@ -33,6 +33,7 @@ pub mod Stored
 pub mod Writing
 pub mod Meeting
 pub mod Opening
+pub mod Emptiness
 pub mod Lacking
 mod Raised
 pub mod Running

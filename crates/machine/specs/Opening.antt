@@ -1,12 +1,12 @@
 -- Whether pieces of RAM share a byte; and what follows for a step over a window: whether it may be made while the window has a quiet word.
-use Rattle.std.specs.Prelude.{◌≡◌, ℕ, ◌+◌, ◌<◌, ◌&&◌, Bool, true, false, List, ◌++◌, length, Option, Some, None, if◌then◌else◌}
+use Rattle.std.specs.Prelude.{◌≡◌, ℕ, ◌+◌, ◌<◌, ◌&&◌, Bool, true, false, List, [], ◌∷◌, ◌++◌, length, Option, Some, None, if◌then◌else◌}
 use Rattle.guestmem.specs.Lent.{is_named}
 use Rattle.guestmem.specs.Memory.{Memory}
 use Rattle.guestmem.specs.Number.{IsBytes}
 use Rattle.guestmem.specs.Writes.{set_all}
 use Rattle.chains.specs.Footprint.{AgreeOn, Knows, place_pieces}
 use Rattle.chains.specs.Places.{places}
-use Rattle.chains.specs.Publish.{after_take}
+use Rattle.chains.specs.State.{RingState}
 use Rattle.chains.specs.declared.lacking.Piece.{Piece}
 use Rattle.machine.specs.Applied.{IsApplied}
 use Rattle.machine.specs.Asked.{IsApart, IsElsewhereSame, IsQuietIn, StepAsks}
@@ -14,8 +14,8 @@ use Rattle.machine.specs.Beside.{IsStepOf, IsSteppedBeside, IsSteppedOpen, Knows
 use Rattle.machine.specs.Footprint.{Publishing, asks_at, has_published, word_of}
 use Rattle.machine.specs.Parked.{ParkedSeen, back_with}
 use Rattle.machine.specs.Seen.{Seen, state_of}
-use Rattle.machine.specs.Stored.{indexes_of, note_pieces, published_pieces}
-use Rattle.machine.specs.Writing.{StepStores, Writing, last_pieces, segments_of, writing_base}
+use Rattle.machine.specs.Stored.{indexes_of}
+use Rattle.machine.specs.Writing.{StepStores, Writing, an_empty, last_pieces, segments_of, writing_base}
 use Rattle.machine.specs.declared.event.Event.TheVariants.{Step}
 use Rattle.machine.specs.declared.reply.Reply.{Reply}
 
@@ -83,3 +83,14 @@ HeldWordIsStep = (m : Seen) (p next : ParkedSeen) (window after : Memory) (held 
     → IsBytes m.memory.bytes → m.devices ≡ p.devices → m.memory.versions ≡ window.versions → after.versions ≡ next.versions → length window.bytes ≡ length m.memory.bytes → AgreeOn window.bytes m.memory.bytes held
     → KnowsReads held (state_of (back_with p window)) dev pick → StepAsks (state_of (back_with p window)) dev pick asking → Knows held window.bytes (word_of asking)
     → IsStepOf m dev pick reply h.effect next
+
+-- A step that finds its queue empty is the step of every machine whose RAM has, in the one piece by which the queue is empty, what the window
+-- has there. So it is that of the machine at the moment at which this piece was read again.
+abbrev pub EmptyIsClosed : Type 0
+EmptyIsClosed = (p next : ParkedSeen) (window after : Memory) (dev pick : ℕ) (q : RingState) (first : Piece) (reply : Reply) (h : IsApplied (back_with p window) (Step dev pick) reply (back_with next after))
+    → StepStores (state_of (back_with p window)) dev pick (an_empty q first) → IsSteppedBeside p window.bytes (first ∷ []) dev pick reply h.effect next
+
+abbrev pub EmptyIsStep : Type 0
+EmptyIsStep = (m : Seen) (p next : ParkedSeen) (window after : Memory) (dev pick : ℕ) (q : RingState) (first : Piece) (reply : Reply) (h : IsApplied (back_with p window) (Step dev pick) reply (back_with next after))
+    → IsBytes m.memory.bytes → m.devices ≡ p.devices → m.memory.versions ≡ window.versions → after.versions ≡ next.versions → length window.bytes ≡ length m.memory.bytes → AgreeOn window.bytes m.memory.bytes (first ∷ [])
+    → StepStores (state_of (back_with p window)) dev pick (an_empty q first) → IsStepOf m dev pick reply h.effect next

@@ -5,8 +5,8 @@ use Rattle.guestmem.specs.Address.{index_of}
 use Rattle.guestmem.specs.Memory.{Memory}
 use Rattle.chains.specs.Footprint.{entry_piece, event_piece, index_piece, place_pieces}
 use Rattle.chains.specs.Places.{AreSegmentsInside, addresses, last_place, places}
-use Rattle.chains.specs.Publish.{after_take}
-use Rattle.chains.specs.State.{HasAreas, RingState}
+use Rattle.chains.specs.Publish.{after_take, event_note}
+use Rattle.chains.specs.State.{HasAreas, MayRing, RingState}
 use Rattle.chains.specs.declared.chain.Chain.{Chain}
 use Rattle.chains.specs.declared.lacking.Piece.{Piece}
 use Rattle.chains.specs.declared.next.Next.{Next}
@@ -180,10 +180,23 @@ last_pieces (an_empty q first) = note_pieces q
 last_pieces (a_chain q c) = published_pieces (after_take q c.slots)
 last_pieces (a_request q r) = published_pieces q
 
+-- The bytes of the note that is written where a queue is empty; none without event indexes.
+abbrev pub note_bytes : RingState → List ℕ
+note_bytes q = map (λ w. w.byte) (event_note q)
+
+abbrev pub note_in : Writing → List ℕ
+note_in (an_empty q first) = note_bytes q
+note_in _ = []
+
+-- The piece that is to be read again once the note is stored, where there is one.
+abbrev pub second_look : Writing → Option Piece
+second_look (an_empty q first) = if q.has_event_index then Some first else None
+second_look _ = None
+
 -- It lies inside a RAM of `len` bytes.
 abbrev pub LiesInRam : ℕ → Writing → Type 0
 LiesInRam len nothing = Unit {0}
-LiesInRam len (an_empty q first) = HasAreas len q
+LiesInRam len (an_empty q first) = HasAreas len q × MayRing q
 LiesInRam len (a_chain q c) = HasAreas len q × AreSegmentsInside q.base len c.writable
 LiesInRam len (a_request q r) = HasAreas len q × AreSegmentsInside q.base len r.writable
 
@@ -207,3 +220,8 @@ in_two (p ∷ q ∷ ps) = p ∷ q ∷ ps
 abbrev pub AreNear : List Piece → Type 0
 AreNear [] = Unit {0}
 AreNear (p ∷ ps) = (p.at + p.count < 2 ^ 64) × AreNear ps
+
+-- A step that finds its queue empty writes its note, and nothing else.
+abbrev pub EmptyWritesNote : Type 0
+EmptyWritesNote = (p next : ParkedSeen) (window after : Memory) (dev pick : ℕ) (h : IsApplied (back_with p window) (Step dev pick) Idle (back_with next after)) (q : RingState) (first : Piece)
+    → StepStores (state_of (back_with p window)) dev pick (an_empty q first) → h.effect.writes ≡ event_note q

@@ -8,7 +8,7 @@ ghost use Rattle.machine.specs.AnyRing.{ring_in};
 ghost use Rattle.machine.specs.Opening.{TellsShared, reach_of};
 ghost use Rattle.machine.specs.Stepped.{reply_in};
 ghost use Rattle.machine.specs.Stored.{indexes_of};
-ghost use Rattle.machine.specs.Writing.{AreNear, IsApartAtEnd, IsHeldIn, IsNext, chain_places, in_two, last_of, last_pieces, no_bytes, places_of, request_places, segments_of, unit_places, writes_of, writing_in};
+ghost use Rattle.machine.specs.Writing.{AreNear, IsApartAtEnd, IsHeldIn, IsNext, chain_places, in_two, last_of, last_pieces, no_bytes, note_in, places_of, request_places, second_look, segments_of, unit_places, writes_of, writing_in};
 
 use crate::any_ring::AnyRing;
 use crate::sharing::{pieces_meet, segments_meet};
@@ -100,6 +100,29 @@ impl Stores {
             return true;
         }
         pieces_meet(self.ends().as_slice(), piece)
+    }
+
+    /// The bytes of the note by which the step that finds its queue empty asks the driver for a notification, as many as its piece has, which
+    /// `next` gives for the answer `Stepped::Idle`. A host stores them before it makes that step, and then looks again (`second_look`).
+    pub fn note(&self) -> [u8; 4]
+        ensures { take (length (note_in self.now)) result ≡ note_in self.now }
+    {
+        match self.target {
+            Target::Empty(_) => self.ring.note_bytes(),
+            Target::Nothing | Target::Chain(_) | Target::Request(_) => [0; 4],
+        }
+    }
+
+    /// The piece that is to be read once more after the note of an empty queue is stored: the driver's index, or the descriptor at the
+    /// taking position. Where it is as in the window, the step is made: it is that of this moment. Where it is not, nothing is to be
+    /// made, and the walk goes on with what is there now; without this look a kick would be lost. `None` says that the step writes no note.
+    pub fn second_look(&self) -> Option<Piece>
+        ensures { result ≡ second_look self.now }
+    {
+        match self.target {
+            Target::Empty(first) if self.ring.has_event_index() => Some(first),
+            _ => None,
+        }
     }
 
     /// The writable segments into which the step may write.

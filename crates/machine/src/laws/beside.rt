@@ -11,11 +11,11 @@ ghost use Rattle.machine.specs.Asked.{AskedIsDue, AskingIsPublishing, HeldStaysK
 ghost use Rattle.machine.specs.Beside.{AppliedIsLocal, AppliedWordIsLast, BesideIsStep, EffectsAreLocal, HeldIsBeside, OpenIsStep, QuietIsOpen, WordIsLast, WrittenIsThere};
 ghost use Rattle.machine.specs.DeviceStep.{MayLook, device_step, looked_at, wanted_of};
 ghost use Rattle.machine.specs.Footprint.{asks_interrupt, device_reads, device_word, raised_if};
-ghost use Rattle.machine.specs.Opening.{ApartIsOpen, ApartIsStep, HeldWordIsClosed, HeldWordIsStep};
+ghost use Rattle.machine.specs.Opening.{ApartIsOpen, ApartIsStep, EmptyIsClosed, EmptyIsStep, HeldWordIsClosed, HeldWordIsStep};
 ghost use Rattle.machine.specs.Outcome.{Outcome};
 ghost use Rattle.machine.specs.State.{DeviceState};
 ghost use Rattle.machine.specs.Stored.{HasId, copied, device_writes, indexes_in, indexes_of};
-ghost use Rattle.machine.specs.Writing.{StoringIsWrites};
+ghost use Rattle.machine.specs.Writing.{EmptyWritesNote, StoringIsWrites};
 
 /// A step of a device over a RAM `w` is that step over every RAM `m` of its length that agrees with it in what the step reads, whatever they
 /// hold elsewhere. Where they agree in all but the driver's word, and that of `w` asks for no interrupt, it is that step but for the
@@ -97,4 +97,12 @@ pub fn apart_is_open()
 pub fn held_word_is_closed()
     ensures closed { HeldWordIsClosed }
     ensures step { HeldWordIsStep }
+{}
+
+/// A step that finds its queue empty reads one piece and writes its note. So where that piece is read again once the note is stored
+/// (`Stores::second_look`), and is as in the window, the step is the machine's at that later moment: a kick that came before it is not lost.
+pub fn empty_is_closed()
+    ensures closed { EmptyIsClosed }
+    ensures step { EmptyIsStep }
+    ensures note { EmptyWritesNote }
 {}

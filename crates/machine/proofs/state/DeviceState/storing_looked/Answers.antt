@@ -15,10 +15,10 @@ pub new-requires : goal.new-requires
 new-requires c =
     let q = ring_in c.args.ring in
     let look = looked_is c.args.self.now c.args.pick q c.requires.looked in
-    let areas = (looked_ring (length c.args.ram.now.bytes) c.args.self.now c.args.pick q c.requires.sound look).areas in
+    let ring = looked_ring (length c.args.ram.now.bytes) c.args.self.now c.args.pick q c.requires.sound look in
     let own : c.ram_base-base.result ≡ c.args.self.now.registers.ram_base = c.ram_base-base.ensures ∙ ap (λ (d : DeviceState). d.registers.ram_base) c.self.view_is in
     let base : c.ram_base-base.result ≡ q.base = own ∙ ap (λ (r : RingState). r.base) (sym look.is) in
-    rw c.next_into.ensures.ring (record { len = length c.args.ram.now.bytes; few = omega (arith, c.recall.ensures.sound.pages, c.recall.ensures.sound.few); lies = areas; base_is = base })
+    rw c.next_into.ensures.ring (record { len = length c.args.ram.now.bytes; few = omega (arith, c.recall.ensures.sound.pages, c.recall.ensures.sound.few); lies = (ring.areas, ring.may); base_is = base })
 
 pub new-requires-in-Chain : goal.new-requires-in-Chain
 new-requires-in-Chain c =
