@@ -23,3 +23,4 @@ pub mod ParkedCalls
 pub mod Marks
 pub mod Guests
 pub mod Beside
+pub mod Held
