@@ -24,3 +24,4 @@ pub mod Marks
 pub mod Guests
 pub mod Beside
 pub mod HandedIn
+pub mod Held

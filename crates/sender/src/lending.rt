@@ -2,6 +2,7 @@
 
 mod beside;
 mod calls;
+mod held;
 mod told;
 
 ghost use Rattle.std.specs.Prelude.{◌≡◌, ◌+◌, ◌*◌, ◌<◌, ◌≤◌, ◌^◌, ◌++◌, [], Some, drop, false, length, min, take};

@@ -58,7 +58,8 @@
 //!   bytes that a disk outside gave want the RAM back; so does a step, unless it is made over a window.
 //! - A step may be made over a window meanwhile (`LiveParked::lacks`, `asking`, `step_over`, `end`; `specs/Beside`): in the history that is
 //!   the guest's writes of the pages that it had written till then, as the step saw them, and the step (`laws::steps_over_are_beside`).
-//!   Exactly the items that it writes into become dirty.
+//!   Exactly the items that it writes into become dirty. `step_held` makes it with the pieces that are held of it, where they are all that it
+//!   reads and not stale (`Parked::step_held`); where it is not made nothing becomes dirty.
 //! - Pages may be named later (`specs/Marks`): by a further return, or by `mark`, which needs no loan. Until then the machine is *behind*
 //!   its history by no more than these pages: if some of them were dirty too, all that is promised of a history would hold. Every call,
 //!   loan and taking may come meanwhile, but no end of a round and no stop. A begin, which makes every item due, ends it too. A page that
