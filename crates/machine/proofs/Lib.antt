@@ -55,3 +55,4 @@ mod Alike
 mod Unsynced
 mod OfShapes
 mod Handing
+mod TurnBeside

@@ -44,6 +44,7 @@ pub mod StepLaws
 pub mod Stepped
 pub mod Stored
 pub mod Turn
+pub mod TurnBeside
 pub mod MachineTurn
 pub mod Unsynced
 pub mod Writing

@@ -19,7 +19,7 @@ pub use beside::{
 };
 pub use outside::{answers_are_their_parts, asked_is_taken, waiting_is_idle};
 pub use pieces::{touched_is_stale, untouched_devices_stay};
-pub use work::{idle_without_work, turn_is_steps, work_gets_on};
+pub use work::{beside_is_once, idle_without_work, turn_is_steps, work_gets_on};
 
 /// What an effect does not touch stays as it was.
 pub fn untouched_stays()

@@ -141,5 +141,5 @@ pub use shape::Shape;
 pub use state::{DeviceState, offered};
 pub use stepped::Stepped;
 pub use stores::Stores;
-pub use turn::{Turn, TurnEnd, goes_on};
+pub use turn::{Plan, Turn, TurnEnd, goes_on};
 pub use work::Work;

@@ -3,11 +3,14 @@
 //! A host that writes this loop itself can be wrong in four ways: it makes no bound, and a guest keeps it for ever; it puts two messages
 //! into one buffer; it forgets that a disk has to be flushed before a step; or it comes back at once to a step that was refused memory.
 //!
+//! A host whose guest runs makes the steps itself, over a window: `Parked::plan` names each, and `Turn::after` says whether the turn goes on.
+//!
 //! The bound is the turn's and not a call's: each step that is made or passed over counts it down. So a loop around the call ends too.
 
 ghost use Rattle.std.specs.Prelude.{◌≡◌, ◌≤◌, ℕ, List};
 ghost use Rattle.machine.specs.Stepped.{reply_in};
 ghost use Rattle.machine.specs.Turn.{counted, goes_on};
+ghost use Rattle.machine.specs.TurnBeside.{end_after, turn_after};
 
 use crate::stepped::Stepped;
 use crate::work::Work;
@@ -42,6 +45,33 @@ impl Turn {
         self.last = work;
         self.left -= 1;
     }
+
+    /// The step of this plan was made beside the guest, and answered so: why the turn ends, if it does. A step to which memory was refused
+    /// is not counted, and is the next one again.
+    pub fn after(&mut self, plan: Plan, stepped: Stepped) -> Option<TurnEnd>
+        requires { 1 ≤ self.old.left }
+        ensures end { result ≡ end_after plan stepped }
+        ensures turn { self.new ≡ turn_after self.old plan stepped }
+    {
+        if let Stepped::NoMemory = stepped {
+            return Some(TurnEnd::NoMemory);
+        }
+        self.count(plan.work);
+        if goes_on(plan.is_entropy, stepped) {
+            return None;
+        }
+        Some(TurnEnd::Answer(stepped))
+    }
+}
+
+/// The next step of a turn that is made beside the guest (`Parked::plan`).
+#[derive(Clone, Copy, Debug, PartialEq, Eq)]
+pub struct Plan {
+    /// The step.
+    pub work: Work,
+
+    /// Whether its device gives random bytes: a turn ends after each chain that such a device completed.
+    pub is_entropy: bool,
 }
 
 /// Why the steps of a turn ended.

@@ -6,6 +6,7 @@
 mod beside;
 mod calls;
 mod held;
+mod planning;
 mod storing;
 
 ghost use Rattle.std.specs.Prelude.{◌≡◌, ◌*◌, ◌<◌, ◌≤◌, length, map, None, Some, IfOk, IfErr, slice_get};
