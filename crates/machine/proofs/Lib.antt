@@ -29,6 +29,7 @@ pub mod Beside
 pub mod Asked
 pub mod Stored
 pub mod Writing
+pub mod StoredInside
 pub mod Meeting
 pub mod Opening
 pub mod Emptiness

@@ -77,10 +77,14 @@
 //!   RAM back, and so do steps, but for those that are made over a window.
 //! - A step may be made while the RAM is lent and the guest runs: over a window, a second memory of RAM's size into which the caller copies
 //!   the pieces for which `Parked::lacks` asks. `Parked::asking` says before it which word of the driver is read last, which word is quiet
-//!   meanwhile, and whether the true one asks for an interrupt; `Parked::storing` says, by the step's answer, which pieces are to be stored in
-//!   RAM after it, in which order (`laws::storing_is_writes`); `Parked::step_over` makes the step, and `Parked::end` ends it. It is that step
+//!   meanwhile, and whether the true one asks for an interrupt; `Parked::step_over` makes the step, and `Parked::end` ends it. It is that step
 //!   of the machine, whatever its RAM holds elsewhere (`laws::held_is_beside`, `beside_is_step`, `asking_is_publishing`), and reads and writes
 //!   no other pieces (`laws::device_steps_are_local`, `stores_are_writes`).
+//! - `Parked::storing` says before the step what it writes, by its answer: `Stores::next` hands out piece after piece, in the order in which a
+//!   host stores them (`laws::storing_is_writes`). `Asking::shares` and `Stores::may_write` say whether the driver's word lies apart: then the
+//!   quiet word is put into the window and the step is open (`laws::apart_is_open`). Else the word is copied as any piece, and once it is held
+//!   (`Asking::is_held`) the step is closed (`laws::held_word_is_closed`). Of an empty queue `Stores::note` and `second_look` say what is stored
+//!   before the step, and which piece is read again then (`laws::empty_is_closed`).
 //! - `are_disks_of` says whether disks are those of some devices, in their order.
 //! - `laws`: what an effect does not touch stays, what it touches exists, the shape stays. Equal outcomes give equal effects,
 //!   replies and machines, whatever a guest wrote into its rings. A step of a sound machine stays within it, keeps its shape
