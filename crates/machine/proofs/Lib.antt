@@ -31,6 +31,7 @@ mod Holding
 mod Touching
 pub mod Stored
 pub mod Writing
+pub mod StoredInside
 pub mod Meeting
 pub mod Opening
 pub mod Emptiness

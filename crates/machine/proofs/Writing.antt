@@ -153,7 +153,7 @@ within a n skip ys few =
     ap (drop skip) spread ∙ subst (λ (s : ℕ). drop s (addresses a skip ++ (addresses (a + skip) (n - skip) ++ ys)) ≡ addresses (a + skip) (n - skip) ++ ys) (sym same) (drop-append-add (addresses a skip) (addresses (a + skip) (n - skip) ++ ys) 0)
 
 -- What is next among the first indexes.
-count_there : (xs : List ℕ) (p : Piece) → IsFrom xs 0 p → p.count ≤ length xs
+pub count_there : (xs : List ℕ) (p : Piece) → IsFrom xs 0 p → p.count ≤ length xs
 count_there xs p h =
     let count = length_addresses p.at p.count in
     let cut = length-take p.count xs in

@@ -23,6 +23,7 @@ use Rattle.machine.specs.DeviceStep.{advanced_at, looked_at, requests_of}
 use Rattle.machine.specs.Footprint.{has_published}
 use Rattle.machine.specs.Parked.{ParkedSeen, back_with}
 use Rattle.machine.specs.Seen.{state_of}
+use Rattle.machine.specs.Sound.{IsSound}
 use Rattle.machine.specs.State.{DeviceState, MachineState}
 use Rattle.machine.specs.Stored.{chain_writes, indexes_in, indexes_of, note_pieces, published_pieces, request_writes, seen_writes}
 use Rattle.machine.specs.declared.event.Event.TheVariants.{Step}
@@ -225,3 +226,8 @@ AreNear (p ∷ ps) = (p.at + p.count < 2 ^ 64) × AreNear ps
 abbrev pub EmptyWritesNote : Type 0
 EmptyWritesNote = (p next : ParkedSeen) (window after : Memory) (dev pick : ℕ) (h : IsApplied (back_with p window) (Step dev pick) Idle (back_with next after)) (q : RingState) (first : Piece)
     → StepStores (state_of (back_with p window)) dev pick (an_empty q first) → h.effect.writes ≡ event_note q
+
+-- Each piece of what a step of a sound machine writes lies inside RAM.
+abbrev pub PiecesAreInside : Type 0
+PiecesAreInside = (p next : ParkedSeen) (window after : Memory) (dev pick : ℕ) (reply : Reply) (h : IsApplied (back_with p window) (Step dev pick) reply (back_with next after)) (w : Writing)
+    → IsSound (state_of (back_with p window)) → StepStores (state_of (back_with p window)) dev pick w → (n : ℕ) (piece : Piece) → IsFrom (indexes_of (writes_of w reply)) n piece → piece.at + piece.count ≤ length window.bytes

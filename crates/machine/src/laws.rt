@@ -14,8 +14,9 @@ ghost use Rattle.machine.specs.EffectLaws.{UntouchedStays, TouchedExists, ShapeS
 ghost use Rattle.machine.specs.StepLaws.{EffectsAgree, StepsAgree, RunsAgree, StepStaysWithin, StepKeepsShape, StepStaysSound, RefusalsChangeNothing, MalformedIsContained, MalformedAsksForReset};
 
 pub use beside::{
-    applied_is_local, asking_is_publishing, beside_is_step, device_steps_are_local,
-    effects_are_local, held_is_beside, held_stays_known, stores_are_writes,
+    apart_is_open, applied_is_local, asking_is_publishing, beside_is_step, device_steps_are_local,
+    effects_are_local, empty_is_closed, held_is_beside, held_stays_known, held_word_is_closed,
+    stores_are_writes, storing_is_writes,
 };
 pub use outside::{answers_are_their_parts, asked_is_taken, waiting_is_idle};
 pub use pieces::{touched_is_stale, untouched_devices_stay};

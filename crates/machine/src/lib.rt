@@ -77,13 +77,19 @@
 //!   RAM back, and so do steps, but for those that are made over a window.
 //! - A step may be made while the RAM is lent and the guest runs: over a window, a second memory of RAM's size into which the caller copies
 //!   the pieces for which `Parked::lacks` asks. `Parked::asking` says before it which word of the driver is read last, which word is quiet
-//!   meanwhile, and whether the true one asks for an interrupt; `Parked::storing` says, by the step's answer, which pieces are to be stored in
-//!   RAM after it, in which order (`laws::storing_is_writes`); `Parked::step_over` makes the step, and `Parked::end` ends it. It is that step
+//!   meanwhile, and whether the true one asks for an interrupt; `Parked::step_over` makes the step, and `Parked::end` ends it. It is that step
 //!   of the machine, whatever its RAM holds elsewhere (`laws::held_is_beside`, `beside_is_step`, `asking_is_publishing`), and reads and writes
 //!   no other pieces (`laws::device_steps_are_local`, `stores_are_writes`).
+//! - `Parked::storing` says before the step what it writes, by its answer: `Stores::next` hands out piece after piece, in the order in which a
+//!   host stores them (`laws::storing_is_writes`). `Asking::shares` and `Stores::may_write` say whether the driver's word lies apart: then the
+//!   quiet word is put into the window and the step is open (`laws::apart_is_open`). Else the word is copied as any piece, and once it is held
+//!   (`Asking::is_held`) the step is closed (`laws::held_word_is_closed`). Of an empty queue `Stores::note` and `second_look` say what is stored
+//!   before the step, and which piece is read again then (`laws::empty_is_closed`).
 //! - `Serials` counts how often each device was touched, and `Pieces` are those that are held of a step: stale once its device was touched since
 //!   they were begun (`laws::touched_is_stale`, `untouched_devices_stay`). `Parked::step_held` makes the step with them, where they are not stale
 //!   and lack none. It asks for both by itself, and where the step is not made nothing has changed.
+//! - `Parked::plan` names the next step of a turn that a host makes so, and `Turn::after` says whether the turn goes on: it is a turn as `work` makes
+//!   it (`laws::beside_is_once`).
 //! - `are_disks_of` says whether disks are those of some devices, in their order.
 //! - `laws`: what an effect does not touch stays, what it touches exists, the shape stays. Equal outcomes give equal effects,
 //!   replies and machines, whatever a guest wrote into its rings. A step of a sound machine stays within it, keeps its shape

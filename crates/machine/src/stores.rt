@@ -20,7 +20,7 @@ use std::marker::Model;
 
 mod parts;
 
-/// What a step writes by.
+/// What determines the writes of a step, beside its answer.
 #[derive(Drop)]
 pub(crate) enum Target {
     /// It writes nothing.
@@ -63,7 +63,7 @@ struct Span {
 }
 
 impl Stores {
-    /// What a step writes by that looks at this ring, before it takes a chain, or advances a request there, in a RAM with this base.
+    /// What determines the writes of a step on this ring, as it is before a chain is taken, in a RAM with this base.
     pub(crate) fn new(base: u64, ring: AnyRing, target: Target) -> Stores
         requires { IsHeldIn base (writing_in (ring_in ring) target) }
         ensures { result ≡ writing_in (ring_in ring) target }
@@ -71,9 +71,9 @@ impl Stores {
         Stores { base, ring, target }
     }
 
-    /// What is to be stored once the first `from` of all bytes are stored that the step with this answer writes: the piece that is to be
-    /// copied from the window into RAM next, if there is one. What it publishes comes last: the used element and the used index, or length,
-    /// id and flags of a packed descriptor, are pieces of their own, each of which is to be visible to the guest after all before it.
+    /// The next piece to copy from the window into RAM, where the first `from` bytes that a step with this answer writes are stored. `None`
+    /// says that all are. What the step publishes comes last: the used element and the used index, or length, id and flags of a packed
+    /// descriptor, are pieces of their own. Each has to be visible to the guest only after all before it is.
     pub fn next(&self, stepped: Stepped, from: u64) -> Option<Piece>
         ensures bytes { (sent : List ℕ) → IsNext (indexes_of (writes_of self.now (reply_in stepped sent))) from result }
         ensures end { (sent : List ℕ) → IsApartAtEnd (length (places_of self.now (reply_in stepped sent))) (last_of self.now (reply_in stepped sent)) from result }
@@ -90,9 +90,9 @@ impl Stores {
         rest_from(self.last(stepped), from - span.count)
     }
 
-    /// Whether the step may write into a byte of this piece, whatever its answer: one of the chain's or the request's writable segments
-    /// has it, or what the step writes last. Where it may write into the driver's word (`Asking::word`), a host closes the step at once: it
-    /// reads the word before it, as the other pieces.
+    /// Whether a byte of this piece lies in a writable segment of the chain or the request, or in what the step writes last: whatever its
+    /// answer, the step writes into no other byte. Where it may write into the driver's word (`Asking::word`), the word is to be read before
+    /// the step, as any piece, and the step is closed at once.
     pub fn may_write(&self, piece: Piece) -> bool
         ensures { TellsShared (indexes_of (reach_of self.now)) piece result }
     {
@@ -102,8 +102,8 @@ impl Stores {
         pieces_meet(self.ends().as_slice(), piece)
     }
 
-    /// The bytes of the note by which the step that finds its queue empty asks the driver for a notification, as many as its piece has, which
-    /// `next` gives for the answer `Stepped::Idle`. A host stores them before it makes that step, and then looks again (`second_look`).
+    /// The bytes of the note by which a step that finds its queue empty asks the driver for a notification, as many as its piece has: the one
+    /// that `next` returns for `Stepped::Idle`. A host stores them before it makes that step, and then looks again (`second_look`).
     pub fn note(&self) -> [u8; 4]
         ensures { take (length (note_in self.now)) result ≡ note_in self.now }
     {
@@ -113,9 +113,9 @@ impl Stores {
         }
     }
 
-    /// The piece that is to be read once more after the note of an empty queue is stored: the driver's index, or the descriptor at the
-    /// taking position. Where it is as in the window, the step is made: it is that of this moment. Where it is not, nothing is to be
-    /// made, and the walk goes on with what is there now; without this look a kick would be lost. `None` says that the step writes no note.
+    /// The piece to read again once the note of an empty queue is stored: the driver's index, or the descriptor at the taking position. If
+    /// it is as in the window, the step may be made, and is the machine's step at that moment. If it has changed, no step is to be made, and
+    /// the host asks again which pieces are lacking. Without this look a kick could be lost. `None` says that the step writes no note.
     pub fn second_look(&self) -> Option<Piece>
         ensures { result ≡ second_look self.now }
     {

@@ -94,6 +94,7 @@ pub use machine::SECTORS_MAX;
 pub use machine::Serials;
 pub use machine::Shape;
 pub use machine::Stepped;
+pub use machine::Stores;
 pub use machine::SyncOwed;
 pub use machine::Turn;
 pub use machine::TurnEnd;

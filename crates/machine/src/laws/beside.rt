@@ -15,7 +15,7 @@ ghost use Rattle.machine.specs.Opening.{ApartIsOpen, ApartIsStep, EmptyIsClosed,
 ghost use Rattle.machine.specs.Outcome.{Outcome};
 ghost use Rattle.machine.specs.State.{DeviceState};
 ghost use Rattle.machine.specs.Stored.{HasId, copied, device_writes, indexes_in, indexes_of};
-ghost use Rattle.machine.specs.Writing.{EmptyWritesNote, StoringIsWrites};
+ghost use Rattle.machine.specs.Writing.{EmptyWritesNote, PiecesAreInside, StoringIsWrites};
 
 /// A step of a device over a RAM `w` is that step over every RAM `m` of its length that agrees with it in what the step reads, whatever they
 /// hold elsewhere. Where they agree in all but the driver's word, and that of `w` asks for no interrupt, it is that step but for the
@@ -81,9 +81,11 @@ pub fn held_stays_known()
     ensures elsewhere { PutIsElsewhere }
 {}
 
-/// What was known of a step before it, `Stores`, is what the step writes, by its reply: byte for byte, and in order.
+/// What was known of a step before it, `Stores`, is what the step writes, by its reply: byte for byte, and in order. Each piece that it hands
+/// out lies inside RAM.
 pub fn storing_is_writes()
-    ensures { StoringIsWrites }
+    ensures writes { StoringIsWrites }
+    ensures inside { PiecesAreInside }
 {}
 
 /// A step is open where neither a piece that is held nor a byte into which the step may write has a byte of the driver's word (`Asking::shares`,

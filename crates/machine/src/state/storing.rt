@@ -18,7 +18,7 @@ use mmio::RING_PACKED;
 use std::alloc::Global;
 
 impl DeviceState {
-    /// What a step with this pick writes by. Memory may be refused, as it is for the step, and for the segments of a request.
+    /// What determines the writes of a step with this pick. Memory may be refused, as it is for the step, and for the segments of a request.
     pub(crate) fn storing(&self, alloc: Global, pick: u8, ram: &Ram) -> Result<Stores, NoMemory>
         requires sound { IsSoundDevice self.now.registers.ram_base (length ram.now.bytes) self.now }
         ensures { IfOk result (λ stores. IsStoring self.now ram.now.bytes pick stores) }

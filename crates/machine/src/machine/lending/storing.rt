@@ -17,7 +17,7 @@ use guestmem::{NoLog, NoMemory};
 use region::Region;
 
 impl<D: Disk> Machine<D> {
-    /// What the step of this pick writes by.
+    /// What determines the writes of the step of this pick.
     fn storing(&self, dev: u8, pick: u8) -> Result<Stores, NoMemory>
         ensures { IfOk result (λ stores. StepStores (state_of self.now) dev pick stores) }
     {
@@ -32,9 +32,9 @@ impl<D: Disk> Machine<D> {
 }
 
 impl<D: Disk> Parked<D> {
-    /// What the step of this pick writes by, by the pieces that the window holds: they are all that the step reads (`lacks`). With the
-    /// step's answer it says which pieces are to be stored in RAM, in which order. Window and machine are handed out as they were. Memory
-    /// may be refused, as it is for the step, and for the segments of a request.
+    /// What determines the writes of the step of this pick, by the pieces that the window holds: they are all that the step reads (`lacks`).
+    /// With the step's answer it hands out the pieces to store in RAM, in order. Window and machine are handed out as they were. Memory may be
+    /// refused, as it is for the step, and for the segments of a request.
     pub fn storing(
         self,
         window: Region,
