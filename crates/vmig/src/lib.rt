@@ -85,6 +85,7 @@ pub use machine::OutsideCall;
 pub use machine::PageLog;
 pub use machine::Parked;
 pub use machine::Piece;
+pub use machine::Plan;
 pub use machine::Pieces;
 pub use machine::RamOf;
 pub use machine::Refusal;
