@@ -10,7 +10,7 @@ use Rattle.machine.specs.State.{base_of}
 use Rattle.machine.specs.declared.event.Event.{Event}
 use Rattle.sender.specs.Marks.{IsBehind, MayCall}
 use Rattle.sender.specs.LiveState.{HasPlaces, LiveSeen}
-use Rattle.sender.specs.History.{guest_events}
+use Rattle.sender.specs.History.{guest_events, text}
 use Rattle.sender.specs.Parked.{IsLiveParked, LiveParkedSeen, live_back, live_base, page_writes}
 use Rattle.sender.specs.declared.phase.Phase.{Phase}
 use Rattle.sender.specs.declared.phase.Phase.TheVariants as phases
@@ -138,5 +138,5 @@ lent_steps_stay_sent m h taken pages wrote seen dev pick reply effect before p n
         goes = still_open gone.after.phase gone.goes;
       };
       came = gone.came;
-      text_is = gone.text_is;
+      text_is = gone.text_is ∙ append-nil (text m h);
     }
