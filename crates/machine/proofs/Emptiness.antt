@@ -1,10 +1,8 @@
 -- A step that finds its queue empty.
-use Rattle.std.specs.Prelude.{◌≡◌, ◌≢◌, ℕ, zero, suc, ◌-◌, ◌==◌, ◌&&◌, nat_lt, List, [], ◌∷◌, ◌++◌, length, map, take, ◌+◌, ◌<◌, Bool, true, false, not, Option, Some, None, slice_get, refl, if◌then◌else◌}
+use Rattle.std.specs.Prelude.{◌≡◌, ◌≢◌, ℕ, zero, suc, ◌-◌, ◌==◌, nat_lt, List, [], ◌∷◌, ◌++◌, length, take, ◌+◌, ◌<◌, Bool, true, false, Option, Some, None, slice_get, refl, if◌then◌else◌}
 use Rattle.std.specs.Bool.{MatchBool}
 use Rattle.std.proofs.Common.{ap, sym, subst, ◌∙◌, arith}
 use Rattle.std.proofs.lemmas.Bool.{eq-eqb}
-use Rattle.guestmem.specs.Memory.{Memory}
-use Rattle.guestmem.specs.Writes.{Write}
 use Rattle.chains.specs.Descriptor.{descriptor_at}
 use Rattle.chains.specs.Footprint.{AgreeOn, chain_pieces, entry_piece, index_piece, is_available, look_pieces, packed_pieces, slot_pieces, split_pieces, whole_table}
 use Rattle.chains.specs.Look.{seen_as}
@@ -19,24 +17,22 @@ use Rattle.chains.specs.declared.next.Next.TheVariants as next
 use Rattle.chains.proofs.ChainLaws.{answer_same}
 use Rattle.blk.specs.Sectors.{Sector}
 use Rattle.blk.specs.declared.request.Request.{Request}
-use Rattle.machine.specs.Applied.{IsApplied, as_given}
+use Rattle.machine.specs.Applied.{as_given}
 use Rattle.machine.specs.Asked.{AsksBy, MayAnswer}
-use Rattle.machine.specs.Beside.{IsStepOf, written_with}
+use Rattle.machine.specs.Beside.{written_with}
 use Rattle.machine.specs.DeviceStep.{MayLook, advanced_at, device_step, looked_at, requests_of, serve, step_at, wanted_of}
 use Rattle.machine.specs.Effect.{Effect}
-use Rattle.machine.specs.Footprint.{Publishing, publishing_by, reads_at, reads_of, seen_on}
+use Rattle.machine.specs.Footprint.{reads_at, reads_of}
 use Rattle.machine.specs.Opening.{EmptyIsClosed, EmptyIsStep}
 use Rattle.machine.specs.Outcome.{Outcome, fine, disk_failed as failing, no_memory, outcome_of}
-use Rattle.machine.specs.Parked.{ParkedSeen, back_with}
+use Rattle.machine.specs.Parked.{back_with}
 use Rattle.machine.specs.Seen.{state_of}
 use Rattle.machine.specs.State.{DeviceState}
 use Rattle.machine.specs.Step.{MaySeeAt, disk_of, step_device}
-use Rattle.machine.specs.Writing.{EmptyWritesNote, IsStoring, StepStores, StoresBy, Writing, an_empty, a_chain, advancing_at, first_piece, note_bytes, nothing, request_on, writing_by, writing_on}
+use Rattle.machine.specs.Writing.{EmptyWritesNote, IsStoring, StoresBy, Writing, an_empty, advancing_at, first_piece, note_bytes, nothing, request_on, writing_by, writing_on}
 use Rattle.machine.specs.declared.event.Event.TheVariants.{Step}
 use Rattle.machine.specs.declared.kind.Kind as kinds
 use Rattle.machine.specs.declared.kind.Kind.TheVariants.{Network, Block, Outside, Console, Entropy}
-use Rattle.machine.specs.declared.reply.Reply.{Reply}
-use Rattle.machine.specs.declared.reply.Reply.TheVariants as replies
 use Rattle.machine.proofs.Asked.{empty_asking}
 use Rattle.machine.proofs.Beside.{applied_local, local_items, step_of, written_there}
 use Rattle.machine.proofs.Opening.{held_word}

@@ -1,5 +1,5 @@
 -- A step over a window is open or closed, by what is known of it before.
-use Rattle.std.specs.Prelude.{◌≡◌, ℕ, zero, suc, ◌+◌, ◌-◌, ◌*◌, ◌<◌, ◌||◌, ◌==◌, List, [], ◌∷◌, ◌++◌, length, map, take, drop, Bool, true, false, Option, Some, None, slice_get, refl, if◌then◌else◌}
+use Rattle.std.specs.Prelude.{◌≡◌, ℕ, zero, suc, ◌+◌, ◌-◌, ◌*◌, ◌||◌, List, [], ◌∷◌, length, map, take, drop, Bool, true, false, Option, Some, None, slice_get, refl, if◌then◌else◌}
 use Rattle.std.proofs.Common.{ap, sym, subst, ◌∙◌, eqb}
 use Rattle.guestmem.specs.Address.{index_of}
 use Rattle.guestmem.specs.Lent.{is_named}
@@ -20,14 +20,14 @@ use Rattle.machine.specs.Asked.{IsApart, StepAsks}
 use Rattle.machine.specs.Beside.{IsStepOf, ended, publishing_of, interrupted, written_with}
 use Rattle.machine.specs.DeviceStep.{looked_at}
 use Rattle.machine.specs.Footprint.{Publishing, asks_at, has_published, publishing, reads_of, step_word, word_by, word_of}
-use Rattle.machine.specs.Opening.{ApartIsOpen, ApartIsStep, HeldWordIsClosed, HeldWordIsStep, published_by, reach_of}
+use Rattle.machine.specs.Opening.{ApartIsOpen, ApartIsStep, HeldWordIsClosed, HeldWordIsStep, reach_of}
 use Rattle.machine.specs.Outcome.{Outcome, outcome_of}
 use Rattle.machine.specs.Parked.{ParkedSeen, back_with}
 use Rattle.machine.specs.Seen.{state_of}
 use Rattle.machine.specs.State.{DeviceState}
 use Rattle.machine.specs.Step.{MaySeeAt}
 use Rattle.machine.specs.Stored.{indexes_in, indexes_of}
-use Rattle.machine.specs.Writing.{StepStores, StoresBy, Writing, a_chain, a_request, an_empty, chain_places, end_of, last_of, last_pieces, note_of, nothing, places_of, request_places, segments_of, unit_places, writes_of, writing_base}
+use Rattle.machine.specs.Writing.{StoresBy, Writing, a_chain, a_request, an_empty, chain_places, end_of, last_of, last_pieces, note_of, nothing, places_of, request_places, segments_of, unit_places, writes_of, writing_base}
 use Rattle.machine.specs.declared.event.Event.TheVariants.{Step}
 use Rattle.machine.specs.declared.reply.Reply.{Reply}
 use Rattle.machine.specs.declared.reply.Reply.TheVariants as replies

@@ -1,12 +1,12 @@
 -- The pieces that a step writes lie inside RAM.
-use Rattle.std.specs.Prelude.{◌≡◌, ℕ, zero, suc, ◌+◌, ◌-◌, ◌<◌, ◌≤◌, All, List, [], ◌∷◌, length, map, take, drop, Bool, Option, Some, None, slice_get, slice_set, refl}
-use Rattle.std.proofs.Common.{ap, sym, subst, ◌∙◌, arith, get_or}
+use Rattle.std.specs.Prelude.{◌≡◌, ℕ, zero, suc, ◌+◌, ◌-◌, ◌<◌, ◌≤◌, All, List, [], ◌∷◌, length, map, take, drop, Bool, slice_get, slice_set, refl}
+use Rattle.std.proofs.Common.{ap, sym, ◌∙◌, arith, get_or}
 use Rattle.std.proofs.lemmas.List.{get_or-drop, get_or-map, length-drop, length-map}
 use Rattle.std.proofs.lemmas.List.Elements.{All-set}
 use Rattle.guestmem.specs.Writes.{Write}
 use Rattle.chains.specs.Places.{addresses}
 use Rattle.chains.specs.declared.lacking.Piece.{Piece}
-use Rattle.blk.specs.Sectors.{AreWhole, IsGiven, Sector, is_bad}
+use Rattle.blk.specs.Sectors.{AreWhole, Sector, is_bad}
 use Rattle.machine.specs.Applied.{as_given}
 use Rattle.machine.specs.Outcome.{outcome_of}
 use Rattle.machine.specs.Parked.{back_with}
@@ -14,8 +14,8 @@ use Rattle.machine.specs.Seen.{state_of}
 use Rattle.machine.specs.Sound.{IsSound}
 use Rattle.machine.specs.State.{MachineState}
 use Rattle.machine.specs.Step.{disk_of, disk_or_none}
-use Rattle.machine.specs.Stored.{indexes_in, indexes_of}
-use Rattle.machine.specs.Writing.{IsFrom, PiecesAreInside, writes_of}
+use Rattle.machine.specs.Stored.{indexes_in}
+use Rattle.machine.specs.Writing.{IsFrom, PiecesAreInside}
 use Rattle.machine.specs.declared.event.Event.TheVariants.{Step}
 use Rattle.machine.proofs.Within.{step_within}
 use Rattle.machine.proofs.Writing.{count_there, storing_writes}

@@ -1,8 +1,7 @@
 -- What a step writes, by what was known of it before.
 use Rattle.std.specs.Prelude.{◌≡◌, ℕ, zero, suc, ◌+◌, ◌*◌, ◌-◌, ◌<◌, ◌≤◌, nat_lt, min, List, [], ◌∷◌, ◌++◌, length, map, take, drop, Bool, true, false, Option, Some, None, slice_get, slice_set, All, Result, Ok, Err, IfOk, refl, if◌then◌else◌}
-use Rattle.std.proofs.Common.{ap, sym, subst, ◌∙◌, append_assoc, arith, get_or, inl, inr, length-append}
-use Rattle.std.proofs.lemmas.Bool.{cases_lt, lt-ltb}
-use Rattle.std.proofs.lemmas.List.{append-nil, drop-append-le, drop-drop, drop-map, drop-take, drop_all, get_or-map, length-drop, length-map, length-take, take-append-le, take-map, take-take, take_at, take_min}
+use Rattle.std.proofs.Common.{ap, sym, subst, ◌∙◌, append_assoc, arith, length-append}
+use Rattle.std.proofs.lemmas.List.{append-nil, drop-append-le, drop-drop, drop-map, drop-take, drop_all, length-drop, length-map, length-take, take-append-le, take-map, take-take, take_at, take_min}
 use Rattle.std.proofs.lemmas.List.Elements.{All-head, All-tail}
 use Rattle.std.proofs.lemmas.Option.{get_or_from_slice_get, slice_get_within}
 use Rattle.std.proofs.Math.Seq.{drop-append-add}
@@ -28,12 +27,12 @@ use Rattle.blk.specs.Sectors.{AreWhole, Sector}
 use Rattle.blk.specs.declared.request.Kind.{Kind}
 use Rattle.blk.specs.declared.request.Kind.TheVariants as work
 use Rattle.blk.specs.declared.request.Request.{Request}
-use Rattle.machine.specs.Applied.{IsApplied, as_given}
+use Rattle.machine.specs.Applied.{as_given}
 use Rattle.machine.specs.Asked.{MayAnswer}
-use Rattle.machine.specs.DeviceStep.{MayLook, advanced_at, device_step, looked_at, reply_of, requests_of, serve, step_at, wanted_of}
+use Rattle.machine.specs.DeviceStep.{MayLook, advanced_at, device_step, looked_at, requests_of, step_at, wanted_of}
 use Rattle.machine.specs.Footprint.{has_published}
 use Rattle.machine.specs.Outcome.{Outcome, fine, disk_failed as failing, no_memory, outcome_of}
-use Rattle.machine.specs.Parked.{ParkedSeen, back_with}
+use Rattle.machine.specs.Parked.{back_with}
 use Rattle.machine.specs.Effect.{Effect}
 use Rattle.machine.specs.Seen.{DeviceSeen, state_of}
 use Rattle.machine.specs.Shapes.{made_as}
@@ -42,8 +41,8 @@ use Rattle.machine.specs.Step.{MaySeeAt, disk_of, disk_or_none, step_device}
 use Rattle.machine.specs.declared.event.Event.TheVariants.{Step}
 use Rattle.machine.specs.declared.kind.Kind.TheVariants.{Network, Block, Outside, Console, Entropy}
 use Rattle.machine.specs.State.{DeviceState, base_of}
-use Rattle.machine.specs.Stored.{HasId, advance_writes, chain_writes, device_writes, indexes_in, indexes_of, note_pieces, published_pieces, request_writes, seen_writes, unit_writes, writes_at}
-use Rattle.machine.specs.Writing.{IsApartAtEnd, IsFrom, IsNext, IsStoring, StepStores, StoresBy, StoringIsWrites, Writing, a_chain, a_request, advancing_at, an_empty, chain_places, end_of, first_piece, in_two, last_of, note_of, nothing, places_of, request_on, request_places, rest_from, segments_of, unit_places, unread, unread_in, writes_of, writing_base, writing_by, writing_on}
+use Rattle.machine.specs.Stored.{HasId, advance_writes, chain_writes, device_writes, indexes_in, indexes_of, published_pieces, request_writes, seen_writes, unit_writes, writes_at}
+use Rattle.machine.specs.Writing.{IsApartAtEnd, IsFrom, IsNext, IsStoring, StepStores, StoresBy, StoringIsWrites, Writing, a_chain, a_request, advancing_at, an_empty, chain_places, end_of, in_two, last_of, note_of, nothing, places_of, request_on, request_places, rest_from, segments_of, unit_places, unread, unread_in, writes_of, writing_base, writing_by, writing_on}
 use Rattle.machine.specs.declared.kind.Kind as kinds
 use Rattle.machine.specs.declared.reply.Reply.{Reply}
 use Rattle.machine.specs.declared.reply.Reply.TheVariants as replies

@@ -1,9 +1,8 @@
 -- What is known of a step before it is made of what it writes into RAM: by that and its reply, a host that makes it beside the guest stores
 -- the writes piece after piece.
-use Rattle.std.specs.Prelude.{◌≡◌, ℕ, ◌+◌, ◌*◌, ◌-◌, ◌<◌, ◌≤◌, ◌^◌, nat_lt, Bool, true, false, List, [], ◌∷◌, ◌++◌, length, map, take, drop, Option, Some, None, slice_get, if◌then◌else◌}
-use Rattle.guestmem.specs.Address.{index_of}
+use Rattle.std.specs.Prelude.{◌≡◌, ℕ, ◌+◌, ◌*◌, ◌-◌, ◌<◌, ◌≤◌, ◌^◌, nat_lt, List, [], ◌∷◌, length, map, take, drop, Option, Some, None, slice_get, if◌then◌else◌}
 use Rattle.guestmem.specs.Memory.{Memory}
-use Rattle.chains.specs.Footprint.{entry_piece, event_piece, index_piece, place_pieces}
+use Rattle.chains.specs.Footprint.{entry_piece, index_piece}
 use Rattle.chains.specs.Places.{AreSegmentsInside, addresses, last_place, places}
 use Rattle.chains.specs.Publish.{after_take, event_note}
 use Rattle.chains.specs.State.{HasAreas, MayRing, RingState}

@@ -1,4 +1,4 @@
-use Rattle.std.proofs.Common.{◌≡◌, ◌+◌, ◌∷◌, Bool, List, true, false, drop, get_or, subst, sym}
+use Rattle.std.proofs.Common.{◌+◌, List, true, false, drop, get_or, subst, sym}
 use Rattle.std.proofs.lemmas.List.{drop_all, drop_more}
 use Rattle.chains.specs.declared.lacking.Piece.{Piece}
 use Rattle.chains.specs.Places.{addresses}

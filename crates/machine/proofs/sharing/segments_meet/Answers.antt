@@ -1,4 +1,4 @@
-use Rattle.std.proofs.Common.{◌≡◌, ◌+◌, ◌-◌, ◌∷◌, ◌∙◌, ap, Bool, List, ℕ, true, false, drop, get_or, map, subst, sym}
+use Rattle.std.proofs.Common.{◌+◌, ◌-◌, ◌∙◌, ap, List, ℕ, true, false, drop, get_or, map, subst, sym}
 use Rattle.std.proofs.lemmas.List.{drop_all, drop_more}
 use Rattle.guestmem.specs.Address.{index_of}
 use Rattle.chains.specs.declared.segs.Seg.{Seg}

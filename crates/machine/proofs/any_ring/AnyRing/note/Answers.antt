@@ -1,6 +1,4 @@
-use Rattle.std.proofs.Common.{◌≡◌, ap, arith, sym, ◌∙◌}
-use Rattle.std.specs.Prelude.{Option, Some}
-use Rattle.chains.specs.declared.lacking.Piece.{Piece}
+use Rattle.std.proofs.Common.{arith, sym, ◌∙◌}
 use Rattle.machine.specs.AnyRing.{ring_in}
 use Rattle.machine.proofs.Writing.{packed_note, split_note}
 use Rattle.machine.proofs.any_ring.AnyRing.note.Goals as goal

@@ -1,4 +1,4 @@
-use Rattle.std.proofs.Common.{◌≡◌, ◌∙◌, ap, arith, length, refl, sym}
+use Rattle.std.proofs.Common.{◌≡◌, ◌∙◌, ap, arith, length, sym}
 use Rattle.std.specs.Prelude.{slice_get}
 use Rattle.chains.specs.State.{RingState}
 use Rattle.machine.specs.AnyRing.{ring_in}

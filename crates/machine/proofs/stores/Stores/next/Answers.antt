@@ -1,6 +1,6 @@
-use Rattle.std.proofs.Common.{◌≡◌, ◌∙◌, ap, sym, length}
+use Rattle.std.proofs.Common.{◌≡◌, ◌∙◌, ap}
 use Rattle.machine.specs.Stepped.{reply_in}
-use Rattle.machine.specs.Writing.{Writing, writing_base}
+use Rattle.machine.specs.Writing.{writing_base}
 use Rattle.machine.proofs.Writing.{first_bytes, last_bytes}
 use Rattle.machine.proofs.stores.Stores.next.Goals as goal
 

@@ -1,4 +1,4 @@
-use Rattle.std.proofs.Common.{◌≡◌, ◌+◌, ◌-◌, ◌<◌, ◌∷◌, List, arith, drop, get_or, map, refl, subst, sym, take, Option}
+use Rattle.std.proofs.Common.{◌≡◌, ◌+◌, ◌-◌, ◌∷◌, List, arith, drop, get_or, map, refl, subst, sym, take}
 use Rattle.std.specs.Prelude.{None, Some}
 use Rattle.std.proofs.lemmas.List.{drop_more}
 use Rattle.guestmem.specs.Address.{index_of}
