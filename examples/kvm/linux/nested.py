@@ -9,11 +9,11 @@ def expect(what, is_right):
     return not is_right
 
 
-def run(folder, mib, disk=None, processors=1, **words):
+def run(folder, mib, disk=None, **words):
     """Runs `around`'s Linux of the folder, with so much RAM, a disk that stays as it is, and words for its init. What
     it says is the result, and goes into `said` there meanwhile."""
     said = folder / "said"
-    qemu = ["qemu-system-x86_64", "-M", "q35", "-cpu", "max", "-accel", "tcg", "-smp", processors, "-m", mib]
+    qemu = ["qemu-system-x86_64", "-M", "q35", "-cpu", "max", "-accel", "tcg", "-smp", 1, "-m", mib]
     qemu += ["-nodefaults", "-display", "none", "-serial", "stdio", "-no-reboot"]
     if disk:
         qemu += ["-drive", f"if=none,id=disk,format=raw,snapshot=on,file={disk}", "-device", "virtio-blk,drive=disk"]
