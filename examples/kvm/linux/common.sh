@@ -13,7 +13,7 @@ say() { echo "outer: $(now) $*"; }
 # than process $4 is there.
 await() {
     n=0
-    until [ "$(grep -c "$2" $1 2> /dev/null)" -ge ${3:-1} ]; do
+    until [ "$(cat $1 2> /dev/null | grep -c "$2")" -ge ${3:-1} ]; do
         usleep 200000; n=$((n + 1))
         if [ $n -gt $((${PATIENCE:-300} * 5)) ] || { [ -n "$4" ] && ! kill -0 $4 2> /dev/null; }; then
             say "no '$2' in $1"
