@@ -70,12 +70,13 @@ static void take_size(struct host *h)
     if (terminal_size(&columns, &rows)) must(vmig_resize(&h->machine, CONSOLE, columns, rows), "vmig_resize");
 }
 
-/* What was typed goes to the console, once its driver is there. A guest that has none reads it at the UART. */
+/* What was typed goes to the console, once its driver is there. A guest that has none reads it at the UART, and so does
+ * one that waits for it there, as with a login on it. */
 static void take_typed(struct host *h)
 {
     size_t kept = 0;
 
-    if (h->typed.count == 0 || !is_driven(h, CONSOLE)) return;
+    if (h->typed.count == 0 || uart_hears(&h->uart) || !is_driven(h, CONSOLE)) return;
     must(vmig_input(&h->machine, CONSOLE, h->typed.bytes, h->typed.count, &kept), "vmig_input");
     h->steps_wait = 1;
     h->typed.count -= (uint32_t)kept;

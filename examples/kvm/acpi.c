@@ -7,7 +7,7 @@
 
 enum { HEAD = 36, RSDP_SIZE = 36, RSDP_OLD_SIZE = 20, XSDT_SIZE = HEAD + 16, FADT_SIZE = 276, MADT_SIZE = 64 };
 enum { RSDP_AT = ACPI_AT, XSDT_AT = ACPI_AT + 0x40, FADT_AT = ACPI_AT + 0x100 };
-enum { MADT_AT = ACPI_AT + 0x300, DSDT_AT = ACPI_AT + 0x400 };
+enum { MADT_AT = ACPI_AT + 0x300, DSDT_AT = ACPI_AT + 0x400, RESET_VECTOR = 0xffff0 };
 
 #define UART_PORT UART_AT & 0xff, UART_AT >> 8
 
@@ -137,10 +137,20 @@ static void write_fadt(uint8_t *ram)
     write_sum(table, FADT_SIZE, 9);
 }
 
+/* Linux on reduced hardware reboots by EFI, and without it by a jump to where a BIOS begins, in 16 bits: there the byte
+ * goes to the reset register. */
+static void write_reset(uint8_t *ram)
+{
+    static const uint8_t PROGRAM[] = {0xb0, RESET_WORD, 0xe6, RESET_AT, 0xf4, 0xeb, 0xfd}; /* mov, out, hlt, jmp */
+
+    memcpy(ram + RESET_VECTOR, PROGRAM, sizeof PROGRAM);
+}
+
 uint64_t acpi_write(uint8_t *ram, unsigned devices)
 {
     uint8_t *rsdp = ram + RSDP_AT, *xsdt = begin_table(ram, XSDT_AT, "XSDT", XSDT_SIZE, 1);
 
+    write_reset(ram);
     write_dsdt(ram, devices);
     write_madt(ram);
     write_fadt(ram);

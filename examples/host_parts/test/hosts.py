@@ -6,6 +6,8 @@ wrong. SLOW=n has it wait n times as long, as for programs with the checks of a 
 
 import concurrent.futures
 import contextlib
+import importlib.machinery
+import importlib.util
 import os
 import pathlib
 import random
@@ -37,6 +39,14 @@ def outcome_of(*words, check=False, **how):
     words = [str(word) for word in words]
     how = {"stdin": subprocess.DEVNULL, "capture_output": True, "text": True, "errors": "replace", **how}
     return subprocess.run(words, check=check, **how)
+
+
+def load(path):
+    """A script, as a module."""
+    loader = importlib.machinery.SourceFileLoader(path.name, str(path))
+    module = importlib.util.module_from_spec(importlib.util.spec_from_loader(path.name, loader))
+    loader.exec_module(module)
+    return module
 
 
 class Over(Exception):

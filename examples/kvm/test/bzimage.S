@@ -1,6 +1,6 @@
 # What a bzImage of the test begins with at its 64-bit entry, with the zero page in RSI. It prints a b at the UART
 # if the header is there, and the first bytes of the arguments, of the initial RAM disk and of the RSDP. Then it
-# powers off by the sleep control register.
+# reboots where a BIOS begins, by instructions that mean the same in 64 bits.
     movl 0x202(%rsi), %eax
     cmpl $0x53726448, %eax
     jne 1f
@@ -16,7 +16,5 @@
     movq 0x70(%rsi), %rbx
     movb (%rbx), %al
     outb %al, %dx
-1:  movw $0x600, %dx
-    movb $0x34, %al
-    outb %al, %dx
-2:  jmp 2b
+1:  movl $0xffff0, %eax
+    jmp *%rax

@@ -80,6 +80,7 @@ void load_guest(struct host *h)
     if (file == NULL) fail("%s: %s", h->options.kernel, strerror(errno));
     if (fread(k->ram + START, 1, k->length - START, file) == 0) fail("%s: there is nothing in it", h->options.kernel);
     fclose(file);
+    if (RING == 0 && !kvm_hides_counters(k)) say("skipped: this KVM cannot take performance counters away");
     map_identity(k);
     begin_in_ring(k);
     set_clock(h);

@@ -1,0 +1,24 @@
+# What each init of the outer Linux begins with: its file systems, KVM and disks, and how it says what it sees.
+export PATH=/bin:/sbin
+mount -t devtmpfs dev /dev; mount -t proc proc /proc; mount -t sysfs sys /sys; mount -t tmpfs tmp /tmp
+for m in irqbypass ccp kvm kvm-amd \
+    virtio_ring virtio virtio_pci_legacy_dev virtio_pci_modern_dev virtio_pci virtio_blk; do
+    insmod /mod/$m.ko
+done
+ifconfig lo 127.0.0.1 up
+cd /tmp
+now() { cut -d' ' -f1 /proc/uptime; }
+say() { echo "outer: $(now) $*"; }
+# Waits until $3 lines of file $1, one unless it is given, have text $2: for at most PATIENCE seconds, and no longer
+# than process $4 is there.
+await() {
+    n=0
+    until [ "$(cat $1 2> /dev/null | grep -c "$2")" -ge ${3:-1} ]; do
+        usleep 200000; n=$((n + 1))
+        if [ $n -gt $((${PATIENCE:-300} * 5)) ] || { [ -n "$4" ] && ! kill -0 $4 2> /dev/null; }; then
+            say "no '$2' in $1"
+            return 1
+        fi
+    done
+    return 0
+}
