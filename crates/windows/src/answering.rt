@@ -1,9 +1,11 @@
 //! Answers of a disk outside of the machine.
 
 use crate::bench::Bench;
+use crate::host::Host;
+use crate::moving::Moving;
 use anyhow::{Result, ensure};
 use blk::{DiskCall, What};
-use machine::{SECTOR_SIZE, Work};
+use machine::{Refusal, Reply, SECTOR_SIZE, Work};
 
 /// How many sectors of a read are given at once, at most.
 const MOST: usize = 4;
@@ -31,7 +33,7 @@ impl Bench {
         let answer = self.machine.disk_failed(dev, pick);
         ensure!(
             self.closing.parked.disk_failed(dev, pick) == answer
-                && self.opening.parked.disk_failed(dev, pick) == answer,
+                && self.opening.live.disk_failed(dev, pick) == Ok(Reply::from_failed(answer)),
             "a call that failed"
         );
         Ok(())
@@ -43,7 +45,7 @@ impl Bench {
         let answer = self.machine.disk_did(dev, pick, count);
         ensure!(
             self.closing.parked.disk_did(dev, pick, count) == answer
-                && self.opening.parked.disk_did(dev, pick, count) == answer,
+                && self.opening.live.disk_did(dev, pick, count) == Ok(Reply::from_moved(answer)),
             "a call that was done"
         );
         Ok(())
@@ -58,20 +60,38 @@ impl Bench {
         let bytes = [value; MOST * SECTOR_SIZE];
         let given = &bytes[..SECTOR_SIZE * count];
         let answer = bench.machine.disk_gave(work.dev, work.pick, given);
-        bench.closing.put(0, bench.ram.as_slice())?;
-        bench.opening.put(0, bench.ram.as_slice())?;
-        let (closed, closing) = bench.closing.disk_gave(work, given)?;
-        let (opened, opening) = bench.opening.disk_gave(work, given)?;
-        ensure!(closed == answer && opened == answer, "bytes of a disk");
-        ensure!(closing.bytes()? == opening.bytes()?, "RAM after them");
+        let hosts = (bench.closing, bench.opening);
+        let (gave, closing, opening) = gave(hosts, bench.ram.as_slice(), work, given)?;
         let mut bench = Bench {
             closing,
             opening,
             ..bench
         };
-        let (ram, window) = (bench.ram.as_mut_slice(), bench.closing.bytes()?);
-        ensure!(ram.len() == window.len(), "the length of RAM");
-        ram.copy_from_slice(window);
+        bench.take_ram(gave == answer)?;
         Ok(bench)
     }
+
+    /// Takes RAM over from the windows, if the hosts answered as they must.
+    fn take_ram(&mut self, is_answer: bool) -> Result<()> {
+        ensure!(is_answer, "bytes of a disk");
+        let (ram, window) = (self.ram.as_mut_slice(), self.closing.bytes()?);
+        ensure!(self.opening.bytes()? == window, "RAM after them");
+        ensure!(ram.len() == window.len(), "the length of RAM");
+        ram.copy_from_slice(window);
+        Ok(())
+    }
+}
+
+/// Both hosts hand in what a disk outside gave, while this RAM is back.
+fn gave(
+    hosts: (Host, Moving),
+    ram: &[u8],
+    work: Work,
+    bytes: &[u8],
+) -> Result<(Result<bool, Refusal>, Host, Moving)> {
+    let (closing, opening) = hosts;
+    let (answer, closing) = closing.disk_gave(ram, work, bytes)?;
+    let (reply, opening) = opening.disk_gave(ram, work, bytes)?;
+    ensure!(reply == Reply::from_moved(answer), "bytes of a disk");
+    Ok((answer, closing, opening))
 }

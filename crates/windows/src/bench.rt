@@ -2,10 +2,11 @@
 
 use crate::draws::Draws;
 use crate::host::{Host, TestDisk};
+use crate::moving::Moving;
 use crate::sameness::are_same;
 use crate::window::{BYTES, PAGES};
 use anyhow::{Result, bail, ensure};
-use machine::{Board, Device, FaultDisk, Limits, Machine, MemDisk, RamOf, Shape, Work};
+use machine::{Board, Device, FaultDisk, Limits, Machine, MemDisk, RamOf, Reply, Shape, Work};
 use region::KeptRegion;
 use std::alloc::Global;
 
@@ -27,8 +28,8 @@ pub struct Bench {
     /// The host that has the driver's word in its window at each step.
     pub closing: Host,
 
-    /// The host that ends a step by the driver's word, where it can.
-    pub opening: Host,
+    /// The host that ends a step by the driver's word, where it can, and whose machine is being sent all along.
+    pub opening: Moving,
 
     /// RAM as the hosts' guest has it.
     pub ram: Vec<u8>,
@@ -59,10 +60,10 @@ impl Bench {
         draws: Draws,
     ) -> Result<Bench> {
         let (one, other) = windows;
-        let disks = disks_of(alloc, beginning)?;
+        let disks = disks_of(alloc, beginning, 0)?;
         let machine = made(alloc, beginning, disks, RamOf::Pages(PAGES))?;
         let closing = host_of(alloc, beginning, one)?;
-        let opening = host_of(alloc, beginning, other)?;
+        let opening = Moving::of(alloc, machine_over(alloc, beginning, other, SECTORS)?)?;
         Ok(Bench {
             alloc,
             base: beginning.base,
@@ -80,6 +81,7 @@ impl Bench {
             return Ok(());
         }
         self.ram.as_mut_slice()[at..at + bytes.len()].copy_from_slice(bytes);
+        self.opening.note(at, bytes.len());
         let addr = self.base.wrapping_add(at as u64);
         ensure!(
             self.machine.write_ram(addr, bytes).is_ok(),
@@ -91,10 +93,10 @@ impl Bench {
     /// The driver writes a register.
     pub fn write_register(&mut self, dev: u8, offset: u32, value: u32) -> Result<()> {
         let reply = self.machine.write_register(dev, offset, 4, value);
-        let (closing, opening) = (&mut self.closing.parked, &mut self.opening.parked);
+        let (closing, opening) = (&mut self.closing.parked, &mut self.opening.live);
         ensure!(
             closing.write_register(dev, offset, 4, value) == reply
-                && opening.write_register(dev, offset, 4, value) == reply,
+                && opening.write_register(dev, offset, 4, value) == Ok(Reply::from_written(reply)),
             "the write of a register"
         );
         Ok(())
@@ -105,7 +107,7 @@ impl Bench {
         let reply = self.machine.read_register(dev, offset, 4);
         ensure!(
             self.closing.parked.read_register(dev, offset, 4) == reply
-                && self.opening.parked.read_register(dev, offset, 4) == reply,
+                && self.opening.live.read_register(dev, offset, 4) == Ok(Reply::from_value(reply)),
             "the read of a register"
         );
         match reply {
@@ -117,9 +119,10 @@ impl Bench {
     /// The host puts bytes in.
     pub fn input(&mut self, dev: u8, bytes: &[u8]) -> Result<()> {
         let reply = self.machine.input(dev, bytes);
-        let (closing, opening) = (&mut self.closing.parked, &mut self.opening.parked);
+        let (closing, opening) = (&mut self.closing.parked, &mut self.opening.live);
         ensure!(
-            closing.input(dev, bytes) == reply && opening.input(dev, bytes) == reply,
+            closing.input(dev, bytes) == reply
+                && opening.input(dev, bytes) == Ok(Reply::from_accepted(reply)),
             "an input"
         );
         Ok(())
@@ -129,9 +132,10 @@ impl Bench {
     pub fn resize(&mut self, dev: u8) -> Result<()> {
         let (cols, rows) = (self.draws.byte() as u16, self.draws.byte() as u16);
         let reply = self.machine.resize(dev, cols, rows);
-        let (closing, opening) = (&mut self.closing.parked, &mut self.opening.parked);
+        let (closing, opening) = (&mut self.closing.parked, &mut self.opening.live);
         ensure!(
-            closing.resize(dev, cols, rows) == reply && opening.resize(dev, cols, rows) == reply,
+            closing.resize(dev, cols, rows) == reply
+                && opening.resize(dev, cols, rows) == Ok(Reply::from_done(reply)),
             "a size"
         );
         if reply.is_ok() {
@@ -139,7 +143,8 @@ impl Bench {
         }
         let reply = self.machine.drop_input(dev);
         ensure!(
-            closing.drop_input(dev) == reply && opening.drop_input(dev) == reply,
+            closing.drop_input(dev) == reply
+                && opening.drop_input(dev) == Ok(Reply::from_done(reply)),
             "input that is dropped"
         );
         Ok(())
@@ -150,7 +155,7 @@ impl Bench {
         let next = self.machine.next_work(last);
         ensure!(
             self.closing.parked.next_work(last) == next
-                && self.opening.parked.next_work(last) == next,
+                && self.opening.parked().next_work(last) == next,
             "the next work"
         );
         Ok(next)
@@ -160,7 +165,7 @@ impl Bench {
     pub fn are_same(&self) -> Result<()> {
         let one = self.machine.devices();
         are_same_devices(one, self.closing.parked.devices())?;
-        are_same_devices(one, self.opening.parked.devices())?;
+        are_same_devices(one, self.opening.parked().devices())?;
         let ram = self.machine.ram();
         ram.recall();
         for (n, page) in self.ram.as_slice().chunks(4096).enumerate() {
@@ -171,7 +176,8 @@ impl Bench {
     }
 }
 
-fn are_same_devices(one: &[Device<TestDisk>], other: &[Device<TestDisk>]) -> Result<()> {
+/// Fails unless two machines have devices in the same states.
+pub fn are_same_devices(one: &[Device<TestDisk>], other: &[Device<TestDisk>]) -> Result<()> {
     ensure!(one.len() == other.len(), "more or fewer devices");
     for (device, another) in one.iter().zip(other) {
         are_same(device.state(), another.state())?;
@@ -179,13 +185,15 @@ fn are_same_devices(one: &[Device<TestDisk>], other: &[Device<TestDisk>]) -> Res
     Ok(())
 }
 
-/// The disks of the devices, of zeros.
-fn disks_of(alloc: Global, beginning: &Beginning<'_>) -> Result<Vec<TestDisk>> {
+/// The disks of the devices, of zeros. Their calls that fail are counted from after so many.
+fn disks_of(alloc: Global, beginning: &Beginning<'_>, calls: u64) -> Result<Vec<TestDisk>> {
     let mut disks = Vec::new(alloc);
     for shape in beginning.shapes {
         if let Shape::Block { sectors, .. } = shape {
             let mut plan = Vec::new(alloc);
-            plan.extend_from_slice(beginning.plan)?;
+            for call in beginning.plan {
+                plan.push(call.wrapping_add(calls))?;
+            }
             disks.push(FaultDisk::new(MemDisk::new(alloc, *sectors)?, plan))?;
         }
     }
@@ -212,12 +220,21 @@ fn made(
     }
 }
 
-/// The same machine over this memory, which is filled with zeros, and lent.
-pub fn host_of(alloc: Global, beginning: &Beginning<'_>, window: KeptRegion) -> Result<Host> {
+/// The same machine over this memory, which is filled with zeros. The calls of its disks that fail are counted from after so many.
+fn machine_over(
+    alloc: Global,
+    beginning: &Beginning<'_>,
+    window: KeptRegion,
+    calls: u64,
+) -> Result<Machine<TestDisk>> {
     let mut window = window;
     ensure!(window.len() == BYTES, "the length of a window");
     window.as_mut_slice().fill(0);
-    let disks = disks_of(alloc, beginning)?;
-    let ram = RamOf::Region(window.into_region());
-    Host::of(made(alloc, beginning, disks, ram)?)
+    let disks = disks_of(alloc, beginning, calls)?;
+    made(alloc, beginning, disks, RamOf::Region(window.into_region()))
+}
+
+/// The host of such a machine, whose RAM is lent.
+pub fn host_of(alloc: Global, beginning: &Beginning<'_>, window: KeptRegion) -> Result<Host> {
+    Host::of(machine_over(alloc, beginning, window, 0)?)
 }

@@ -95,9 +95,8 @@ impl Guest {
         Ok(guest)
     }
 
-    /// The guest does something, its hosts put something in or answer, and then devices make some steps. Returns false where the guest cannot
-    /// go on.
-    pub fn turn(self, tally: &mut Tally) -> Result<(bool, Guest)> {
+    /// The guest does something, its hosts put something in or answer, and then devices make some steps.
+    pub fn turn(self, tally: &mut Tally) -> Result<Guest> {
         let mut guest = self;
         guest.act()?;
         guest.act()?;
@@ -106,17 +105,13 @@ impl Guest {
         let bench = guest.bench.answer(Work { dev: 2, pick })?;
         let mut guest = Guest { bench, ..guest };
         for _step in 0..guest.bench.draws.below(5) {
-            let (goes_on, next) = guest.step(tally)?;
-            guest = next;
-            if !goes_on {
-                return Ok((false, guest));
-            }
+            guest = guest.step(tally)?;
         }
-        Ok((true, guest))
+        Ok(guest)
     }
 
     /// A step: mostly one that has something to do, if there is one.
-    fn step(self, tally: &mut Tally) -> Result<(bool, Guest)> {
+    fn step(self, tally: &mut Tally) -> Result<Guest> {
         let mut guest = self;
         let any = Work {
             dev: guest.bench.draws.below(DEVICES as u32) as u8,
@@ -126,7 +121,7 @@ impl Guest {
         let work = match guest.bench.next_work(guest.last)? {
             _ if is_any => any,
             Some(work) => work,
-            None => return Ok((true, guest)),
+            None => return Ok(guest),
         };
         let (made, bench) = guest.bench.step(work)?;
         tally.count(work, made);
@@ -136,7 +131,7 @@ impl Guest {
             ..guest
         };
         guest.note(work, made.stepped.has_published());
-        Ok((!made.is_mixed, guest))
+        Ok(guest)
     }
 
     /// The driver of the queue of a step learns that a chain came back.
@@ -222,7 +217,7 @@ impl Guest {
         self.bench.set_up(dev, &mut self.queues)
     }
 
-    /// Ends the guest: compares the disks of its machines. Returns the memory of the windows.
+    /// Ends the guest: compares the disks of its machines, and the one that arrives. Returns the memory of the windows.
     pub fn end(self) -> Result<(KeptRegion, KeptRegion)> {
         self.bench.end(DEVICES as u8)
     }

@@ -3,7 +3,10 @@
 use crate::window::BYTES;
 use anyhow::{Result, bail, ensure};
 use guestmem::NoLog;
-use machine::{Asking, FaultDisk, Machine, MemDisk, Parked, Piece, Refusal, Stepped, Work};
+use machine::{
+    Asking, FaultDisk, Machine, MemDisk, NotMade, Parked, Piece, Pieces, Refusal, Serials, Stepped,
+    Stores, Work,
+};
 use region::KeptRegion;
 
 /// A disk in memory, some of whose calls fail.
@@ -73,6 +76,16 @@ impl Host {
         Ok((asking?, Host { parked, window }))
     }
 
+    /// What the step writes.
+    pub fn storing(self, work: Work) -> Result<(Stores, Host)> {
+        let Host { parked, window } = self;
+        ensure!(window.len() == 4096 * parked.pages(), "the size of RAM");
+        let window = window.into_region();
+        let (stores, window, parked) = parked.storing(window, work.dev, work.pick);
+        let window = KeptRegion::of(window);
+        Ok((stores?, Host { parked, window }))
+    }
+
     /// Makes the step over the window.
     pub fn step(self, work: Work, sent: &mut Vec<u8>) -> Result<(Stepped, Host)> {
         let Host { parked, window } = self;
@@ -85,6 +98,21 @@ impl Host {
         Ok((stepped, Host { parked, window }))
     }
 
+    /// Makes the step of these pieces over the window, if they are not stale and lack none.
+    pub fn step_held(
+        self,
+        pieces: &Pieces,
+        serials: &mut Serials,
+        sent: &mut Vec<u8>,
+    ) -> Result<(Result<Stepped, NotMade>, Host)> {
+        let Host { parked, window } = self;
+        ensure!(window.len() == 4096 * parked.pages(), "the size of RAM");
+        let window = window.into_region();
+        let (tried, window, parked) = parked.step_held(window, pieces, serials, sent, &mut NoLog);
+        let window = KeptRegion::of(window);
+        Ok((tried, Host { parked, window }))
+    }
+
     /// The machine with the window for its RAM.
     pub fn into_machine(self) -> Result<Machine<TestDisk>> {
         let Host { parked, window } = self;
@@ -92,9 +120,16 @@ impl Host {
         Ok(parked.give_back(window.into_region(), &[], &mut NoLog))
     }
 
-    /// Hands in what a disk outside gave, with the window for RAM.
-    pub fn disk_gave(self, work: Work, bytes: &[u8]) -> Result<(Result<bool, Refusal>, Host)> {
-        let mut machine = self.into_machine()?;
+    /// Hands in what a disk outside gave, with this RAM.
+    pub fn disk_gave(
+        self,
+        ram: &[u8],
+        work: Work,
+        bytes: &[u8],
+    ) -> Result<(Result<bool, Refusal>, Host)> {
+        let mut host = self;
+        host.put(0, ram)?;
+        let mut machine = host.into_machine()?;
         let answer = machine.disk_gave(work.dev, work.pick, bytes);
         Ok((answer, Host::of(machine)?))
     }

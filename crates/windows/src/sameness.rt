@@ -53,11 +53,28 @@ fn have_same_frames(one: &Inbox, other: &Inbox) -> bool {
     true
 }
 
-/// Both got and gave the same, so they lie alike in their memory too.
+/// They may lie otherwise in their memory.
 fn have_same_bytes(one: &HostBytes, other: &HostBytes) -> bool {
-    let (front, back) = one.as_slices();
-    let (others, rest) = other.as_slices();
-    front == others && back == rest
+    if one.len() != other.len() {
+        return false;
+    }
+    for n in 0..one.len() {
+        if byte_of(one, n) != byte_of(other, n) {
+            return false;
+        }
+    }
+    true
+}
+
+/// The byte of this number, if there is one.
+fn byte_of(bytes: &HostBytes, n: usize) -> Option<u8> {
+    let (front, back) = bytes.as_slices();
+    let byte = if n < front.len() {
+        front.get(n)
+    } else {
+        back.get(n - front.len())
+    };
+    byte.map(|byte| *byte)
 }
 
 fn are_same_requests(one: &[Request], other: &[Request]) -> bool {

@@ -1,15 +1,16 @@
 //! A step of the machine that has its RAM, and the same step over the windows of two hosts.
 //!
-//! Outside of the pieces that are held, each byte of one window is the complement of that of the other. So a byte that the step wrote has
-//! changed in one of them at least, or was in RAM before: all that changed is what is stored in RAM.
+//! Outside of the pieces that are held, each byte of one window is the complement of that of the other. What the step wrote is stored in RAM
+//! piece after piece, as the library hands them out: so a piece too many, or one too few, leaves another RAM than that of the machine.
 
 use crate::bench::Bench;
 use crate::host::Host;
+use crate::moving::Moving;
 use crate::window::BYTES;
-use crate::word::{Word, copied, word_in};
+use crate::word::{Word, word_in};
 use anyhow::{Result, bail, ensure};
 use chains::is_held;
-use machine::{Asking, Piece, Stepped, Work};
+use machine::{Asking, Piece, Stepped, Stores, Work};
 use mmio::USED_BUFFER;
 use std::alloc::Global;
 
@@ -27,19 +28,16 @@ pub struct Made {
 
     /// Whether it raised the interrupt.
     pub is_raised: bool,
-
-    /// Whether it wrote into the quiet word of a host, which then asked for an interrupt, as the driver's word does not. No law speaks of that
-    /// host then.
-    pub is_mixed: bool,
 }
 
-/// What is known of a step before the hosts make it: what they hold, what the step publishes, and what the machine that has its RAM
-/// answered.
+/// What is known of a step before the hosts make it: what they hold, what the step publishes and writes, and what the machine that has its
+/// RAM answered.
 #[derive(Drop)]
 struct Known {
     work: Work,
     held: Vec<Piece>,
     asking: Option<Asking>,
+    stores: Stores,
     stepped: Stepped,
     sent: Vec<u8>,
 }
@@ -53,13 +51,13 @@ impl Known {
         }
     }
 
-    /// The quiet word, if the step may be open: no byte of the word is held, and in the window of the host that had this word it is as it was.
-    fn quiet_beside(&self, window: &[u8], word: Option<Word>) -> Result<Option<Word>> {
-        let (Some(asking), Some(word)) = (&self.asking, word) else {
+    /// The quiet word, if the step is open: the driver's word lies apart from all that is held, and from all into which the step may write.
+    fn quiet(&self) -> Result<Option<Word>> {
+        let Some(asking) = &self.asking else {
             return Ok(None);
         };
-        let piece = word.piece;
-        if word_in(window, piece)? != word || !self.is_apart(piece) {
+        let piece = asking.word();
+        if asking.shares(self.held.as_slice()) || self.stores.may_write(piece) {
             return Ok(None);
         }
         let word = asking.quiet();
@@ -67,34 +65,37 @@ impl Known {
         Ok(Some(Word { piece, word }))
     }
 
-    /// Whether none of the pieces that are held has a byte of the driver's word.
-    fn is_apart(&self, word: Piece) -> bool {
-        for k in 0..word.count {
-            let byte = Piece {
-                at: word.at.wrapping_add(k),
-                count: 1,
-            };
-            if is_held(self.held.as_slice(), byte) {
-                return false;
-            }
-        }
-        true
-    }
-
-    /// A host makes the step, with this word in its window. Returns the window as it was before.
-    fn made_by(&self, alloc: Global, host: Host, word: Option<Word>) -> Result<(Vec<u8>, Host)> {
+    /// A host makes the step, with this word in its window.
+    fn made_by(&self, alloc: Global, host: Host, word: Option<Word>) -> Result<Host> {
         let mut host = host;
         if let Some(word) = word {
             host.put(word.piece.at as usize, word.bytes())?;
         }
-        let before = copied(alloc, host.bytes()?)?;
         let mut sent = Vec::new(alloc);
         let (stepped, host) = host.step(self.work, &mut sent)?;
+        self.is_answer(stepped, &sent)?;
+        Ok(host)
+    }
+
+    /// As `made_by`, of a machine that is being sent.
+    fn made_moving(&self, alloc: Global, host: Moving, word: Option<Word>) -> Result<Moving> {
+        let mut host = host;
+        if let Some(word) = word {
+            host.put(word.piece.at as usize, word.bytes())?;
+        }
+        let mut sent = Vec::new(alloc);
+        let (stepped, host) = host.step(self.work, &mut sent)?;
+        self.is_answer(stepped, &sent)?;
+        Ok(host)
+    }
+
+    /// Fails unless the machine that has its RAM answered so too.
+    fn is_answer(&self, stepped: Stepped, sent: &Vec<u8>) -> Result<()> {
         ensure!(stepped == self.stepped, "the answer of a step");
         if stepped == Stepped::Sent {
-            ensure!(sent == self.sent, "the bytes of a message");
+            ensure!(*sent == self.sent, "the bytes of a message");
         }
-        Ok((before, host))
+        Ok(())
     }
 }
 
@@ -105,7 +106,8 @@ impl Bench {
         bench.fill_windows()?;
         let (held, mut bench) = bench.copy_pieces(work)?;
         bench.write_beside(held.as_slice())?;
-        let (asking, mut bench) = bench.asking(work)?;
+        let (asking, bench) = bench.asking(work)?;
+        let (stores, mut bench) = bench.storing(work)?;
         bench.write_word(held.as_slice(), &asking)?;
         let was_raised = bench.is_raised(work.dev);
         let mut sent = Vec::new(bench.alloc);
@@ -114,20 +116,20 @@ impl Bench {
             work,
             held,
             asking,
+            stores,
             stepped,
             sent,
         };
         let (is_open, mut bench) = bench.step_hosts(&known)?;
-        let is_mixed = is_open && bench.ends_mixed(&known)?;
-        if !is_mixed {
-            bench.are_same()?;
+        if is_open {
+            bench.end_open(&known)?;
         }
+        bench.are_same()?;
         let is_raised = !was_raised && bench.is_raised(work.dev);
         let made = Made {
             stepped,
             is_open,
             is_raised,
-            is_mixed,
         };
         Ok((made, bench))
     }
@@ -256,54 +258,81 @@ impl Bench {
         ))
     }
 
+    /// What the step writes, as a host knows it.
+    fn storing(self, work: Work) -> Result<(Stores, Bench)> {
+        let bench = self;
+        let (stores, closing) = bench.closing.storing(work)?;
+        Ok((stores, Bench { closing, ..bench }))
+    }
+
     /// Both hosts make the step, and store what it wrote. Returns whether it is open in one of them.
     fn step_hosts(self, known: &Known) -> Result<(bool, Bench)> {
         let bench = self;
         let alloc = bench.alloc;
         let word = known.word_of(bench.ram.as_slice())?;
-        let (before, closing) = known.made_by(alloc, bench.closing, word)?;
-        let quiet = known.quiet_beside(closing.bytes()?, word)?;
+        let quiet = known.quiet()?;
         let given = if quiet.is_some() { quiet } else { word };
-        let (other, opening) = known.made_by(alloc, bench.opening, given)?;
+        let closing = known.made_by(alloc, bench.closing, word)?;
+        let opening = known.made_moving(alloc, bench.opening, given)?;
         let mut bench = Bench {
             closing,
             opening,
             ..bench
         };
-        bench.store(before.as_slice(), other.as_slice())?;
+        bench.store(known)?;
         Ok((quiet.is_some(), bench))
     }
 
-    /// Stores in RAM what a step wrote, by the windows as they were before it.
-    fn store(&mut self, closing: &[u8], opening: &[u8]) -> Result<()> {
-        let was = closing.iter().zip(opening);
-        let is = self.closing.bytes()?.iter().zip(self.opening.bytes()?);
-        for ((stored, was), is) in self.ram.iter_mut().zip(was).zip(is) {
-            if was == is {
-                continue;
-            }
-            ensure!(is.0 == is.1, "other bytes were written");
-            *stored = *is.0;
+    /// Stores in RAM what the step wrote, piece after piece.
+    fn store(&mut self, known: &Known) -> Result<()> {
+        let mut from = 0;
+        for _piece in 0..MOST_PIECES {
+            let Some(piece) = known.stores.next(known.stepped, from) else {
+                return Ok(());
+            };
+            self.store_piece(piece)?;
+            from = piece.count.wrapping_add(from);
         }
+        bail!("more pieces than there are")
+    }
+
+    /// Stores a piece in RAM that both windows have.
+    fn store_piece(&mut self, piece: Piece) -> Result<()> {
+        let (at, count) = (piece.at as usize, piece.count as usize);
+        let (closing, opening) = (self.closing.bytes()?, self.opening.bytes()?);
+        let ram = self.ram.as_mut_slice();
+        let len = ram.len();
+        ensure!(
+            at <= len && count <= len - at && len <= closing.len() && len <= opening.len(),
+            "a store outside RAM"
+        );
+        let stored = &closing[at..at + count];
+        ensure!(
+            stored == &opening[at..at + count],
+            "other bytes were written"
+        );
+        ram[at..at + count].copy_from_slice(stored);
         Ok(())
     }
 
-    /// Ends an open step by the driver's word in RAM. Returns true if the step has raised an interrupt for which that word does not ask.
-    fn ends_mixed(&mut self, known: &Known) -> Result<bool> {
+    /// Ends an open step by the driver's word in RAM. The quiet word has asked for no interrupt, since it lies apart from all that was written.
+    fn end_open(&mut self, known: &Known) -> Result<()> {
         let Some(asking) = &known.asking else {
-            return Ok(false);
+            return Ok(());
         };
         if !known.stepped.has_published() {
-            return Ok(false);
+            return Ok(());
         }
         let window = word_in(self.opening.bytes()?, asking.word())?;
+        ensure!(
+            !asking.is_due(window.word),
+            "the quiet word asked after the step"
+        );
         let word = word_in(self.ram.as_slice(), asking.word())?;
-        let is_due = asking.is_due(word.word);
-        if asking.is_due(window.word) {
-            return Ok(!is_due);
-        }
-        self.opening.parked.end(known.work.dev, is_due);
-        Ok(false)
+        self.opening
+            .live
+            .end(known.work.dev, asking.is_due(word.word));
+        Ok(())
     }
 }
 

@@ -75,9 +75,6 @@ pub struct Tally {
 
     /// All steps.
     pub steps: u64,
-
-    /// How many steps raised an interrupt by what they wrote over the quiet word, for which the driver's word did not ask.
-    pub mixed: u64,
 }
 
 impl Tally {
@@ -92,13 +89,11 @@ impl Tally {
         }; DEVICES],
         answers: [0; ANSWERS.len()],
         steps: 0,
-        mixed: 0,
     };
 
     /// A step went so.
     pub fn count(&mut self, work: Work, made: Made) {
         self.steps = self.steps.saturating_add(1);
-        self.mixed = self.mixed.saturating_add(made.is_mixed as u64);
         if let Some(count) = self.answers.get_mut(number_of(made.stepped)) {
             *count = count.saturating_add(1);
         }
@@ -106,7 +101,7 @@ impl Tally {
             return;
         };
         let is_open = made.is_open && made.stepped.has_published();
-        let ended = is_open && made.is_raised && !made.is_mixed;
+        let ended = is_open && made.is_raised;
         counts.steps = counts.steps.saturating_add(1);
         counts.published = counts
             .published

@@ -2,7 +2,6 @@
 
 use anyhow::{Result, ensure};
 use machine::Piece;
-use std::alloc::{AllocError, Global};
 
 /// The bytes at a piece of RAM that a word of the driver lies in.
 #[derive(Clone, Copy, Debug, PartialEq, Eq)]
@@ -36,11 +35,4 @@ pub fn word_in(bytes: &[u8], piece: Piece) -> Result<Word> {
     let mut word = [0; 4];
     word[..count].copy_from_slice(&bytes[at..at + count]);
     Ok(Word { piece, word })
-}
-
-/// A copy of these bytes.
-pub fn copied(alloc: Global, bytes: &[u8]) -> Result<Vec<u8>, AllocError> {
-    let mut copy = Vec::new(alloc);
-    copy.extend_from_slice(bytes)?;
-    Ok(copy)
 }

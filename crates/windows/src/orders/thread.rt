@@ -1,11 +1,10 @@
 //! The thread of the host that makes the steps of the device, over a window.
 
 use crate::orders::Fault;
-use crate::orders::world::{BUFFERS, DEVICE, SIZE, WORK, World, number_in};
+use crate::orders::world::{WORK, World, number_in};
 use crate::word::{Word, word_in};
 use anyhow::{Result, bail, ensure};
-use chains::Positions;
-use machine::{Asking, Stepped};
+use machine::{Asking, NotMade, Piece, Stepped};
 
 /// What the thread does next.
 #[derive(Clone, Copy, Debug, PartialEq, Eq)]
@@ -38,14 +37,11 @@ pub struct Thread {
     /// What it does next.
     pub phase: Phase,
 
-    /// How many register writes there were when the first piece was copied.
-    serial: u32,
+    /// What the open step answered.
+    stepped: Stepped,
 
-    /// What the open step wrote, what is stored last first: where, and how many bytes.
-    writes: [(usize, usize); 3],
-
-    /// How many of them are not stored.
-    left: usize,
+    /// How many of the bytes that it wrote are stored.
+    stored: u64,
 
     /// Whether the driver's word asked for an interrupt.
     is_due: bool,
@@ -55,9 +51,8 @@ impl Thread {
     /// The beginning.
     pub const FIRST: Thread = Thread {
         phase: Phase::Rest,
-        serial: 0,
-        writes: [(0, 0); 3],
-        left: 0,
+        stepped: Stepped::Idle,
+        stored: 0,
         is_due: false,
     };
 
@@ -79,7 +74,7 @@ impl World {
         match world.thread.phase {
             Phase::Rest => world.forget(),
             Phase::Gather if world.is_stale() => world.forget(),
-            Phase::Note | Phase::Close if world.is_stale() => {
+            Phase::Note if world.is_stale() => {
                 world.forget();
                 return Ok(world);
             }
@@ -107,22 +102,21 @@ impl World {
         }
     }
 
-    /// Whether a register was written since the first piece was copied.
+    /// Whether the device was touched since the pieces were begun.
     fn is_stale(&self) -> bool {
-        self.thread.serial != self.serial && self.trial.fault != Fault::StalePieces
+        self.pieces.is_stale(&self.serials)
     }
 
     /// Forgets the pieces that are held, and begins again.
     fn forget(&mut self) {
-        self.held.clear();
-        self.thread.serial = self.serial;
+        self.pieces.renew(WORK, &self.serials);
         self.thread.phase = Phase::Gather;
     }
 
     /// Copies the piece that is lacking into the window: one load. If none is, the step is made.
     fn gather(self) -> Result<World> {
         let world = self;
-        let (lacking, host) = world.host.lacks(WORK, world.held.as_slice())?;
+        let (lacking, host) = world.host.lacks(WORK, world.pieces.held())?;
         let mut world = World { host, ..world };
         let Some(piece) = lacking else {
             return world.settle();
@@ -134,7 +128,7 @@ impl World {
             "a piece outside RAM"
         );
         world.host.put(at, &ram[at..at + count])?;
-        world.held.push(piece)?;
+        world.pieces.add(piece)?;
         Ok(world)
     }
 
@@ -142,10 +136,16 @@ impl World {
     fn settle(self) -> Result<World> {
         let world = self;
         let (asking, host) = world.host.asking(WORK)?;
-        let mut world = World { host, ..world };
+        let (stores, host) = host.storing(WORK)?;
+        let is_noted = stores.second_look().is_some();
+        let mut world = World {
+            host,
+            stores: Some(stores),
+            ..world
+        };
         match asking {
             Some(asking) => world.open(asking),
-            None if world.trial.has_events && world.held.len() == 1 => {
+            None if is_noted => {
                 world.thread.phase = Phase::Note;
                 Ok(world)
             }
@@ -153,38 +153,25 @@ impl World {
         }
     }
 
-    /// The positions of the device in its queue.
-    fn positions(&self) -> Result<Positions> {
-        let Some(device) = self.host.parked.devices().get(0) else {
-            bail!("no device");
+    /// The first piece that a step with this answer writes.
+    fn first_write(&self, stepped: Stepped) -> Result<Piece> {
+        let Some(stores) = &self.stores else {
+            bail!("nothing is known of the step");
         };
-        match device.state().positions().get(0) {
-            Some(positions) => Ok(*positions),
-            None => bail!("no queue"),
-        }
-    }
-
-    /// Where the device says when it wants to be notified, and in how many bytes.
-    fn note_place(&self) -> (usize, usize) {
-        if self.trial.is_packed {
-            (DEVICE, 4)
-        } else {
-            (DEVICE + 4 + 8 * SIZE, 2)
+        match stores.next(stepped, 0) {
+            Some(piece) => Ok(piece),
+            None => bail!("nothing to store"),
         }
     }
 
     /// Stores the note that the step is going to write: that it wants to be notified of the next chain.
     fn note(&mut self) -> Result<()> {
-        let taking = self.positions()?.taking;
-        let wrap = if taking.wrap { 0x8000 } else { 0 };
-        let place = taking.place as u64;
-        let (at, count) = self.note_place();
-        let note = if self.trial.is_packed {
-            0x2_0000 | wrap | place
-        } else {
-            place
+        let piece = self.first_write(Stepped::Idle)?;
+        let Some(stores) = &self.stores else {
+            bail!("nothing is known of the step");
         };
-        self.store(at, note, count)?;
+        let note = u32::from_le_bytes(stores.note()) as u64;
+        self.store(piece.at as usize, note, piece.count as usize)?;
         self.thread.phase = if self.trial.fault == Fault::OneLook {
             Phase::Close
         } else {
@@ -195,8 +182,11 @@ impl World {
 
     /// Loads the piece again by which the queue is empty. If it has changed, nothing was made.
     fn look_again(&mut self) -> Result<()> {
-        let Some(piece) = self.held.as_slice().get(0) else {
-            bail!("no piece is held");
+        let Some(stores) = &self.stores else {
+            bail!("nothing is known of the step");
+        };
+        let Some(piece) = stores.second_look() else {
+            bail!("no piece is to be read again");
         };
         let (at, count) = (piece.at as usize, piece.count as usize);
         let (ram, window) = (self.ram.as_slice(), self.host.bytes()?);
@@ -212,16 +202,32 @@ impl World {
         Ok(())
     }
 
+    /// Makes the step of the pieces that are held. Where they are stale it is not made.
+    fn make(self) -> Result<(Option<Stepped>, World)> {
+        let mut world = self;
+        let mut sent = Vec::new(world.alloc);
+        let host = world.host;
+        let (tried, host) = host.step_held(&world.pieces, &mut world.serials, &mut sent)?;
+        let world = World { host, ..world };
+        match tried {
+            Ok(stepped) => Ok((Some(stepped), world)),
+            Err(NotMade::Stale) => Ok((None, world)),
+            Err(_) => bail!("a step that lacks a piece"),
+        }
+    }
+
     /// Makes the step that finds the queue empty.
     fn close(self) -> Result<World> {
-        let world = self;
-        let is_noted = world.thread.phase == Phase::Close;
-        let mut sent = Vec::new(world.alloc);
-        let (stepped, host) = world.host.step(WORK, &mut sent)?;
-        let mut world = World { host, ..world };
+        let is_noted = self.thread.phase == Phase::Close;
+        let (stepped, mut world) = self.make()?;
+        let Some(stepped) = stepped else {
+            world.forget();
+            return Ok(world);
+        };
         ensure!(stepped == Stepped::Idle, "a step that is not idle");
         if is_noted {
-            let (at, count) = world.note_place();
+            let piece = world.first_write(stepped)?;
+            let (at, count) = (piece.at as usize, piece.count as usize);
             let written = number_in(world.host.bytes()?, at, count)?;
             ensure!(written == world.load(at, count)?, "another note");
         }
@@ -233,20 +239,22 @@ impl World {
     fn open(self, asking: Asking) -> Result<World> {
         let mut world = self;
         let piece = asking.word();
+        ensure!(world.is_apart(&asking), "the word is not apart");
         let word = asking.quiet();
         world
             .host
             .put(piece.at as usize, Word { piece, word }.bytes())?;
-        let used = world.positions()?.used.place as usize;
-        let mut sent = Vec::new(world.alloc);
-        let (stepped, host) = world.host.step(WORK, &mut sent)?;
+        let (stepped, world) = world.make()?;
+        let Some(stepped) = stepped else {
+            bail!("a step whose pieces are stale");
+        };
         ensure!(stepped.has_published(), "a step that publishes nothing");
         let mut world = World {
-            host,
             asking: Some(asking),
             ..world
         };
-        world.plan(used)?;
+        world.thread.stepped = stepped;
+        world.thread.stored = 0;
         world.thread.is_due = false;
         world.thread.phase = if world.trial.fault == Fault::EarlyWord {
             Phase::Word
@@ -256,45 +264,41 @@ impl World {
         Ok(world)
     }
 
-    /// What the step wrote: the buffer, then the used element and the used index, or the used descriptor.
-    fn plan(&mut self, used: usize) -> Result<()> {
-        let window = self.host.bytes()?;
-        let slot = used % SIZE;
-        let (id, len, writes) = if self.trial.is_packed {
-            let at = 16 * slot + 8;
-            let (len, id) = (number_in(window, at, 4)?, number_in(window, at + 4, 2)?);
-            (id, len, [(at, 8), (0, 0), (0, 0)])
-        } else {
-            let at = DEVICE + 4 + 8 * slot;
-            let (id, len) = (number_in(window, at, 4)?, number_in(window, at + 4, 4)?);
-            (id, len, [(DEVICE + 2, 2), (at, 8), (0, 0)])
+    /// Whether no byte of the driver's word is held, and the step writes into none.
+    fn is_apart(&self, asking: &Asking) -> bool {
+        let Some(stores) = &self.stores else {
+            return false;
         };
-        let buffer = BUFFERS + 16 * (id.wrapping_sub(1) % 4) as usize;
-        let last = if self.trial.is_packed { 1 } else { 2 };
-        let mut writes = writes;
-        writes[last] = (buffer, len as usize);
-        self.thread.writes = writes;
-        self.thread.left = last + 1;
-        Ok(())
+        !asking.shares(self.pieces.held()) && !stores.may_write(asking.word())
+    }
+
+    /// The next piece of what the open step wrote, if all is not stored.
+    fn next_write(&self) -> Option<Piece> {
+        let Some(stores) = &self.stores else {
+            return None;
+        };
+        stores.next(self.thread.stepped, self.thread.stored)
     }
 
     /// Stores the next of what the step wrote: one store.
     fn store_next(&mut self) -> Result<()> {
-        let left = self.thread.left.wrapping_sub(1);
-        let Some((at, count)) = self.thread.writes.get(left) else {
+        let Some(piece) = self.next_write() else {
             bail!("nothing to store");
         };
-        let (at, count) = (*at, *count);
+        let (at, count) = (piece.at as usize, piece.count as usize);
         let (ram, window) = (self.ram.as_mut_slice(), self.host.bytes()?);
         ensure!(
             at <= ram.len() && count <= ram.len() - at && ram.len() <= window.len(),
             "a store outside RAM"
         );
         ram[at..at + count].copy_from_slice(&window[at..at + count]);
-        self.thread.left = left;
-        if left == 0 && self.trial.fault == Fault::EarlyWord {
+        self.thread.stored = self.thread.stored.wrapping_add(piece.count);
+        if self.next_write().is_some() {
+            return Ok(());
+        }
+        if self.trial.fault == Fault::EarlyWord {
             self.end();
-        } else if left == 0 {
+        } else {
             self.thread.phase = Phase::Word;
         }
         Ok(())
@@ -320,5 +324,6 @@ impl World {
         self.host.parked.end(0, self.thread.is_due);
         self.thread.phase = Phase::Rest;
         self.asking = None;
+        self.stores = None;
     }
 }

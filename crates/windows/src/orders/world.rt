@@ -4,10 +4,10 @@ use crate::bench::{Beginning, host_of};
 use crate::host::Host;
 use crate::orders::driver::{Doing, Driver};
 use crate::orders::thread::{Phase, Thread};
-use crate::orders::{Trial, Verdict};
+use crate::orders::{Fault, Trial, Verdict};
 use crate::window::new_window;
 use anyhow::{Result, ensure};
-use machine::{Asking, Piece, Shape, Work};
+use machine::{Asking, Event, Pieces, Serials, Shape, Stores, Work};
 use mmio::USED_BUFFER;
 use std::alloc::Global;
 
@@ -48,13 +48,16 @@ pub struct World {
     pub host: Host,
 
     /// The pieces that lie in the window.
-    pub held: Vec<Piece>,
+    pub pieces: Pieces,
 
     /// What the step publishes that is open.
     pub asking: Option<Asking>,
 
-    /// How often a register was written, as the host knows it.
-    pub serial: u32,
+    /// What the step writes whose pieces are held.
+    pub stores: Option<Stores>,
+
+    /// How often the device was touched, as the host counts it.
+    pub serials: Serials,
 
     /// Where the driver stands.
     pub driver: Driver,
@@ -82,14 +85,16 @@ impl World {
             shapes: &[Shape::Entropy],
             plan: &[],
         };
+        let serials = Serials::new();
         Ok(World {
             alloc,
             trial,
             ram: vec![in alloc; 0u8; USED]?,
             host: host_of(alloc, &beginning, new_window(alloc)?)?,
-            held: Vec::new(alloc),
+            pieces: Pieces::begin(alloc, WORK, &serials),
             asking: None,
-            serial: 0,
+            stores: None,
+            serials,
             driver: Driver::first(trial),
             thread: Thread::FIRST,
         })
@@ -102,6 +107,7 @@ impl World {
             driver: Driver::first(trial),
             thread: Thread::FIRST,
             asking: None,
+            stores: None,
             ..self
         };
         world.set_up()?;
@@ -131,9 +137,16 @@ impl World {
         Ok(())
     }
 
-    /// The driver writes a register, and the host counts it.
+    /// The driver writes a register, and the host counts it, unless it keeps its pieces for ever.
     pub fn write_register(&mut self, offset: u32, value: u32) -> Result<()> {
-        self.serial = self.serial.wrapping_add(1);
+        if self.trial.fault != Fault::StalePieces {
+            self.serials.touch_by(&Event::RegWrite {
+                dev: 0,
+                off: offset,
+                width: 4,
+                value,
+            });
+        }
         let reply = self.host.parked.write_register(0, offset, 4, value);
         ensure!(reply.is_ok(), "the write of a register");
         Ok(())
