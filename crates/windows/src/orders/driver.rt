@@ -134,26 +134,34 @@ impl World {
     /// A step of the driver.
     pub fn drive(self) -> Result<World> {
         let mut world = self;
-        world.driver.doing = match world.driver.doing {
-            Doing::Fill => world.fill()?,
-            Doing::Describe => world.describe()?,
-            Doing::Enter => world.enter()?,
-            Doing::Show => world.show()?,
-            Doing::Ask => world.ask()?,
-            Doing::Kick => world.kick()?,
-            Doing::Reset => {
-                world.write_register(0x070, 0)?;
-                Doing::SetUp
-            }
-            Doing::SetUp => world.set_up_again()?,
-            Doing::Look => world.look(Doing::Wish)?,
-            Doing::Wish => world.wish()?,
-            Doing::LookAgain => world.look(Doing::Sleep)?,
-            Doing::Sleep => world.acknowledge()?,
-            Doing::Take => world.take()?,
-            Doing::Done => Doing::Done,
-        };
+        let doing = world.do_next()?;
+        world.driver.doing = doing;
         Ok(world)
+    }
+
+    /// Does what the driver does next. Returns what it does after that.
+    fn do_next(&mut self) -> Result<Doing> {
+        match self.driver.doing {
+            Doing::Fill => self.fill(),
+            Doing::Describe => self.describe(),
+            Doing::Enter => self.enter(),
+            Doing::Show => self.show(),
+            Doing::Ask => self.ask(),
+            Doing::Kick => self.kick(),
+            Doing::Reset => self.reset(),
+            Doing::SetUp => self.set_up_again(),
+            Doing::Look => self.look(Doing::Wish),
+            Doing::Wish => self.wish(),
+            Doing::LookAgain => self.look(Doing::Sleep),
+            Doing::Sleep => self.acknowledge(),
+            Doing::Take => self.take(),
+            Doing::Done => Ok(Doing::Done),
+        }
+    }
+
+    fn reset(&mut self) -> Result<Doing> {
+        self.write_register(0x070, 0)?;
+        Ok(Doing::SetUp)
     }
 
     fn fill(&mut self) -> Result<Doing> {
