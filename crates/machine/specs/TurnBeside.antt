@@ -1,5 +1,5 @@
 -- A turn of the devices while the RAM is lent: the host makes each step over a window. It asks before the step which one is next, and tells after
--- it what was answered; then the turn goes on, or has ended.
+-- it what was answered; then the turn continues, or has ended.
 use Rattle.std.specs.Prelude.{◌≡◌, ℕ, ◌≤◌, Bool, true, false, List, [], Option, Some, None, Result, Ok, Err, slice_get, if◌then◌else◌}
 use Rattle.region.specs.declared.region.Region.{Region}
 use Rattle.machine.specs.Beside.{IsMadeOver, ended}

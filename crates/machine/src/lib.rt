@@ -88,7 +88,7 @@
 //! - `Serials` counts how often each device was touched, and `Pieces` are those that are held of a step: stale once its device was touched since
 //!   they were begun (`laws::touched_is_stale`, `untouched_devices_stay`). `Parked::step_held` makes the step with them, where they are not stale
 //!   and lack none. It asks for both by itself, and where the step is not made nothing has changed.
-//! - `Parked::plan` names the next step of a turn that a host makes so, and `Turn::after` says whether the turn goes on: it is a turn as `work` makes
+//! - `Parked::plan` names the next step of a turn that a host makes so, and `Turn::after` says whether the turn continues: it is a turn as `work` makes
 //!   it (`laws::beside_is_once`).
 //! - `are_disks_of` says whether disks are those of some devices, in their order.
 //! - `laws`: what an effect does not touch stays, what it touches exists, the shape stays. Equal outcomes give equal effects,

@@ -55,7 +55,7 @@ impl Model for Stores {
     ghost invariant = { λ s. IsHeldIn s.base (writing_in (ring_in s.ring) s.target) };
 }
 
-/// Bytes of the writable segments: so many, from the one of number `skip` on.
+/// Bytes of the writable segments: `count` of them, from number `skip`.
 #[derive(Clone, Copy)]
 struct Span {
     skip: u64,

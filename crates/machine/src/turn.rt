@@ -3,7 +3,7 @@
 //! A host that writes this loop itself can be wrong in four ways: it makes no bound, and a guest keeps it for ever; it puts two messages
 //! into one buffer; it forgets that a disk has to be flushed before a step; or it comes back at once to a step that was refused memory.
 //!
-//! A host whose guest runs makes the steps itself, over a window: `Parked::plan` names each, and `Turn::after` says whether the turn goes on.
+//! A host whose guest runs makes the steps itself, over a window: `Parked::plan` names each, and `Turn::after` says whether the turn continues.
 //!
 //! The bound is the turn's and not a call's: each step that is made or passed over counts it down. So a loop around the call ends too.
 

@@ -185,7 +185,7 @@ pub fn are_same_devices(one: &[Device<TestDisk>], other: &[Device<TestDisk>]) ->
     Ok(())
 }
 
-/// The disks of the devices, of zeros. Their calls that fail are counted from after so many.
+/// The disks of the devices, of zeros. The numbers of their calls that fail are counted from `calls`.
 fn disks_of(alloc: Global, beginning: &Beginning<'_>, calls: u64) -> Result<Vec<TestDisk>> {
     let mut disks = Vec::new(alloc);
     for shape in beginning.shapes {
@@ -220,7 +220,7 @@ fn made(
     }
 }
 
-/// The same machine over this memory, which is filled with zeros. The calls of its disks that fail are counted from after so many.
+/// The same machine over this memory, which is filled with zeros. The numbers of the calls of its disks that fail are counted from `calls`.
 fn machine_over(
     alloc: Global,
     beginning: &Beginning<'_>,

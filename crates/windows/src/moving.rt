@@ -167,7 +167,7 @@ impl Moving {
         Ok(())
     }
 
-    /// The guest wrote so many bytes from an index of RAM on, which are not more than a page has.
+    /// The guest wrote `count` bytes of RAM from index `at`: no more than a page has.
     pub fn note(&mut self, at: usize, count: usize) {
         if count == 0 {
             return;

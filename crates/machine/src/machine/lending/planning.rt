@@ -10,7 +10,7 @@ use blk::{Disk, SyncOwed};
 
 impl<D: Disk> Parked<D> {
     /// The next step of a turn, or why the turn ends: none has something to do, the turn has no step left, or the step ends a write of a
-    /// driver that did not accept FLUSH and was passed over, as in `Machine::work`. The host makes the step over a window, and goes on by
+    /// driver that did not accept FLUSH and was passed over, as in `Machine::work`. The host makes the step over a window, and continues by
     /// `Turn::after`. So it makes a turn of them (`laws::beside_is_once`).
     pub fn plan(&self, turn: &mut Turn) -> Result<Plan, TurnEnd>
         ensures { Plans (parked_states self.now) turn.old result turn.new }
