@@ -22,3 +22,12 @@ await() {
     done
     return 0
 }
+# Waits until process $1 has ended, a source whose guest move $3 takes away, and says how. False where the move was
+# given up, as the source says in file $2: its guest continues there.
+ended() {
+    while kill -0 $1 2> /dev/null; do
+        if grep -q 'the guest continues here' $2; then say "move $3 was given up"; return 1; fi
+        usleep 200000
+    done
+    wait $1; say "move $3: its source ended with $?"
+}
