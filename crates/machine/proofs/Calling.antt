@@ -18,7 +18,7 @@ use Rattle.blk.specs.declared.block.Block as blocks
 use Rattle.blk.specs.declared.request.Kind as request
 use Rattle.blk.specs.declared.request.Kind.TheVariants.{Refused, In, Out, Flush, GetId, Zero}
 use Rattle.blk.specs.declared.request.Request.{Request}
-use Rattle.machine.specs.Applied.{IsApplied}
+use Rattle.machine.specs.Applied.{IsApplied, Tells}
 use Rattle.machine.specs.Calls.{CallsDisk, HasCalled, HaveCalled, advance_of, asks_disk, has_read, kind_asks}
 use Rattle.machine.specs.DeviceStep.{advances, advanced_at, is_outside, looked_at, reply_to_advance, requests_of}
 use Rattle.machine.specs.Seen.{DeviceSeen, Seen, all_calls, called_if}
@@ -32,7 +32,6 @@ use Rattle.machine.specs.declared.kind.Kind.TheVariants.{Network, Block, Outside
 use Rattle.machine.specs.declared.reply.Reply.{Reply}
 use Rattle.machine.proofs.At.{IsAt, found, map-set_same, past}
 use Rattle.machine.proofs.Looking.{left_of_and, none_past, right_of_and}
-use Rattle.machine.proofs.Reading.{Tells}
 use Rattle.machine.proofs.Rings.{positions_long}
 use Rattle.machine.proofs.Stepping.{no_positions}
 

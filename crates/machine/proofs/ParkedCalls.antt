@@ -10,12 +10,12 @@ use Rattle.guestmem.specs.Lent.{given_back, raise_each}
 use Rattle.guestmem.specs.Memory.{IsMemory, Memory}
 use Rattle.guestmem.specs.Write.{raised}
 use Rattle.guestmem.specs.declared.limits.TheConstants.{PAGES_GREATEST}
-use Rattle.machine.specs.Applied.{FailsOnlyUnsteady, IsApplied, as_given, marks_after}
+use Rattle.machine.specs.Applied.{FailsOnlyUnsteady, IsApplied, ReadsSector, as_given, marks_after}
 use Rattle.machine.specs.Effect.{items_of, no_effect}
 use Rattle.machine.specs.Held.{IsHeld}
 use Rattle.machine.specs.Outcome.{outcome_of}
 use Rattle.machine.specs.Outside.{TakesAnswer, answer_of, disk_reply}
-use Rattle.machine.specs.Parked.{FailsParkedFlushIf, FlushesParked, IsAppliedParked, IsAppliedQuietly, IsParked, LentIsAfterReturn, ParkedFlushFails, ParkedIsApplied, ParkedIsFlushed, ParkedSeen, WasHeld, back_with, makes_flush_parked}
+use Rattle.machine.specs.Parked.{FailsParkedFlushIf, FlushesParked, IsAppliedParked, IsAppliedQuietly, IsParked, LentIsAfterReturn, ParkedFlushFails, ParkedIsApplied, ParkedIsFlushed, ParkedIsRead, ParkedSeen, WasHeld, back_with, makes_flush_parked}
 use Rattle.machine.specs.Rings.{AreNewRings, FitAll}
 use Rattle.machine.specs.Seen.{DeviceSeen, Seen, state_of}
 use Rattle.machine.specs.Sound.{IsSoundDevice}
@@ -187,6 +187,14 @@ pub parked_is_flushed : ParkedIsFlushed
 parked_is_flushed m p next region dev result parked was = record {
   after = back_with next m.memory;
   done = subst (λ (x : Seen). FlushesDisk x dev result (back_with next m.memory)) (back_itself m p parked.devices_are) (was.flushes m.memory);
+  parked = still_parked m p next region parked was.versions;
+  memory = refl;
+}
+
+pub parked_is_read : ParkedIsRead
+parked_is_read m p next region dev n bytes result parked was = record {
+  after = back_with next m.memory;
+  done = subst (λ (x : Seen). ReadsSector x dev n bytes result (back_with next m.memory)) (back_itself m p parked.devices_are) (was.reads m.memory);
   parked = still_parked m p next region parked was.versions;
   memory = refl;
 }

@@ -7,7 +7,7 @@ use Rattle.blk.specs.declared.sectors.Fetched.{Fetched}
 use Rattle.blk.specs.declared.sectors.Fetched.TheVariants.{Bad, Failed, Read}
 use Rattle.guestmem.specs.Item.{sector}
 use Rattle.guestmem.specs.Memory.{Memory}
-use Rattle.machine.specs.Applied.{IsGood, ReadsSector}
+use Rattle.machine.specs.Applied.{IsGood, ReadsSector, Tells}
 use Rattle.machine.specs.EffectLaws.{HasItem, sector_on, sectors_on}
 use Rattle.machine.specs.Held.{IsHeld}
 use Rattle.machine.specs.NextBad.{found_good}
@@ -15,6 +15,10 @@ use Rattle.machine.specs.Seen.{DeviceSeen, failed_if, state_of}
 use Rattle.machine.specs.Shapes.{made_as}
 use Rattle.machine.specs.declared.shape.Shape.{Shape}
 use Rattle.machine.proofs.At.{IsAt, map-set_same}
+
+-- Some memory, where it does not matter which.
+abbrev pub no_memory : Memory
+no_memory = record { bytes = []; versions = []; place = None }
 
 -- The machine stays as it is.
 pub same_state : (m : Memory) (ds : List DeviceSeen) (dev : ℕ) (d new : DeviceSeen) → IsAt ds dev d → new.state ≡ d.state → new.sectors ≡ d.sectors
@@ -68,12 +72,6 @@ bad_is (Some bytes) bad = cc
 good_is : (s : Sector) → is_bad s ≡ false → s ≡ Some (bytes_of s)
 good_is None good = cc
 good_is (Some bytes) good = refl
-
--- What is told of a read.
-abbrev pub Tells : {E : Type 0} → Fetched → Result Bool E → Type 0
-Tells Read result = result ≡ Ok true
-Tells Bad result = result ≡ Ok false
-Tells {E} Failed result = (e : E) × (result ≡ Err e)
 
 -- A read of a sector that is there.
 pub record IsRead (m : Memory) (ds : List DeviceSeen) (dev n : ℕ) (d new : DeviceSeen) (bytes : List ℕ) (fetched : Fetched) : Type 0 where

@@ -1,9 +1,11 @@
 -- What applying an event does to a machine, as contracts see it.
-use Rattle.std.specs.Prelude.{◌≡◌, ◌≢◌, ℕ, List, [], ◌∷◌, slice_set, IsTrue, Bool, true, false, Option, Some, None, Result, IfOk, OnOk, OnErr, if◌then◌else◌}
+use Rattle.std.specs.Prelude.{◌≡◌, ◌≢◌, ℕ, List, [], ◌∷◌, slice_set, IsTrue, Bool, true, false, Option, Some, None, Result, Ok, Err, IfOk, OnOk, OnErr, if◌then◌else◌}
 use Rattle.guestmem.specs.Item.{Item, after_all}
 use Rattle.guestmem.specs.Later.{IsLater}
 use Rattle.guestmem.specs.Rises.{Rises}
 use Rattle.blk.specs.Sectors.{IsGiven, Sector, is_bad}
+use Rattle.blk.specs.declared.sectors.Fetched.{Fetched}
+use Rattle.blk.specs.declared.sectors.Fetched.TheVariants.{Bad, Failed, Read}
 use Rattle.machine.specs.BadSectors.{bad_on}
 use Rattle.machine.specs.Effect.{Effect, SectorSet, applied, items_of}
 use Rattle.machine.specs.EffectLaws.{HasItem, IsSameShape, sector_on, sectors_on}
@@ -110,6 +112,12 @@ IsGood found = (bytes : List ℕ) × (found ≡ Some (Some bytes))
 abbrev pub IsFound : Marks → Option Sector → List ℕ → Bool → Type 0
 IsFound marks found bytes true = IsGood found × (IsTrue marks.honest → found ≡ Some (Some bytes))
 IsFound marks found bytes false = found ≡ Some None
+
+-- What the disk returned of a sector, as that result.
+abbrev pub Tells : {E : Type 0} → Fetched → Result Bool E → Type 0
+Tells Read result = result ≡ Ok true
+Tells Bad result = result ≡ Ok false
+Tells {E} Failed result = (e : E) × (result ≡ Err e)
 
 pub record ReadsSector {E : Type 0} (old : Seen) (dev n : ℕ) (bytes : List ℕ) (result : Result Bool E) (new : Seen) : Type 0 where
   pub memory : new.memory ≡ old.memory

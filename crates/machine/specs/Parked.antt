@@ -1,5 +1,5 @@
 -- What contracts see of a machine whose RAM is lent.
-use Rattle.std.specs.Prelude.{◌≡◌, ℕ, ◌+◌, ◌*◌, ◌/◌, ◌≤◌, List, [], ◌∷◌, Bool, true, false, Option, Result, length, map, slice_get, slice_index}
+use Rattle.std.specs.Prelude.{◌≡◌, ℕ, ◌+◌, ◌*◌, ◌/◌, ◌≤◌, List, [], ◌∷◌, Bool, true, false, Option, Some, Result, length, map, slice_get, slice_index}
 use Rattle.region.specs.Address.{address}
 use Rattle.region.specs.declared.region.Region.{Region}
 use Rattle.guestmem.specs.Lent.{AreBelow, IsLent, given_back, is_named, marked}
@@ -9,8 +9,9 @@ use Rattle.guestmem.specs.Number.{IsBytes}
 use Rattle.guestmem.specs.Page.{page_of}
 use Rattle.blk.specs.Sectors.{Sector}
 use Rattle.blk.specs.declared.disk.DiskFault.{DiskFault}
-use Rattle.machine.specs.Applied.{IsApplied}
+use Rattle.machine.specs.Applied.{IsApplied, ReadsSector}
 use Rattle.machine.specs.Effect.{items_of}
+use Rattle.machine.specs.EffectLaws.{sector_on}
 use Rattle.machine.specs.Held.{IsHeld}
 use Rattle.machine.specs.Seen.{DeviceSeen, Seen, all_calls, state_of}
 use Rattle.machine.specs.Sound.{IsSound}
@@ -110,6 +111,15 @@ pub record FlushesParked {T E : Type 0} (p : ParkedSeen) (dev : ℕ) (result : R
   pub versions : next.versions ≡ p.versions
   pub flushes : (m : Memory) → FlushesDisk (back_with p m) dev result (back_with next m)
 
+-- The disk of a device has this sector.
+abbrev pub HasSector : ParkedSeen → ℕ → ℕ → Type 0
+HasSector p dev n = (content : Sector) × (sector_on (slice_get (parked_sectors p) dev) n ≡ Some content)
+
+-- A read of a sector, of a machine whose RAM is lent: whatever the RAM holds meanwhile, it is that read of the machine with this RAM.
+pub record ReadsParked {E : Type 0} (p : ParkedSeen) (dev n : ℕ) (bytes : List ℕ) (result : Result Bool E) (next : ParkedSeen) : Type 0 where
+  pub versions : next.versions ≡ p.versions
+  pub reads : (m : Memory) → ReadsSector (back_with p m) dev n bytes result (back_with next m)
+
 -- The step of this pick flushes a disk.
 abbrev pub makes_flush_parked : ParkedSeen → ℕ → ℕ → Bool
 makes_flush_parked p dev pick = flushes_if (slice_get (parked_states p) dev) pick
@@ -146,6 +156,9 @@ ParkedIsApplied = (m : Seen) (p next : ParkedSeen) (region : Region) (e : Event)
 
 abbrev pub ParkedIsFlushed : Type 0
 ParkedIsFlushed = (m : Seen) (p next : ParkedSeen) (region : Region) (dev : ℕ) (result : Result (Unit {0}) DiskFault) → IsParked m region p → FlushesParked p dev result next → IsDoneLent m region next (FlushesDisk m dev result)
+
+abbrev pub ParkedIsRead : Type 0
+ParkedIsRead = (m : Seen) (p next : ParkedSeen) (region : Region) (dev n : ℕ) (bytes : List ℕ) (result : Result Bool DiskFault) → IsParked m region p → ReadsParked p dev n bytes result next → IsDoneLent m region next (ReadsSector m dev n bytes result)
 
 abbrev pub ParkedFlushFails : Type 0
 ParkedFlushFails = (m : Seen) (p next : ParkedSeen) (region : Region) (dev pick : ℕ) → IsMemory m.memory → IsBytes m.memory.bytes → IsParked m region p → FailsParkedFlush p dev pick next → IsDoneLent m region next (FailsFlush m dev pick)

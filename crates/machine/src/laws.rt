@@ -8,7 +8,7 @@ mod work;
 ghost use Rattle.machine.specs.AppliedLaws.{HonestDisksGiveTheirs, AnyDiskActsAlike, RefusedChangesNothing};
 ghost use Rattle.machine.specs.Calls.{OnlyStepsCall};
 ghost use Rattle.machine.specs.PageLog.{NotedAreThese};
-ghost use Rattle.machine.specs.Parked.{BackIsWritten, LentIsAfterReturn, MarkIsWritten, ParkedFlushFails, ParkedIsApplied, ParkedIsFlushed, UnnamedIsWritten};
+ghost use Rattle.machine.specs.Parked.{BackIsWritten, LentIsAfterReturn, MarkIsWritten, ParkedFlushFails, ParkedIsApplied, ParkedIsFlushed, ParkedIsRead, UnnamedIsWritten};
 ghost use Rattle.machine.specs.Limits.{GreatestAllow, LimitsStay};
 ghost use Rattle.machine.specs.EffectLaws.{UntouchedStays, TouchedExists, ShapeStays};
 ghost use Rattle.machine.specs.StepLaws.{EffectsAgree, StepsAgree, RunsAgree, StepStaysWithin, StepKeepsShape, StepStaysSound, RefusalsChangeNothing, MalformedIsContained, MalformedAsksForReset};
@@ -136,6 +136,11 @@ pub fn parked_is_applied()
 /// So it is with a flush of a disk.
 pub fn parked_is_flushed()
     ensures { ParkedIsFlushed }
+{}
+
+/// So it is with a read of a sector.
+pub fn parked_is_read()
+    ensures { ParkedIsRead }
 {}
 
 /// So it is with a step whose flush fails in its place.

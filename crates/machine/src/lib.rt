@@ -69,10 +69,10 @@
 //!   they keep, so a page that was written and not named is never read as it was: then too it is what the guest's writes are, but for the
 //!   versions (`laws::unnamed_is_written`). `mark` names pages later; it is the guest's writes of these pages with the bytes that lie there
 //!   (`laws::mark_is_written`).
-//! - What needs no byte of RAM can be done while it is lent: register accesses, input, a size of a console, flushes of disks, the next
-//!   work, the lines, the states of the devices, and answers of disks outside that touch no RAM (`Parked::disk_did`, `disk_failed`). Each is
+//! - What needs no byte of RAM can be done while it is lent: register accesses, input, a size of a console, flushes of disks, reads of
+//!   their sectors, the next work, the lines, the states of the devices, and answers of disks outside that touch no RAM (`Parked::disk_did`, `disk_failed`). Each is
 //!   that of the machine with whatever its RAM holds meanwhile, and so of the machine as it was lent (`laws::parked_is_applied`,
-//!   `parked_is_flushed`, `parked_flush_fails`) and of the machine after the return (`laws::lent_call_is_made_after_the_return`): it makes no
+//!   `parked_is_flushed`, `parked_is_read`, `parked_flush_fails`) and of the machine after the return (`laws::lent_call_is_made_after_the_return`): it makes no
 //!   difference whether the guest wrote before or after. RAM accesses, bytes that a disk outside gave and what hands the machine on want the
 //!   RAM back, and so do steps, but for those that are made over a window.
 //! - A step may be made while the RAM is lent and the guest runs: over a window, a second memory of RAM's size into which the caller copies

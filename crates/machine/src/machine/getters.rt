@@ -3,7 +3,7 @@
 ghost use Rattle.std.specs.Prelude.{◌≡◌, ◌<◌, ◌≤◌, ◌==◌, ◌↔◌, IsTrue, count_by, if◌then◌else◌, length, map, Some, slice_get};
 ghost use Rattle.blk.specs.Sectors.{is_bad};
 ghost use Rattle.guestmem.specs.Item.{sector};
-ghost use Rattle.machine.specs.Applied.{ReadsSector};
+ghost use Rattle.machine.specs.Applied.{ReadsSector, Tells};
 ghost use Rattle.machine.specs.Calls.{CallsDisk, has_read};
 ghost use Rattle.machine.specs.EffectLaws.{HasItem, HasSectorsOf};
 ghost use Rattle.machine.specs.Seen.{state_of};
@@ -78,11 +78,7 @@ impl<D: Disk> Machine<D> {
         ensures read { ReadsSector self.old dev n buf.new result self.new }
         ensures calls { CallsDisk D.called (has_read result) dev self.old self.new }
     {
-        match self.devices[dev as usize].read_sector(n, buf) {
-            Fetched::Read => Ok(true),
-            Fetched::Bad => Ok(false),
-            Fetched::Failed => Err(DiskFault),
-        }
+        found(self.devices[dev as usize].read_sector(n, buf))
     }
 
     /// The devices, in order, each with its disk.
@@ -112,6 +108,17 @@ impl<D: Disk> Machine<D> {
         ensures { result.now ≡ self.now.memory }
     {
         &self.ram
+    }
+}
+
+/// The result of a read of a sector, by what its disk returned.
+pub(crate) fn found(fetched: Fetched) -> Result<bool, DiskFault>
+    ensures { Tells fetched result }
+{
+    match fetched {
+        Fetched::Read => Ok(true),
+        Fetched::Bad => Ok(false),
+        Fetched::Failed => Err(DiskFault),
     }
 }
 

@@ -6,20 +6,21 @@
 ghost use Rattle.std.specs.Prelude.{◌≡◌, IfSome, None, map, slice_get, true};
 ghost use Rattle.blk.specs.Outside.{Did, Failed};
 ghost use Rattle.guestmem.specs.Memory.{Memory};
-ghost use Rattle.machine.specs.Calls.{CallsDisk};
+ghost use Rattle.machine.specs.Calls.{CallsDisk, has_read};
 ghost use Rattle.machine.specs.Dropping.{drops_in};
 ghost use Rattle.machine.specs.Direct.{accepted_reply, done_reply, value_reply, written_result};
 ghost use Rattle.machine.specs.NextWork.{HaveNoWork, NoneCanWork, can_work_at, has_work_at, next_work, next_work_with_lost};
 ghost use Rattle.machine.specs.Outside.{disk_reply};
-ghost use Rattle.machine.specs.Parked.{FailsParkedFlushIf, FlushesParked, IsAppliedParked, back_with, makes_flush_parked, parked_states};
+ghost use Rattle.machine.specs.Parked.{FailsParkedFlushIf, FlushesParked, HasSector, IsAppliedParked, ReadsParked, back_with, makes_flush_parked, parked_states};
 ghost use Rattle.machine.specs.declared.event.DiskAnswer.TheVariants as answers;
 ghost use Rattle.machine.specs.declared.event.Event.TheVariants as events;
 
+use crate::machine::getters::found;
 use crate::machine::lending::Parked;
 use crate::machine::next_work::next_in_turn;
 use crate::reply::Refusal;
 use crate::work::Work;
-use blk::{Disk, DiskFault};
+use blk::{Disk, DiskFault, SECTOR_SIZE};
 use console::ConsoleSize;
 use guestmem::{PAGE_SIZE, recall_bytes};
 
@@ -135,6 +136,21 @@ impl<D: Disk> Parked<D> {
             return Ok(());
         }
         self.devices[dev].flush()
+    }
+
+    /// Reads a sector of a device's disk, one that it has (`Machine::read_sector`). A bad sector is not read, and the result is `false`;
+    /// then, and where the disk fails, the buffer may hold anything.
+    pub fn read_sector(
+        &mut self,
+        dev: u8,
+        n: u64,
+        buf: &mut [u8; SECTOR_SIZE],
+    ) -> Result<bool, DiskFault>
+        requires { HasSector self.old dev n }
+        ensures read { ReadsParked self.old dev n buf.new result self.new }
+        ensures calls { (m : Memory) → CallsDisk D.called (has_read result) dev (back_with self.old m) (back_with self.new m) }
+    {
+        found(self.devices[dev as usize].read_sector(n, buf))
     }
 
     /// In place of a step that flushes a disk: makes it as a step whose disk failed, and calls no disk (`Machine::fail_flush`). The result

@@ -2,10 +2,9 @@ use Rattle.std.proofs.Common.{arith}
 use Rattle.blk.specs.Sectors.{is_asked}
 use Rattle.machine.proofs.Keeping.{rings_stay}
 use Rattle.machine.proofs.At.{IsAt}
-use Rattle.machine.proofs.Reading.{IsRead, Tells, device_there, held_so, reads, sector_there}
+use Rattle.machine.proofs.Reading.{IsRead, device_there, held_so, reads, sector_there}
 use Rattle.machine.proofs.Calling.{calls_disk, read_called}
 use Rattle.machine.proofs.machine.Machine.read_sector.Goals as goal
-use Rattle.machine.proofs.machine.Machine.read_sector.Goals.{in-Read, in-Bad, in-Failed}
 
 pub invariant_of-self : goal.invariant_of-self
 invariant_of-self g c =
@@ -28,23 +27,13 @@ returns-clause-read g c =
       flushed = c.read_sector.ensures.flushed;
       is = c.read_sector.ensures.fetched;
     } in
-    let told : Tells c.read_sector.result c.match-read_sector.result = elim c.match-read_sector.branch [
-      | in-Read w ↦ rw w.in-Read.is w.result-is
-      | in-Bad w ↦ rw w.in-Bad.is w.result-is
-      | in-Failed w ↦ rw w.in-Failed.is (_, w.result-is)
-    ] in
-    rw (← c.self.view_is) (reads c.self.inside.ram ds c.args.dev c.args.n c.index_mut.result.now c.read_sector.new.self c.read_sector.new.buf c.read_sector.result c.match-read_sector.result read told)
+    rw (← c.self.view_is) (reads c.self.inside.ram ds c.args.dev c.args.n c.index_mut.result.now c.read_sector.new.self c.read_sector.new.buf c.read_sector.result c.found.result read c.found.ensures)
 
 pub returns-clause-calls : goal.returns-clause-calls
 returns-clause-calls g c =
     let i = c.self.inside in
     let at : IsAt i.devices.items c.args.dev c.index_mut.result.now = record { below = device_there i.ram i.devices.items c.args.dev c.args.n (rw (← c.self.view_is) at c.requires); is = c.index_mut.ensures.value } in
-    let told : Tells c.read_sector.result c.match-read_sector.result = elim c.match-read_sector.branch [
-      | in-Read w ↦ rw w.in-Read.is w.result-is
-      | in-Bad w ↦ rw w.in-Bad.is w.result-is
-      | in-Failed w ↦ rw w.in-Failed.is (_, w.result-is)
-    ] in
-    rw (← c.self.view_is, read_called c.read_sector.result c.match-read_sector.result told)
+    rw (← c.self.view_is, read_called c.read_sector.result c.found.result c.found.ensures)
     (calls_disk g.D.Disk.called (is_asked c.read_sector.result) i.ram i.ram i.devices.items c.args.dev c.index_mut.result.now c.read_sector.new.self at c.read_sector.ensures.calls)
 
 pub index_mut-requires : goal.index_mut-requires
