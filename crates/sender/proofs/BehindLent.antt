@@ -16,7 +16,7 @@ use Rattle.sender.specs.History.{History, guest_events, phase_of, text, then_cam
 use Rattle.sender.specs.LiveState.{HasPlaces, LiveSeen}
 use Rattle.sender.specs.Marks.{BehindSends, IsBehind, LentIsBehind, TakingStaysBehind, if_dirty}
 use Rattle.sender.specs.Parked.{IsLiveParked, KeepsWord, LiveParkedSeen, live_back, page_writes}
-use Rattle.sender.specs.ParkedCalls.{AreSeen, IsDoneLiveLent, IsLentCall, IsSeen, IsServedUncalled, LentCall, LentFollows, MayEnd, a_failed_flush, a_failed_page, a_flush, a_mark, a_page, a_round_end, a_step, a_taking, an_event, bytes_among, bytes_in, events_among, events_in, missing_among, missing_in, over_with, over_with_all, parked_base, sent_among, sent_in}
+use Rattle.sender.specs.ParkedCalls.{AreSeen, IsDoneLiveLent, IsLentCall, IsSeen, IsServedUncalled, LentCall, LentFollows, MayEnd, a_failed_flush, a_failed_page, a_flush, a_mark, a_page, a_round_end, a_sector, a_step, a_taking, an_event, an_unsent_sector, bytes_among, bytes_in, events_among, events_in, missing_among, missing_in, over_with, over_with_all, parked_base, sent_among, sent_in}
 use Rattle.sender.specs.Taking.{untaken}
 use Rattle.sender.specs.Unsynced.{FailsLiveFlush, FlushesLiveDisk}
 use Rattle.sender.specs.declared.event.LiveEvent.TheVariants.{Guest}
@@ -29,6 +29,7 @@ use Rattle.sender.proofs.HandingIn.{handed_in, handing_failed}
 use Rattle.sender.proofs.Marking.{named_both}
 use Rattle.sender.proofs.MarkingLent.{marked_lent}
 use Rattle.sender.proofs.RoundLent.{round_ended}
+use Rattle.sender.proofs.SectorSent.{sector_sent, sector_unsent}
 use Rattle.sender.proofs.StepBeside.{GoesOnLent, back, goes_beside, may_guest}
 use Rattle.sender.proofs.ParkedServed.{live_parked_flush_fails, live_parked_is_flushed, live_parked_is_served}
 use Rattle.sender.proofs.Taking.{places_untaken}
@@ -114,6 +115,8 @@ module _ (m : MachineState) (h : History) (out : SinkState) (taken pages : List 
   goes_on (a_page addr n bytes) call saw may = handed_in m h out taken pages l p mid before b places mem goes lent addr n bytes call.0 call.1
   goes_on (a_round_end reply) call saw may = round_ended m h out taken pages l p mid before b places mem goes lent reply call may
   goes_on (a_mark base bytes marks) call saw may = marked_lent m h out taken pages l p mid before b places mem goes lent base bytes marks call.0 call.1 saw
+  goes_on (a_sector dev n content) call saw may = sector_sent m h out taken pages l p mid before b places mem goes lent dev n content call.0 call.1
+  goes_on (an_unsent_sector e) call saw may = sector_unsent m h out taken pages l p mid before b places mem goes lent e call
   goes_on a_failed_page call saw may = handing_failed m h out taken pages l p mid before b places mem goes lent call
 
 -- As many versions.

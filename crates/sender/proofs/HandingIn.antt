@@ -65,7 +65,7 @@ page_of_put old bytes n size inside = part_of_put old bytes (4096 * n) 4096 size
 pub page_at : (l : Layout) (n : ℕ) → n < l.pages → item_at l n ≡ items.page n
 page_at l n below = grind (arith, nat_tests)
 
-may_copy : (pages : List ℕ) → MayCall pages Copy
+pub may_copy : (pages : List ℕ) → MayCall pages Copy
 may_copy [] = tt
 may_copy (n ∷ pages) = tt
 

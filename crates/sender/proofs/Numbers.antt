@@ -4,12 +4,12 @@ use Rattle.std.proofs.lemmas.List.{length-map, take_more}
 use Rattle.guestmem.specs.Item.{sector}
 use Rattle.machine.specs.Shapes.{made_as}
 use Rattle.machine.specs.EffectLaws.{HasItem}
-use Rattle.machine.specs.Layout.{firsts_from, firsts_of, item_at, layout_of, pages_of, sector_from, size_from, size_of}
+use Rattle.machine.specs.Layout.{firsts_from, firsts_of, item_at, layout_by, layout_of, pages_of, sector_from, size_from, size_of}
 use Rattle.machine.specs.Sound.{IsSound}
 use Rattle.machine.specs.State.{DeviceState, MachineState}
 use Rattle.machine.specs.declared.shape.Shape.{Shape}
-use Rattle.machine.proofs.Numbering.{is_below, is_past}
-use Rattle.sender.specs.Items.{size_on}
+use Rattle.machine.proofs.Numbering.{is_below, is_past, sound_layout}
+use Rattle.sender.specs.Items.{AreShapesOf, size_on}
 use Rattle.sender.proofs.Disks.{disks_long, sector_there}
 use Rattle.sender.proofs.Parts.{all_taken, before_more, first_at}
 
@@ -102,3 +102,7 @@ sector_is_there m dev n size sound is below = sector_there m m dev n sound refl 
 
 pub none_left : (m : MachineState) (number dev first : ℕ) → Seeks m number dev first → dev ≡ length m.devices → number < size_of (layout_of m) → ⊥
 none_left m number dev first h end below = omega (arith, at_end m dev first h.at end, h.from, below)
+
+-- The layout of a machine is that of its pages and the shapes of its devices.
+pub layout_by_shapes : (pages : ℕ) (shapes : List Shape) (m : MachineState) → AreShapesOf pages shapes m → layout_of m ≡ layout_by pages shapes
+layout_by_shapes pages shapes m are = rw (are.pages_are, are.shapes_are) (sound_layout m are.sound)

@@ -1,5 +1,5 @@
 -- A sector that is read, and then sent.
-use Rattle.std.proofs.Common.{◌≡◌, ◌≢◌, ℕ, zero, suc, ◌+◌, List, [], ◌∷◌, map, Bool, true, false, Option, Some, None, refl, ap, sym, subst, arith}
+use Rattle.std.proofs.Common.{◌≡◌, ◌≢◌, ℕ, zero, suc, ◌+◌, ◌++◌, List, [], ◌∷◌, map, Bool, true, false, Option, Some, None, refl, ap, sym, subst, arith}
 use Rattle.std.specs.Prelude.{IsTrue, All, Ok, Err, slice_get}
 use Rattle.blk.specs.Disk.{IsSector}
 use Rattle.blk.specs.Sectors.{Sector, is_bad}
@@ -70,8 +70,8 @@ pub not_sent : {A E : Type 0} (old new : Seen) (dev n : ℕ) (bytes : List ℕ) 
 not_sent old new dev n bytes out x e read = record { memory = read.memory; state = read.state; flushed = read.flushed; marks = read.failed; named = (read.unsteady, read.good); count = refl; holds = tt }
 
 -- The writer failed after the disk was read, or without a read of it.
-pub sent_none : {A T E F : Type 0} (old new : Seen) (dev n : ℕ) (bytes : List ℕ) (out new_out : SinkState) (x y : List ℕ) (e : F) → ReadsSector {E = E} old dev n bytes (Ok true) new → Appends {T = T} {E = F} out x (Err e) new_out → Sends {A = A} old out y (Err StreamFailed) new new_out
-sent_none old new dev n bytes out new_out x y e read appends = record { memory = read.memory; state = read.state; flushed = read.flushed; marks = read.marks; named = tt; count = appends.count; holds = tt }
+pub sent_none : {A T E F : Type 0} (old new : Seen) (dev n : ℕ) (bytes : List ℕ) (good : Bool) (out new_out : SinkState) (x y : List ℕ) (e : F) → ReadsSector {E = E} old dev n bytes (Ok good) new → Appends {T = T} {E = F} out x (Err e) new_out → Sends {A = A} old out y (Err StreamFailed) new new_out
+sent_none old new dev n bytes good out new_out x y e read appends = record { memory = read.memory; state = read.state; flushed = read.flushed; marks = read.marks; named = tt; count = appends.count; holds = tt }
 
 pub sent_nothing : {A T E : Type 0} (old : Seen) (out new_out : SinkState) (x y : List ℕ) (e : E) → Appends {T = T} out x (Err e) new_out → Sends {A = A} old out y (Err StreamFailed) old new_out
 sent_nothing old out new_out x y e appends = record { memory = refl; state = refl; flushed = refl; marks = refl; named = tt; count = appends.count; holds = tt }
@@ -125,6 +125,18 @@ bad_record m dev n bad = sym (ap (λ found. sector dev n (content_of found)) bad
 pub sent_bad : {A B E : Type 0} (m : Seen) (dev n : ℕ) (out new_out : SinkState) (done : A) (other : B) → sector_on (sectors_on (state_of m) dev) n ≡ Some None → Appends {E = E} out (spelled_record (sector dev n None)) (Ok done) new_out
     → Sends m out (spelled_record (record_of (state_of m) (items.sector dev n))) (Ok other) m new_out
 sent_bad m dev n out new_out done other bad h = subst (λ r. Sends m out (spelled_record r) (Ok other) m new_out) (bad_record (state_of m) dev n bad) (record { memory = refl; state = refl; flushed = refl; marks = refl; named = tt; count = h.count; holds = λ disks. h.holds })
+
+pub sent_read_bad : {A B E F : Type 0} (old new : Seen) (dev n : ℕ) (bytes : List ℕ) (out new_out : SinkState) (done : A) (other : B) → ReadsSector {E = E} old dev n bytes (Ok false) new → Appends {E = F} out (spelled_record (sector dev n None)) (Ok done) new_out
+    → Sends old out (spelled_record (record_of (state_of old) (items.sector dev n))) (Ok other) new new_out
+sent_read_bad old new dev n bytes out new_out done other read appends = record {
+  memory = read.memory;
+  state = read.state;
+  flushed = read.flushed;
+  marks = read.marks;
+  named = tt;
+  count = appends.count;
+  holds = λ disks honest. subst (λ r. IsTrue new_out.honest × (new_out.held ≡ out.held ++ spelled_record r)) (bad_record (state_of old) dev n read.found) (appends.holds honest);
+}
 
 pub taken_bad : (m : MachineState) (dev n : ℕ) (a b : Digested) → sector_on (sectors_on m dev) n ≡ Some None → Takes a (spelled_record (sector dev n None)) b → Takes a (spelled_record (record_of m (items.sector dev n))) b
 taken_bad m dev n a b bad takes = subst (λ r. Takes a (spelled_record r) b) (bad_record m dev n bad) takes

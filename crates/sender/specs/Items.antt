@@ -1,7 +1,10 @@
 -- The records of some of a machine's items, one after another.
-use Rattle.std.specs.Prelude.{ℕ, zero, suc, ◌+◌, List, [], ◌∷◌, ◌++◌, length, map, slice_index, take}
+use Rattle.std.specs.Prelude.{◌≡◌, ℕ, zero, suc, ◌+◌, List, [], ◌∷◌, ◌++◌, length, map, slice_index, take}
 use Rattle.machine.specs.Layout.{item_at, layout_of, pages_of, size_from}
+use Rattle.machine.specs.Shapes.{made_as}
+use Rattle.machine.specs.Sound.{IsSound}
 use Rattle.machine.specs.State.{MachineState}
+use Rattle.machine.specs.declared.shape.Shape.{Shape}
 use Rattle.wire.specs.Header.{header, opening_of}
 use Rattle.wire.specs.Records.{Record}
 use Rattle.wire.specs.Stream.{record_of, records_below, shapes_in, texts}
@@ -31,3 +34,9 @@ disk_text m dev = texts (records_from m (first_sector m dev) (size_on m dev))
 
 abbrev pub sectors_text : MachineState → List ℕ
 sectors_text m = texts (records_from m (pages_of m) (sectors_before m (length m.disks)))
+
+-- This machine has so many pages, and devices of these shapes.
+pub record AreShapesOf (pages : ℕ) (shapes : List Shape) (m : MachineState) : Type 0 where
+  pub sound : IsSound m
+  pub pages_are : pages ≡ pages_of m
+  pub shapes_are : shapes ≡ map (λ d. made_as d.kind) m.devices

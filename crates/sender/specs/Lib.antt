@@ -24,4 +24,5 @@ pub mod Marks
 pub mod Guests
 pub mod Beside
 pub mod HandedIn
+pub mod SectorsLent
 pub mod Held

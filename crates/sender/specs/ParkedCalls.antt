@@ -1,5 +1,6 @@
 -- What is done to a machine that is being migrated while its RAM is lent.
-use Rattle.std.specs.Prelude.{◌≡◌, ◌≢◌, ℕ, ◌+◌, ◌-◌, ◌*◌, ◌++◌, ◌==◌, if◌then◌else◌, List, [], ◌∷◌, length, Bool, true, false, Result, Ok, Err, MatchOption}
+use Rattle.std.specs.Prelude.{◌≡◌, ◌≢◌, ℕ, ◌+◌, ◌-◌, ◌*◌, ◌++◌, ◌==◌, if◌then◌else◌, List, [], ◌∷◌, length, Bool, true, false, Some, Result, Ok, Err, MatchOption, slice_get}
+use Rattle.blk.specs.Sectors.{Sector}
 use Rattle.blk.specs.declared.disk.DiskFault.{DiskFault}
 use Rattle.guestmem.specs.Lent.{AreBelow, given_back, is_named}
 use Rattle.guestmem.specs.Memory.{IsMemory}
@@ -12,14 +13,15 @@ use Rattle.region.specs.Lending.{with_content}
 use Rattle.region.specs.declared.region.Region.{Region}
 use Rattle.machine.specs.Beside.{IsStepOf}
 use Rattle.machine.specs.Effect.{Effect, items_of}
+use Rattle.machine.specs.EffectLaws.{sector_on}
 use Rattle.machine.specs.Layout.{firsts_of}
-use Rattle.machine.specs.Parked.{FailsParkedFlush, FlushesParked, IsAppliedParked, ParkedSeen, WhateverRam, makes_flush_parked, parked_states}
+use Rattle.machine.specs.Parked.{FailsParkedFlush, FlushesParked, IsAppliedParked, ParkedSeen, WhateverRam, makes_flush_parked, parked_sectors, parked_states}
 use Rattle.machine.specs.Seen.{Seen}
 use Rattle.machine.specs.State.{MachineState, base_of}
 use Rattle.machine.specs.declared.event.Event.{Event}
 use Rattle.machine.specs.declared.event.Event.TheVariants.{MemWrite, Step}
 use Rattle.machine.specs.declared.reply.Reply.{Reply}
-use Rattle.wire.specs.Records.{round_end, spelled_record}
+use Rattle.wire.specs.Records.{round_end, sector, spelled_record}
 use Rattle.wire.specs.Sinks.{SinkState, Takes}
 use Rattle.sender.specs.Calls.{Serves, with_items}
 use Rattle.sender.specs.Follows.{Relates}
@@ -27,9 +29,11 @@ use Rattle.sender.specs.HandedIn.{HandingFails, HandsIn, page_text}
 use Rattle.sender.specs.History.{History, guest_events, text}
 use Rattle.sender.specs.LiveState.{HasPlaces, LiveSeen, refusal_for}
 use Rattle.sender.specs.Parked.{BackGoesOn, IsLiveParked, KeepsWord, LiveParkedSeen, live_back, page_writes, parked_layout, with_pages}
+use Rattle.sender.specs.SectorsLent.{CopiesLent}
 use Rattle.sender.specs.Uncalled.{CallsNone}
 use Rattle.sender.specs.Taking.{untaken}
 use Rattle.sender.specs.Unsynced.{FailsLiveFlush, FlushesLiveDisk}
+use Rattle.sender.specs.declared.event.Item.TheVariants as items
 use Rattle.sender.specs.declared.event.LiveEvent.TheVariants.{EndRound, Guest}
 use Rattle.sender.specs.declared.event.LiveReply.{LiveReply}
 use Rattle.sender.specs.declared.event.LiveReply.TheVariants as r
@@ -132,7 +136,8 @@ pub record EndsLent (p : LiveParkedSeen) (reply : LiveReply) (next : LiveParkedS
 -- A call that was made while the RAM was lent, and not refused: an event that needs no RAM, with its reply; a flush that failed in place of
 -- its step; a flush beside all steps; a taking of these bytes; a step beside the guest, where RAM begins at this base, the guest had written
 -- these pages, and RAM was as these bytes then; a page that was handed in, by its address, its number and its bytes; one at which the writer failed; a mark of these
--- pages, where RAM begins at this base and is these bytes by the history; the end of a round, with its reply.
+-- pages, where RAM begins at this base and is these bytes by the history; the end of a round, with its reply; a sector that was sent, by its
+-- device, its number and its content; one that was not, with the error.
 pub data LentCall : Type 0 where
   an_event : Event → Reply → LentCall
   a_failed_flush : ℕ → ℕ → LentCall
@@ -143,6 +148,8 @@ pub data LentCall : Type 0 where
   a_failed_page : LentCall
   a_mark : ℕ → List ℕ → List ℕ → LentCall
   a_round_end : LiveReply → LentCall
+  a_sector : ℕ → ℕ → Sector → LentCall
+  an_unsent_sector : MigError → LentCall
 
 -- The address at which its RAM begins.
 abbrev pub parked_base : LiveParkedSeen → ℕ
@@ -158,6 +165,8 @@ IsLentCall p (a_page addr n bytes) next = (addr ≡ parked_base p + PAGE_SIZE * 
 IsLentCall p a_failed_page next = HandingFails p next
 IsLentCall p (a_mark base bytes marks) next = (base ≡ parked_base p) × MarksParked p marks next
 IsLentCall p (a_round_end reply) next = EndsLent p reply next
+IsLentCall p (a_sector dev n content) next = (sector_on (slice_get (parked_sectors p.parked) dev) n ≡ Some content) × CopiesLent p (r.Copied (items.Sector dev n)) next
+IsLentCall p (an_unsent_sector e) next = CopiesLent p (r.Mig e) next
 
 -- Calls, one after another.
 abbrev pub AreLentCalls : LiveParkedSeen → List LentCall → LiveParkedSeen → Type 0
@@ -175,6 +184,8 @@ events_in (a_page addr n bytes) = MemWrite addr bytes ∷ []
 events_in a_failed_page = []
 events_in (a_mark base bytes marks) = page_writes base marks bytes
 events_in (a_round_end reply) = []
+events_in (a_sector dev n content) = []
+events_in (an_unsent_sector e) = []
 
 abbrev pub bytes_in : LentCall → List ℕ
 bytes_in (a_taking bytes) = bytes
@@ -233,6 +244,7 @@ missing_among pages (c ∷ cs) = missing_among (missing_in pages c) cs
 abbrev pub sent_in : LentCall → List ℕ
 sent_in (a_page addr n bytes) = page_text n bytes
 sent_in (a_round_end (r.Begun k)) = spelled_record (round_end (k - 1))
+sent_in (a_sector dev n content) = spelled_record (sector dev n content)
 sent_in _ = []
 
 abbrev pub sent_among : List LentCall → List ℕ

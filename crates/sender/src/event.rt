@@ -48,6 +48,38 @@ pub enum CopyAnswer {
     RoundDone,
 }
 
+/// What is sent next, while RAM is lent.
+#[derive(Clone, Copy, Debug, PartialEq, Eq)]
+pub enum NextDue {
+    /// This page.
+    Page(u32),
+
+    /// A sector.
+    Sector,
+
+    /// No item is due.
+    Nothing,
+}
+
+/// The result of a copy of a sector, while RAM is lent.
+#[derive(Clone, Copy, Debug, PartialEq, Eq)]
+pub enum SectorAnswer {
+    /// This sector was sent.
+    Copied {
+        /// The number of the device.
+        dev: u8,
+
+        /// The number of the sector on its disk.
+        sector: u32,
+    },
+
+    /// This page is due before any sector. Nothing was sent.
+    PageDue(u32),
+
+    /// No item is due.
+    RoundDone,
+}
+
 /// The result of the end of a round.
 #[derive(Clone, Copy, Debug, PartialEq, Eq)]
 pub enum End {

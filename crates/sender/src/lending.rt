@@ -3,6 +3,7 @@
 mod beside;
 mod calls;
 mod held;
+mod sectors;
 mod told;
 
 ghost use Rattle.std.specs.Prelude.{◌≡◌, ◌+◌, ◌*◌, ◌<◌, ◌≤◌, ◌^◌, ◌++◌, [], Some, drop, false, length, min, take};
@@ -29,7 +30,7 @@ use std::marker::Model;
 use wire::{Digesting, Eager, Sink, Waiting};
 
 /// A machine that is being migrated, and whose RAM is lent. What needs none of its bytes can be done to it, and what was written can be
-/// taken; of its items pages alone are sent, with bytes that the caller copied out of the RAM.
+/// taken. Its sectors are sent as ever, and its pages with bytes that the caller copied out of the RAM.
 #[derive(Drop)]
 pub struct LiveParked<D: Disk, W: Digesting> {
     pub(crate) parked: Parked<D>,

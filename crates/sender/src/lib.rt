@@ -54,8 +54,12 @@
 //!   too: register accesses, input, a size of a console, flushes of disks, and answers of disks outside that touch no RAM (`disk_did`,
 //!   `disk_failed`); `remaining`, `left` and `most_by_stop` count, and bytes are taken. Each is that call of the machine as it was lent
 //!   (`laws::live_parked_is_served` and the two after it), and makes nothing dirty. So the history goes on by these events, and then by the
-//!   writes of the pages that are named (`laws::lent_follows_the_history`). Begin, copy, end of a round, stop, abort, RAM accesses and
+//!   writes of the pages that are named (`laws::lent_follows_the_history`). Begin, stop, abort, RAM accesses and
 //!   bytes that a disk outside gave want the RAM back; so does a step, unless it is made over a window.
+//! - A round goes on meanwhile. `next_item` says what is sent next. `copy_page` sends a page with bytes that the caller copied out of the RAM: by
+//!   the history the guest wrote the page with these bytes, and then it was copied (`specs/HandedIn`). `copy_sector` sends a sector, which is in no RAM: it
+//!   is a copy of the machine with whatever RAM, and calls the disk as a copy does; where a page is due before, it sends nothing and names the page
+//!   (`specs/SectorsLent`). `mark` and `end_round` read no byte of RAM either.
 //! - A step may be made over a window meanwhile (`LiveParked::lacks`, `asking`, `step_over`, `end`; `specs/Beside`): in the history that is
 //!   the guest's writes of the pages that it had written till then, as the step saw them, and the step (`laws::steps_over_are_beside`).
 //!   Exactly the items that it writes into become dirty. `step_held` makes it with the pieces that are held of it, where they are all that it
@@ -106,7 +110,9 @@ mod playing;
 mod saving;
 mod working;
 
-pub use event::{CopyAnswer, End, Item, Left, LiveEvent, LiveReply, Remaining, Stopped};
+pub use event::{
+    CopyAnswer, End, Item, Left, LiveEvent, LiveReply, NextDue, Remaining, SectorAnswer, Stopped,
+};
 pub use guest::Guest;
 pub use lending::LiveParked;
 pub use live::{Live, LiveOver, LiveTold, LiveWaiting};

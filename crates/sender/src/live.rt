@@ -640,7 +640,7 @@ fn make_room<D: Disk>(alloc: Global, machine: &Machine<D>) -> Result<(BitSet, Di
 }
 
 /// The phase after sending an item failed with `error`.
-fn phase_after(phase: Phase, error: MigError) -> Phase
+pub(crate) fn phase_after(phase: Phase, error: MigError) -> Phase
     ensures { result ≡ phase_after phase error }
 {
     match error {

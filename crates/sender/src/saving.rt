@@ -5,11 +5,11 @@
 
 ghost use Rattle.std.specs.Prelude.{◌≡◌, ◌<◌, ◌+◌, ◌++◌, ℕ, List, IfErr, IfOk, OnOk, length, true};
 ghost use Rattle.guestmem.specs.Item.{page, sector};
-ghost use Rattle.machine.specs.Applied.{IsGood};
+ghost use Rattle.machine.specs.Applied.{IsGood, ReadsSector};
 ghost use Rattle.machine.specs.EffectLaws.{HasItem, sector_on, sectors_on};
 ghost use Rattle.machine.specs.Layout.{pages_of};
 ghost use Rattle.machine.specs.NextBad.{IsNextBad};
-ghost use Rattle.machine.specs.Seen.{state_of};
+ghost use Rattle.machine.specs.Seen.{Seen, state_of};
 ghost use Rattle.wire.specs.Records.{commit, spelled_record};
 ghost use Rattle.wire.specs.Sinks.{Appends, Seals, Takes};
 ghost use Rattle.wire.specs.Stream.{device_texts, record_of, records_below, saved, texts, whole};
@@ -22,7 +22,7 @@ use crate::event::Item;
 use crate::mig_error::MigError;
 use crate::numbering::page_count;
 use guestmem::recall_bytes;
-use machine::{Disk, Machine, SECTOR_SIZE};
+use machine::{Disk, DiskFault, Machine, SECTOR_SIZE};
 use wire::{
     Digesting, Eager, Nowhere, Sink, SinkFault, encode_commit, encode_device, encode_header,
     encode_sector, write_page,
@@ -242,7 +242,7 @@ fn send_page<D: Disk, S: Sink>(
 }
 
 /// Writes the record of a sector, as it is now. A bad one is written without a call of the disk.
-#[tactic(auto, using(crate::proofs::SectorReads::sent_good, crate::proofs::SectorReads::added_good, crate::proofs::SectorReads::added_bad, crate::proofs::SectorReads::not_sent, crate::proofs::ItemReads::read_once))]
+#[tactic(auto, using(crate::proofs::ItemReads::read_once))]
 fn send_sector<D: Disk, S: Sink>(
     machine: &mut Machine<D>,
     dev: u8,
@@ -256,10 +256,26 @@ fn send_sector<D: Disk, S: Sink>(
     ensures calls { ReadsItem D.called machine.old (sector dev number) machine.new }
 {
     let mut bytes = [0; SECTOR_SIZE];
-    match machine.read_sector(dev, number as u64, &mut bytes) {
+    let read = machine.read_sector(dev, number as u64, &mut bytes);
+    write_read(dev, number, read, &bytes, out)
+}
+
+/// Writes the record of a sector, by the result of a read of it and the buffer that was read into: the read of whatever machine it was.
+pub(crate) fn write_read<S: Sink>(
+    dev: u8,
+    number: u32,
+    read: Result<bool, DiskFault>,
+    bytes: &[u8; SECTOR_SIZE],
+    out: &mut S,
+) -> Result<(), MigError>
+    ensures item { IfErr result (λ e. NamesItem (sector dev number) e (S.state out.old) (S.state out.new) (S.sum out.old) (S.sum out.new)) }
+    ensures sent { (old new : Seen) → ReadsSector old dev number bytes.now read new → Sends old (S.state out.old) (spelled_record (record_of (state_of old) (sector dev number))) result new (S.state out.new) }
+    ensures added { OnOk result ((old new : Seen) → ReadsSector old dev number bytes.now read new → AddsItem old (sector dev number) (S.state out.old) (S.sum out.old) (S.state out.new) (S.sum out.new)) }
+{
+    match read {
         Ok(true) => {
             recall_bytes(bytes.as_slice());
-            encode_sector(dev, number, Some(&bytes), out)?
+            encode_sector(dev, number, Some(bytes), out)?
         }
         Ok(false) => encode_sector(dev, number, None, out)?,
         Err(_) => {

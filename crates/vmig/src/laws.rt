@@ -41,6 +41,7 @@ pub use machine::laws::only_steps_call;
 pub use machine::laws::parked_flush_fails;
 pub use machine::laws::parked_is_applied;
 pub use machine::laws::parked_is_flushed;
+pub use machine::laws::parked_is_read;
 pub use machine::laws::refusals_change_nothing;
 pub use machine::laws::refused_changes_nothing;
 pub use machine::laws::runs_agree;

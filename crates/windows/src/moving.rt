@@ -11,7 +11,7 @@ use machine::{
 };
 use receiver::{Terms, receive_with};
 use region::KeptRegion;
-use sender::{CopyAnswer, LiveParked, LiveWaiting};
+use sender::{CopyAnswer, LiveParked, LiveWaiting, MigError, SectorAnswer};
 use std::alloc::Global;
 use wire::Waiting;
 
@@ -72,6 +72,41 @@ fn send_pages(live: &mut LiveWaiting<TestDisk>) -> Result<()> {
         live.copy()?;
     }
     Ok(())
+}
+
+/// Sends the page that is due, with its bytes in this RAM.
+fn hand_in(live: &mut LiveParked<TestDisk, Waiting>, ram: &[u8]) -> Result<()> {
+    let Some(page) = live.next_due() else {
+        bail!("no page is due");
+    };
+    let Some(bytes) = ram.chunks(4096).nth(page as usize) else {
+        bail!("a page past RAM");
+    };
+    let Ok(bytes) = <&[u8; 4096]>::try_from(bytes) else {
+        bail!("half a page");
+    };
+    live.copy_page(page, bytes)?;
+    Ok(())
+}
+
+/// Sends all that is due while RAM is lent, which holds these bytes. A disk that fails is asked again.
+fn send_lent(
+    live: &mut LiveParked<TestDisk, Waiting>,
+    stream: &mut Vec<u8>,
+    ram: &[u8],
+) -> Result<()> {
+    let mut buf = [0; 8192];
+    for _item in 0..ITEMS {
+        match live.copy_sector() {
+            Ok(SectorAnswer::Copied { .. }) | Err(MigError::DiskFailed { .. }) => {}
+            Ok(SectorAnswer::PageDue(_)) => hand_in(live, ram)?,
+            Ok(SectorAnswer::RoundDone) => return Ok(()),
+            Err(error) => return Err(error.into()),
+        }
+        let count = live.take(&mut buf);
+        stream.extend_from_slice(&buf[..count])?;
+    }
+    bail!("more items than there are")
 }
 
 /// Stops the machine, and takes the rest of its stream. A stop that failed where a disk did is tried again.
@@ -281,9 +316,14 @@ impl Moving {
         Ok((answer, Moving::lent(live, stream)?))
     }
 
-    /// Stops the machine, with this RAM. Returns it, and its stream.
+    /// Sends what is due, ends the round, and sends what is due then, all while RAM is lent. Then stops the machine, with this RAM. Returns
+    /// it, and its stream.
     pub fn stop(self, ram: &[u8]) -> Result<(Machine<TestDisk>, Vec<u8>)> {
-        let (mut live, mut stream) = self.back(ram)?;
+        let mut moving = self;
+        send_lent(&mut moving.live, &mut moving.stream, ram)?;
+        moving.live.end_round()?;
+        send_lent(&mut moving.live, &mut moving.stream, ram)?;
+        let (mut live, mut stream) = moving.back(ram)?;
         stop(&mut live, &mut stream)?;
         let (machine, _writer) = live.into_parts();
         Ok((machine, stream))

@@ -17,7 +17,7 @@ ghost use Rattle.sender.specs.LiveState.{refusal_for};
 ghost use Rattle.sender.specs.Parked.{with_pages};
 ghost use Rattle.sender.specs.ParkedCalls.{EndsLent, FlushesLiveParked, ServesParked, TriesParkedFlush};
 
-use crate::event::{End, LiveEvent};
+use crate::event::{End, LiveEvent, NextDue};
 use crate::lending::LiveParked;
 use crate::live::LAST_ROUND;
 use crate::mig_error::MigError;
@@ -132,18 +132,13 @@ impl<D: Disk, W: Digesting> LiveParked<D, W> {
         Ok(self.parked.fail_flush(dev, pick))
     }
 
-    /// The least due item, if it is a page: the one that `copy_page` takes next.
+    /// The least due item, if it is a page: the one that `copy_page` takes next. `next_item` says too whether sectors are due.
     pub fn next_due(&self) -> Option<u32>
         ensures { IsNextPage (length self.now.parked.versions) self.now.due result }
     {
-        self.parked.recall();
-        let Some(number) = self.due.first_from(self.at) else {
-            return None;
-        };
-        if number < self.parked.pages() as u64 {
-            Some(number as u32)
-        } else {
-            None
+        match self.next_item() {
+            NextDue::Page(page) => Some(page),
+            NextDue::Sector | NextDue::Nothing => None,
         }
     }
 
@@ -226,7 +221,7 @@ fn insert_each(set: &mut BitSet, pages: &[u32])
 }
 
 /// Which phase refuses a copy.
-fn copy_refusal(phase: Phase) -> Option<MigError>
+pub(super) fn copy_refusal(phase: Phase) -> Option<MigError>
     ensures { result ≡ refusal_for phase LiveEvent.Copy }
 {
     match phase {

@@ -1,3 +1,4 @@
+use Rattle.std.proofs.Common.{true}
 use Rattle.std.proofs.lemmas.Result.{err_from_is_err_and}
 use Rattle.wire.specs.Sinks.{prompt}
 use Rattle.sender.proofs.SectorReads.{not_sent, sent_good, sent_none, taken_good}
@@ -18,7 +19,7 @@ returns-in-Err-clause-sent g c = not_sent c.args.machine.now c.read_good_sector.
 pub returns-in_err-encode_sector-clause-sent : goal.returns-in_err-encode_sector-clause-sent
 returns-in_err-encode_sector-clause-sent g c =
     let told = err_from_is_err_and c.from_residual.result c.from_residual.ensures.1 in
-    rw (told.1, told.2) (sent_none c.args.machine.now c.read_good_sector.new.self c.args.dev c.args.number c.read_good_sector.new.buf (g.S.Sink.state c.args.out.now) (g.S.Sink.state c.encode_sector.new.out) _ _ c.in_err-encode_sector.field-0.0
+    rw (told.1, told.2) (sent_none c.args.machine.now c.read_good_sector.new.self c.args.dev c.args.number c.read_good_sector.new.buf true (g.S.Sink.state c.args.out.now) (g.S.Sink.state c.encode_sector.new.out) _ _ c.in_err-encode_sector.field-0.0
     (rw c.in_default.is at c.read_good_sector.ensures.read) c.in_err-encode_sector.ensures.out)
 
 pub returns-in_err-encode_sector-clause-taken : goal.returns-in_err-encode_sector-clause-taken
