@@ -1,21 +1,19 @@
 -- A page that is handed in while the RAM is lent is a write of the guest and a copy.
-use Rattle.std.proofs.Common.{◌≡◌, ◌≢◌, ℕ, zero, suc, ◌+◌, ◌*◌, ◌/◌, ◌%◌, ◌^◌, ◌<◌, ◌≤◌, ◌++◌, Bool, true, false, List, [], ◌∷◌, get_or, length, map, take, drop, set, refl, sym, ap, subst, ◌∙◌, append_assoc, append-nil, arith}
+use Rattle.std.proofs.Common.{◌≡◌, ◌≢◌, ℕ, zero, suc, ◌+◌, ◌*◌, ◌%◌, ◌^◌, ◌<◌, ◌≤◌, ◌++◌, Bool, true, false, List, [], ◌∷◌, get_or, length, map, take, drop, set, refl, sym, ap, subst, ◌∙◌, append_assoc, append-nil, arith}
 use Rattle.std.proofs.lemmas.List.{drop_at, length-set, length-take-le, set-set, take_at}
 use Rattle.std.proofs.lemmas.Bool.Decides.{nat_tests}
-use Rattle.std.specs.Prelude.{IsTrue, None, nat_lt}
+use Rattle.std.specs.Prelude.{IsTrue, None}
 use Rattle.dirtylog.specs.Members.{IsLeast}
 use Rattle.region.specs.declared.region.Region.{Region}
 use Rattle.guestmem.specs.Item as items
 use Rattle.guestmem.specs.Memory.{IsMemory, Memory}
-use Rattle.guestmem.specs.Number.{IsBytes}
 use Rattle.guestmem.specs.Page.{page_of}
 use Rattle.guestmem.specs.Write.{put_at}
 use Rattle.guestmem.proofs.ByteLaws.{IsBytes-append, IsBytes-drop, IsBytes-take}
 use Rattle.guestmem.proofs.Later.{length-put_at}
-use Rattle.machine.specs.Effect.{Effect}
 use Rattle.machine.specs.Layout.{Layout, item_at, layout_of, size_of}
 use Rattle.machine.specs.Parked.{IsParked, ParkedSeen, page_address}
-use Rattle.machine.specs.Seen.{DeviceSeen, Seen, state_of}
+use Rattle.machine.specs.Seen.{DeviceSeen, state_of}
 use Rattle.machine.specs.Sound.{IsSound}
 use Rattle.machine.specs.State.{MachineState, base_of}
 use Rattle.machine.specs.declared.event.Event.{Event}
@@ -23,20 +21,19 @@ use Rattle.machine.specs.declared.event.Event.TheVariants.{MemWrite}
 use Rattle.machine.specs.declared.reply.Reply.TheVariants.{Done}
 use Rattle.machine.proofs.GivenBack.{with_memory}
 use Rattle.wire.specs.Records.{Record, page_record, spelled_record}
-use Rattle.wire.specs.Sinks.{Covers, Digested, SinkState, Takes}
+use Rattle.wire.specs.Sinks.{Digested, SinkState, Takes}
 use Rattle.wire.specs.Stream.{record_of, texts}
 use Rattle.sender.specs.Calls.{Serves}
 use Rattle.sender.specs.Follows.{Relates}
 use Rattle.sender.specs.HandedIn.{HandingFails, HandsIn, page_text}
-use Rattle.sender.specs.History.{History, guest_events, machine_after, phase_of, text, then_came}
+use Rattle.sender.specs.History.{History, guest_events, machine_after, text, then_came}
 use Rattle.sender.specs.LiveState.{HasPlaces, LiveSeen, now, refusal_for}
 use Rattle.sender.specs.Marks.{IsBehind, MayCall, StaysBehind, if_dirty}
-use Rattle.sender.specs.Parked.{IsLiveParked, LiveParkedSeen, live_base}
-use Rattle.sender.specs.ParkedCalls.{LentCall, a_failed_page, a_page, bytes_in, events_in, missing_in, over_with, parked_base, sent_in, without}
+use Rattle.sender.specs.Parked.{IsLiveParked, LiveParkedSeen}
+use Rattle.sender.specs.ParkedCalls.{a_failed_page, a_page, over_with, parked_base, without}
 use Rattle.sender.specs.Taking.{untaken}
 use Rattle.sender.specs.Told.{IsTold}
 use Rattle.sender.specs.declared.event.Item.TheVariants.{Page}
-use Rattle.sender.specs.declared.event.LiveEvent.{LiveEvent}
 use Rattle.sender.specs.declared.event.LiveEvent.TheVariants.{Guest, Copy}
 use Rattle.sender.specs.declared.event.LiveReply.TheVariants as r
 use Rattle.sender.specs.declared.mig_error.MigError.TheVariants as errors

@@ -1,5 +1,5 @@
 -- A mark of pages while the RAM is lent is the guest's writes of these pages, with the bytes that RAM has there by the history.
-use Rattle.std.proofs.Common.{◌≡◌, ◌≢◌, ℕ, ◌<◌, ◌||◌, ◌++◌, Bool, true, false, List, [], ◌∷◌, eqb, length, refl, sym, ap, subst, ◌∙◌, append-nil, inl, inr}
+use Rattle.std.proofs.Common.{◌≡◌, ◌≢◌, ℕ, ◌||◌, ◌++◌, Bool, true, false, List, [], ◌∷◌, eqb, length, refl, sym, ap, subst, ◌∙◌, append-nil, inl, inr}
 use Rattle.std.proofs.lemmas.Bool.{eqb-true}
 use Rattle.region.specs.declared.region.Region.{Region}
 use Rattle.guestmem.specs.Lent.{AreBelow, is_named}
@@ -9,12 +9,11 @@ use Rattle.machine.specs.State.{MachineState}
 use Rattle.machine.specs.declared.event.Event.{Event}
 use Rattle.machine.proofs.Numbering.{either_way}
 use Rattle.wire.specs.Sinks.{SinkState}
-use Rattle.sender.specs.Follows.{Relates}
 use Rattle.sender.specs.History.{History, guest_events, text}
 use Rattle.sender.specs.LiveState.{HasPlaces, LiveSeen}
 use Rattle.sender.specs.Marks.{AreAmong, BehindGoesOn, IsBehind, if_dirty, live_marked}
 use Rattle.sender.specs.Parked.{IsLiveParked, LiveParkedSeen, live_base, page_writes, with_pages}
-use Rattle.sender.specs.ParkedCalls.{LentCall, MarksParked, a_mark, beside, parked_base}
+use Rattle.sender.specs.ParkedCalls.{MarksParked, a_mark, beside, parked_base}
 use Rattle.sender.specs.Taking.{untaken}
 use Rattle.sender.specs.declared.phase.Phase.TheVariants as phases
 use Rattle.sender.proofs.Behind.{marks_catch_up}

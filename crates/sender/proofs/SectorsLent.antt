@@ -1,5 +1,5 @@
 -- A copy of a sector while the RAM is lent.
-use Rattle.std.proofs.Common.{◌≡◌, ◌≢◌, ℕ, ◌+◌, ◌<◌, ◌≤◌, ◌⊎◌, inl, inr, Bool, true, false, List, [], ◌∷◌, length, ltb, set, Some, None, Err, refl, sym, ap, subst, ◌∙◌, arith}
+use Rattle.std.proofs.Common.{◌≡◌, ◌≢◌, ℕ, ◌+◌, ◌<◌, inl, inr, Bool, false, List, [], ◌∷◌, length, ltb, set, Some, None, Err, refl, sym, ap, subst, ◌∙◌, arith}
 use Rattle.std.specs.Prelude.{Ok, Result}
 use Rattle.std.proofs.lemmas.List.{length-set}
 use borrow.Author.Tests.{ltb-true}
@@ -14,13 +14,12 @@ use Rattle.machine.specs.State.{MachineState}
 use Rattle.machine.proofs.Numbering.{either_way, has_item, item_there}
 use Rattle.wire.specs.Records.{spelled_record}
 use Rattle.wire.specs.Stream.{record_of}
-use Rattle.sender.specs.Calls.{Serves}
-use Rattle.sender.specs.LiveState.{LiveSeen, now, refusal_for}
+use Rattle.sender.specs.LiveState.{now, refusal_for}
 use Rattle.sender.specs.Parked.{LiveParkedSeen, live_back, parked_layout}
 use Rattle.sender.specs.Reads.{ReadsItem}
 use Rattle.sender.specs.Saving.{AddsItem, NamesItem, Sends}
 use Rattle.sender.specs.SectorsLent.{CallsLent, CopiesLent, IsKeptLent, IsPageDue, IsRoundDone, SendsLent}
-use Rattle.sender.specs.Stopping.{SendsItem, SetsFit, phase_after}
+use Rattle.sender.specs.Stopping.{SetsFit, phase_after}
 use Rattle.sender.specs.declared.event.Item.TheVariants.{Sector}
 use Rattle.sender.specs.declared.event.LiveEvent.TheVariants.{Copy}
 use Rattle.sender.specs.declared.event.LiveReply.TheVariants as r

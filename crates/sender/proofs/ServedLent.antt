@@ -1,12 +1,12 @@
 -- A call that is served whatever the lent RAM holds is that call of the machine that was lent.
-use Rattle.std.proofs.Common.{◌≡◌, ◌≢◌, ℕ, ◌^◌, ◌<◌, ◌++◌, List, [], length, map, refl, sym, ap, subst, ◌∙◌, append-nil}
+use Rattle.std.proofs.Common.{◌≡◌, ◌≢◌, ℕ, ◌^◌, ◌<◌, ◌++◌, List, [], length, refl, sym, ap, subst, ◌∙◌, append-nil}
 use Rattle.region.specs.declared.region.Region.{Region}
 use Rattle.blk.specs.Sectors.{Sector}
 use Rattle.guestmem.specs.Lent.{IsLent}
 use Rattle.guestmem.specs.Memory.{IsMemory}
 use Rattle.machine.specs.Effect.{Effect}
 use Rattle.machine.specs.Layout.{layout_of, size_of}
-use Rattle.machine.specs.Parked.{ParkedSeen, WhateverRam, parked_sectors, parked_states}
+use Rattle.machine.specs.Parked.{WhateverRam, parked_sectors, parked_states}
 use Rattle.machine.specs.Seen.{DeviceSeen}
 use Rattle.machine.specs.Sound.{IsSound}
 use Rattle.machine.specs.State.{DeviceState, MachineState}

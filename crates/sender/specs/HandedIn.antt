@@ -1,5 +1,5 @@
 -- A page that the caller copied out of the RAM that it was lent, and hands in to be sent.
-use Rattle.std.specs.Prelude.{◌≡◌, ℕ, ◌+◌, ◌%◌, ◌<◌, ◌≤◌, ◌^◌, ◌++◌, List, Bool, true, false, IsTrue, Option, Some, None, Result, Ok, Err, MatchOption, length, slice_set}
+use Rattle.std.specs.Prelude.{◌≡◌, ℕ, ◌+◌, ◌%◌, ◌<◌, ◌^◌, ◌++◌, List, Bool, false, IsTrue, Option, Some, None, Result, Ok, Err, MatchOption, length, slice_set}
 use Rattle.dirtylog.specs.Members.{IsLeast, has}
 use Rattle.guestmem.specs.Number.{IsBytes}
 use Rattle.guestmem.specs.declared.limits.TheConstants.{PAGE_SIZE}

@@ -28,7 +28,7 @@ use Rattle.sender.specs.Follows.{Relates}
 use Rattle.sender.specs.HandedIn.{HandingFails, HandsIn, page_text}
 use Rattle.sender.specs.History.{History, guest_events, text}
 use Rattle.sender.specs.LiveState.{HasPlaces, LiveSeen, refusal_for}
-use Rattle.sender.specs.Parked.{BackGoesOn, IsLiveParked, KeepsWord, LiveParkedSeen, live_back, page_writes, parked_layout, with_pages}
+use Rattle.sender.specs.Parked.{IsLiveParked, KeepsWord, LiveParkedSeen, live_back, page_writes, parked_layout, with_pages}
 use Rattle.sender.specs.SectorsLent.{CopiesLent}
 use Rattle.sender.specs.Uncalled.{CallsNone}
 use Rattle.sender.specs.Taking.{untaken}

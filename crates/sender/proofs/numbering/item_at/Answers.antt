@@ -1,6 +1,6 @@
 use Rattle.std.proofs.Common.{◌≡◌, ◌<◌, sym, ap, subst, ◌∙◌}
 use Rattle.guestmem.specs.Item.{Item}
-use Rattle.machine.specs.Layout.{IsItemIn, Layout, item_at, layout_by, layout_of, size_of}
+use Rattle.machine.specs.Layout.{IsItemIn, Layout, item_at, layout_of, size_of}
 use Rattle.machine.specs.Seen.{state_of}
 use Rattle.machine.proofs.Numbering.{has_item, item_there}
 use Rattle.sender.specs.Items.{AreShapesOf}

@@ -1,4 +1,4 @@
-use Rattle.std.proofs.Common.{◌≡◌, ◌<◌, ◌≤◌, ℕ, length, ap, sym, subst, ◌∙◌, arith}
+use Rattle.std.proofs.Common.{◌≡◌, ◌<◌, ◌≤◌, length, ap, sym, subst, ◌∙◌, arith}
 use Rattle.machine.specs.Layout.{Layout, item_at, size_of}
 use Rattle.sender.specs.Items.{size_on}
 use Rattle.sender.proofs.Disks.{few_told, size_told}

@@ -1,7 +1,7 @@
 use Rattle.std.proofs.Common.{rules, subst}
 use Rattle.blk.specs.Disk.{IsSector}
 use Rattle.guestmem.specs.Number.{IsBytes}
-use Rattle.sender.proofs.SectorReads.{added_bad, added_good, not_sent, sent_good, sent_none, sent_read_bad}
+use Rattle.sender.proofs.SectorReads.{added_good, sent_good}
 use Rattle.sender.proofs.saving.write_read.Goals as goal
 
 pub returns-in_ok-encode_sector-in-Ok-true-clause-sent : goal.returns-in_ok-encode_sector-in-Ok-true-clause-sent
