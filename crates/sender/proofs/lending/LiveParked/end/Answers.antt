@@ -1,3 +1,4 @@
+use Rattle.std.proofs.Common.{refl}
 use Rattle.machine.proofs.Beside.{ended_sectors, ended_versions}
 use Rattle.sender.proofs.ParkedServed.{sets_stay}
 use Rattle.sender.proofs.lending.LiveParked.end.Goals as goal
