@@ -44,7 +44,7 @@ clear_on digest next ram sizes bytes says h = record { closes = λ opening befor
 pub clear_own : (digest : Summed) (ram : RamTerms) (sizes bytes : List ℕ) → IsOwn digest → IsClear digest ram sizes bytes
 unfolding CanSay
 clear_own (own digest) ram sizes bytes is = record { closes = λ opening before tail f more e. tt }
-clear_own (told past hand) ram sizes bytes is = absurd is
+clear_own (told past) ram sizes bytes is = absurd is
 
 -- Behind the records that were worked off.
 pub may_close : (digest next : Summed) (ram : RamTerms) (old ds : List DiskState) (i : Intake) (front bytes : List ℕ) (at : ℕ) → IsClear digest ram (sizes_in old) (front ++ bytes) → SaysOn digest next → AreKept old ds → (r : IsRead ram ds (front ++ take at bytes) i)

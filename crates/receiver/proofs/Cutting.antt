@@ -163,38 +163,3 @@ pub clear_begun : (ram : RamTerms) (ds : List DiskState) (digest : Summed) (b he
 clear_begun ram ds digest b held rest n count stages.Head none low five head reads on t = absurd cc
 clear_begun ram ds digest b held rest n count (stages.Records i) none low five head reads on t = begun_by ram ds digest b rest n count i low five head on (rw none at t) (cases_lt 1 n)
 clear_begun ram ds digest b held rest n count stages.Failed none low five head reads on t = absurd cc
-
--- The record of the digest, which was told.
-no_next_five : (opening : Opened) (before : List Record) (tail more : List ℕ) → tail ≡ 5 ∷ more → NoNext opening before tail
-no_next_five opening before tail more is r y next e = no_other opening before more r y next (sym is ∙ e)
-
-told_by_front : (ram : RamTerms) (ds : List DiskState) (digest says : Summed) (b held piece more : List ℕ) (i : Intake) → held ++ piece ≡ 5 ∷ more → i.ended ≡ false → (t : IsTaken ram ds digest b held (stages.Records i)) → CanSay says t.front → IsClear says ram (sizes_in ds) (b ++ piece)
-told_by_front ram ds digest says b held piece more i is on t can =
-    let known : IsKnownIn false ram ds digest t.front held i = subst (λ (e : Bool). IsKnownIn e ram ds digest t.front held i) on t.known in
-    let r = known.1 in
-    let o = r.open_at in
-    let all : b ++ piece ≡ t.front ++ (held ++ piece) = ap (λ (x : List ℕ). x ++ piece) t.whole ∙ append_assoc t.front held piece in
-    let g : IsFront ram (sizes_in ds) (b ++ piece) r.opening o.before (held ++ piece) = front_at r.based (front_of (b ++ piece) (held ++ piece) o.read all) in
-    record {
-      closes = λ other others rest f more2 is_five.
-          let t2 = one_opening (b ++ piece) other r.opening (texts others ++ rest) (texts o.before ++ (held ++ piece)) (f.based ∙ sym g.based) f.begins g.begins in
-          let records : others ≡ o.before = same_records ram (sizes_in ds) (b ++ piece) r.opening other o.before others (held ++ piece) rest g (no_next_five r.opening o.before (held ++ piece) more is) f (no_next_five other others rest more2 is_five) in
-          rw (t2.0, records) (subst (CanSay says) o.read.whole can);
-    }
-
-front_is : (past : List ℕ) (hand : Option (List ℕ)) (front : List ℕ) → Sums (told past hand) front → front ≡ past
-unfolding Sums
-front_is past hand front h = h
-
-can_say : (past digest front : List ℕ) → front ≡ past → digest ≡ sha256 past → CanSay (told past (Some digest)) front
-unfolding CanSay
-can_say past digest front is same = same ∙ ap sha256 (sym is)
-
--- The digest that was told is that of all bytes before its record.
-pub clear_told : (ram : RamTerms) (ds : List DiskState) (past digest : List ℕ) (b held piece more : List ℕ) (stage : Stage) → held ++ piece ≡ 5 ∷ more → digest ≡ sha256 past → reads_in stage ≡ true → has_ended stage ≡ false → IsTaken ram ds (told past (Some digest)) b held stage
-    → IsClear (told past (Some digest)) ram (sizes_in ds) (b ++ piece)
-clear_told ram ds past digest b held piece more stages.Head is same reads on t = absurd cc
-clear_told ram ds past digest b held piece more (stages.Records i) is same reads on t =
-    let known : IsKnownIn false ram ds (told past (Some digest)) t.front held i = subst (λ (e : Bool). IsKnownIn e ram ds (told past (Some digest)) t.front held i) on t.known in
-    told_by_front ram ds (told past (Some digest)) (told past (Some digest)) b held piece more i is on t (can_say past digest t.front (front_is past (Some digest) t.front known.0) same)
-clear_told ram ds past digest b held piece more stages.Failed is same reads on t = absurd cc

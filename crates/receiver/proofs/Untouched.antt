@@ -71,7 +71,7 @@ known_up_to : (ended : Bool) (ram : RamTerms) (ds : List DiskState) (digest : Su
 known_up_to false ram ds digest front held i k = (k.0, record { opening = k.1.opening; based = k.1.based; before = k.1.open_at.before; read = k.1.open_at.read })
 known_up_to true ram ds digest front held i k = k.1
 
-known_header : (ram : RamTerms) (ds : List DiskState) (digest : Summed) (front held tail bytes : List ℕ) (i : Intake) → IsKnown ram ds digest front held (stages.Records i) → bytes ≡ front ++ tail → HasHeaderFor ram (sizes_in ds) bytes
+pub known_header : (ram : RamTerms) (ds : List DiskState) (digest : Summed) (front held tail bytes : List ℕ) (i : Intake) → IsKnown ram ds digest front held (stages.Records i) → bytes ≡ front ++ tail → HasHeaderFor ram (sizes_in ds) bytes
 known_header ram ds digest front held tail bytes i k is = read_header i.ended ram ds digest front tail bytes i (known_up_to i.ended ram ds digest front held i k) is
 
 -- A whole stream begins with one, and so do more bytes.

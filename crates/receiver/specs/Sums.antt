@@ -1,7 +1,6 @@
 -- What a receiver has of the digest of the bytes that it worked off, and where it must have it.
-use Rattle.std.specs.Prelude.{◌≡◌, ℕ, List, ◌∷◌, ◌++◌, Option, Some, None, []}
+use Rattle.std.specs.Prelude.{◌≡◌, ℕ, List, ◌∷◌, ◌++◌, []}
 use Rattle.sha2.specs.Hashers.{Holds256}
-use Rattle.sha2.specs.Sha256.{sha256}
 use Rattle.sha2.specs.declared.Sha256.{Sha256}
 use Rattle.wire.specs.Records.{HasSpelling, IsOf, Record, spelled_record}
 use Rattle.wire.specs.Stream.{texts}
@@ -9,41 +8,35 @@ use Rattle.receiver.specs.Faults.{IsFront}
 use Rattle.receiver.specs.Opened.{Opened, opened_header}
 use Rattle.receiver.specs.declared.ram_terms.RamTerms.{RamTerms}
 
--- It digests them itself; or whoever feeds it does, and these are the bytes, and a digest was told or none yet.
+-- It digests them itself; or whoever feeds it does, and these are the bytes.
 pub data Summed : Type 0 where
   own : Sha256 → Summed
-  told : List ℕ → Option (List ℕ) → Summed
+  told : List ℕ → Summed
 
 -- These bytes were taken into the digest, by whoever makes it.
 unfoldable pub Sums : Summed → List ℕ → Type 0
 Sums (own digest) front = Holds256 digest front
-Sums (told past hand) front = front ≡ past
+Sums (told past) front = front ≡ past
 
--- A digest that comes behind these bytes can be compared.
+-- It can compare a digest that comes behind these bytes.
 unfoldable pub CanSay : Summed → List ℕ → Type 0
 CanSay (own digest) front = Unit {0}
-CanSay (told past None) front = ⊥
-CanSay (told past (Some digest)) front = digest ≡ sha256 front
+CanSay (told past) front = ⊥
 
 -- It digests them itself.
 abbrev pub IsOwn : Summed → Type 0
 IsOwn (own digest) = Unit {0}
-IsOwn (told past hand) = ⊥
+IsOwn (told past) = ⊥
 
 -- Whoever feeds it digests them.
 abbrev pub IsTold : Summed → Type 0
 IsTold (own digest) = ⊥
-IsTold (told past hand) = Unit {0}
+IsTold (told past) = Unit {0}
 
 -- The bytes, where whoever feeds it digests them.
 abbrev pub past_of : Summed → List ℕ
 past_of (own digest) = []
-past_of (told past hand) = past
-
--- The same, and this digest was told, or none.
-abbrev pub in_hand : Summed → Option (List ℕ) → Summed
-in_hand (own digest) hand = own digest
-in_hand (told past old) hand = told past hand
+past_of (told past) = past
 
 -- What can be compared before a call can be after it.
 abbrev pub SaysOn : Summed → Summed → Type 0

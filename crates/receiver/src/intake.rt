@@ -13,6 +13,7 @@ ghost use Rattle.sha2.specs.Sha256.{sha256};
 ghost use Rattle.wire.specs.declared.record_head.RecordHead.TheVariants as heads;
 ghost use Rattle.blk.specs.Disk.{DiskState};
 ghost use Rattle.machine.specs.Shapes.{disk_sizes, sector_count};
+ghost use Rattle.receiver.specs.Closing.{HasAll};
 ghost use Rattle.receiver.specs.Disks.{sizes_of};
 ghost use Rattle.receiver.specs.Faults.{IsLate, MayTag};
 ghost use Rattle.receiver.specs.Fed.{Checked, HasRead, IsUpTo, TakesPart, Worked};
@@ -97,6 +98,13 @@ fn is_named(named: &BitSet) -> bool
     ensures { IsTrue result ↔ All (λ b. b ≡ true) named.now }
 {
     named.count() == named.len()
+}
+
+/// Whether each item is named and each device has arrived, so that the digest may come.
+pub fn has_all(intake: &Intake) -> bool
+    ensures { IsTrue result ↔ HasAll intake.now }
+{
+    is_named(&intake.named) && intake.devices.len() == intake.shapes.len()
 }
 
 /// Checks that a record with this tag may come next.

@@ -58,8 +58,9 @@ impl<D: Disk, S: Summing> Model for Reader<D, S> {
 }
 
 impl<D: Disk + Drop, S: Summing> Reader<D, S> {
-    ghost use Rattle.std.specs.Prelude.{◌≡◌, ◌≤◌, ◌<◌, ◌+◌, IfOk, length, map};
+    ghost use Rattle.std.specs.Prelude.{◌≡◌, ◌≤◌, ◌<◌, ◌+◌, ◌↔◌, IfOk, IsTrue, length, map};
     ghost use Rattle.std.specs.Vec.{vec_capacity};
+    ghost use Rattle.receiver.specs.Closing.{MayEnd, ended_at};
     ghost use Rattle.receiver.specs.Reading.{StandsAside, IsFirst, Looks, ReadsHeader, TakesBytes, TakesPiece};
     ghost use Rattle.receiver.specs.Receiving.{has_ended, has_failed, length_aside, ram_len_in, reads_in, rounds_in};
     ghost use Rattle.receiver.specs.Waiting.{LacksBytes};
@@ -104,6 +105,20 @@ impl<D: Disk + Drop, S: Summing> Reader<D, S> {
         ensures { result ≡ has_ended self.now.stage }
     {
         self.stage.has_ended()
+    }
+
+    /// Whether the digest may come: each item is named and each device has arrived.
+    pub fn may_end(&self) -> bool
+        ensures { IsTrue result ↔ MayEnd self.now.stage }
+    {
+        self.stage.may_end()
+    }
+
+    /// The digest was read.
+    pub fn end(&mut self)
+        ensures { self.new ≡ record self.old { stage = ended_at self.old.stage } }
+    {
+        self.stage.end();
     }
 
     /// How many rounds ended.
@@ -281,28 +296,13 @@ impl<D: Disk + Drop> Reader<D> {
 }
 
 impl<D: Disk + Drop> Reader<D, Told> {
-    ghost use Rattle.std.specs.Prelude.{◌≡◌, None, Some};
-    ghost use Rattle.receiver.specs.Sums.{IsTold, in_hand};
+    ghost use Rattle.receiver.specs.Sums.{IsTold};
 
     /// For proofs: whoever feeds it digests.
     pub fn recall_told(&self)
         ensures { IsTold self.now.digest }
     {
         let _digest = &self.digest;
-    }
-
-    /// The digest of all bytes that were worked off.
-    pub fn tell(&mut self, digest: &[u8; 32])
-        ensures { self.new ≡ record self.old { digest = in_hand self.old.digest (Some digest.now) } }
-    {
-        self.digest.tell(digest);
-    }
-
-    /// No digest is in hand.
-    pub fn forget(&mut self)
-        ensures { self.new ≡ record self.old { digest = in_hand self.old.digest None } }
-    {
-        self.digest.forget();
     }
 }
 

@@ -14,6 +14,7 @@ ghost use Rattle.receiver.specs.Sums.{NotFive};
 ghost use Rattle.receiver.specs.Disks.{disk_marks_of, sizes_of};
 ghost use Rattle.receiver.specs.Receiving.{place_aside};
 
+use crate::closing::{compare, recall};
 use crate::intake::Intake;
 use crate::opening::recall_disks;
 use crate::ram_terms::RamTerms;
@@ -395,8 +396,10 @@ impl<D: Disk + Drop, S: Summing> Receiver<D, S> {
 }
 
 impl<D: Disk + Drop> Receiver<D, Told> {
-    ghost use Rattle.std.specs.Prelude.{◌≡◌, ◌++◌, OnOk, length, take};
+    ghost use Rattle.std.specs.Prelude.{◌≡◌, ◌++◌, ◌↔◌, IsTrue, OnOk, length, take};
     ghost use Rattle.sha2.specs.Sha256.{sha256};
+    ghost use Rattle.guestmem.specs.Number.{IsBytes};
+    ghost use Rattle.receiver.specs.Closing.{ClosesOnTrust, Finds};
     ghost use Rattle.receiver.specs.Calls.{Feeds, FeedsSome, IsDue, IsNew};
     ghost use Rattle.receiver.specs.Opened.{told_by};
     ghost use Rattle.receiver.specs.Receiving.{HasBeenFed, has_ended};
@@ -446,6 +449,20 @@ impl<D: Disk + Drop> Receiver<D, Told> {
         self.reader.recall_told();
     }
 
+    /// Whether the record that closes the stream has begun, or begins with these bytes: then they are for `close`, and `feed_some` takes none
+    /// of them.
+    pub fn is_due(&self, rest: &[u8]) -> bool
+        ensures { IsTrue result ↔ IsDue self.now rest.now }
+    {
+        if !self.reader.reads() || self.reader.has_ended() {
+            return false;
+        }
+        if self.held.is_empty() {
+            return begins_digest(rest);
+        }
+        begins_digest(&self.held)
+    }
+
     /// Takes the record that closes the stream, or the next bytes of it, with the digest of all bytes that were fed but for those that are
     /// held. A record that comes in parts is closed by as many calls, each with the same digest. Another digest than the record's is
     /// `BadDigest`.
@@ -454,10 +471,45 @@ impl<D: Disk + Drop> Receiver<D, Told> {
         requires digest { digest.now ≡ sha256 (past_of self.old.digest) }
         ensures { Feeds self.old rest.now result self.new }
     {
-        self.reader.tell(digest);
-        let result = self.feed_clear(rest);
-        self.reader.forget();
-        result
+        self.close_on_trust(digest, rest)
+    }
+
+    /// As `close`, for a caller who cannot prove whose digest it is. It is compared with that of the record, and with no other: whoever tells
+    /// the record's own has the stream accepted, whatever it is. Of the bytes of such a stream nothing is promised.
+    pub fn close_on_trust(&mut self, digest: &[u8; 32], rest: &[u8]) -> Result<(), RecvError>
+        requires due { IsDue self.old rest.now }
+        ensures { ClosesOnTrust self.old digest.now rest.now result self.new }
+    {
+        self.reader.recall_told();
+        recall(rest);
+        let closes = match self.find_end(digest, rest) {
+            Ok(closes) => closes,
+            Err(error) => {
+                self.give_up();
+                return Err(error);
+            }
+        };
+        self.lacking = 0;
+        if closes {
+            self.held.clear();
+            self.reader.end();
+            return Ok(());
+        }
+        self.held.extend_from_slice(rest).unwrap();
+        Ok(())
+    }
+
+    /// Whether the record that closes the stream is whole with these bytes; or why it is refused.
+    fn find_end(&self, digest: &[u8; 32], rest: &[u8]) -> Result<bool, RecvError>
+        requires due { IsDue self.now rest.now }
+        ensures bytes { IsBytes self.now.held }
+        ensures finds { Finds self.now.stage digest.now (self.now.held ++ rest.now) result }
+    {
+        recall(&self.held);
+        if !self.reader.may_end() {
+            return Err(RecvError::Missing);
+        }
+        compare(&self.held, rest, digest)
     }
 }
 

@@ -1,4 +1,4 @@
-//! Who digests what a receiver works off: it does, or whoever feeds it, and tells the digest before the record that closes the stream.
+//! Who digests what a receiver works off: it does, or whoever feeds it, and tells the digest with the record that closes the stream.
 
 ghost use Rattle.std.specs.Prelude.{◌≡◌, ◌++◌, ◌↔◌, List, ℕ, IsTrue, []};
 ghost use Rattle.sha2.specs.Sha256.{sha256};
@@ -61,60 +61,29 @@ impl Summing for Own {
     }
 }
 
-/// Whoever feeds the receiver digests. A digest is in hand while the record that closes the stream is read.
+/// Whoever feeds the receiver digests. That digest is compared where the record comes that closes the stream (`Receiver::close`), and not here.
 #[derive(Drop)]
 pub struct Told {
     past: Past,
-    hand: Option<[u8; 32]>,
-}
-
-impl Told {
-    ghost use Rattle.std.specs.Prelude.{◌≡◌, None, Some};
-    ghost use Rattle.receiver.specs.Sums.{in_hand};
-
-    /// The digest of all bytes that were worked off.
-    pub(crate) fn tell(&mut self, digest: &[u8; 32])
-        ensures { ⟦<Told as Summing>⟧.seen self.new ≡ in_hand (⟦<Told as Summing>⟧.seen self.old) (Some digest.now) }
-    {
-        self.hand = Some(*digest);
-    }
-
-    /// No digest is in hand.
-    pub(crate) fn forget(&mut self)
-        ensures { ⟦<Told as Summing>⟧.seen self.new ≡ in_hand (⟦<Told as Summing>⟧.seen self.old) None }
-    {
-        self.hand = None;
-    }
 }
 
 impl Summing for Told {
     ghost use Rattle.receiver.specs.Sums.{told};
 
-    ghost seen = { λ s. told s.past.bytes s.hand };
+    ghost seen = { λ s. told s.past.bytes };
 
     #[tactic(auto, unfolding(crate::specs::Sums::Sums))]
     fn none() -> Told {
-        Told {
-            past: Past::new(),
-            hand: None,
-        }
+        Told { past: Past::new() }
     }
 
-    #[tactic(auto, using(crate::proofs::Summed::told_sums, crate::proofs::Summed::told_says))]
+    #[tactic(auto, unfolding(crate::specs::Sums::Sums, crate::specs::Sums::CanSay))]
     fn add(&mut self, bytes: &[u8]) {
         self.past = self.past.then(&Added { bytes });
     }
 
-    fn agrees(&mut self, digest: &[u8]) -> bool {
-        match &self.hand {
-            Some(told) => is_same(told, digest),
-            None => false,
-        }
+    #[tactic(auto, unfolding(crate::specs::Sums::CanSay))]
+    fn agrees(&mut self, _digest: &[u8]) -> bool {
+        false
     }
-}
-
-fn is_same(told: &[u8; 32], digest: &[u8]) -> bool
-    ensures { IsTrue result ↔ (told.now ≡ digest.now) }
-{
-    told.as_slice() == digest
 }

@@ -1,4 +1,4 @@
-use Rattle.receiver.proofs.Handing.{fed_is}
+use Rattle.receiver.proofs.Closes.{fed_is}
 use Rattle.receiver.proofs.receiver.Receiver+D+Told.recall_bytes.Goals as goal
 
 pub returns : goal.returns
