@@ -1,24 +1,22 @@
 -- The record of the digest, where a digest is told.
 use Rattle.std.proofs.Common.{◌≡◌, ◌≢◌, ℕ, ◌+◌, ◌<◌, ◌≤◌, ◌⊎◌, inl, inr, Bool, true, false, List, [], ◌∷◌, ◌++◌, length, take, drop, refl, sym, ap, subst, ◌∙◌, append_assoc, append-nil, arith}
 use Rattle.std.specs.Prelude.{◌↔◌, Option, Result, Ok, Err}
-use Rattle.std.specs.Vec.{vec_capacity}
 use Rattle.std.proofs.lemmas.Bool.{cases_lt}
 use Rattle.std.proofs.lemmas.List.{length-append, length-take, take-append-drop}
 use Rattle.std.proofs.Math.Seq.{take-append-add, take-append_seam, drop-append_seam}
 use Rattle.sha2.specs.Sha256.{sha256}
-use Rattle.sha2.proofs.Facts256.{length-sha256}
 use Rattle.guestmem.specs.Number.{IsBytes}
 use Rattle.guestmem.proofs.ByteLaws.{IsBytes-append, IsBytes-drop, IsBytes-take}
 use Rattle.wire.specs.Records.{Record, commit, spelled_record}
 use Rattle.wire.specs.Stream.{texts}
 use Rattle.wire.specs.declared.record_head.RecordHead.TheVariants as heads
-use Rattle.wire.proofs.Spelling.{head_same, tail_same}
+use Rattle.wire.proofs.Spelling.{head_same}
 use Rattle.blk.specs.Disk.{DiskState}
 use Rattle.guestmem.specs.Memory.{Memory}
 use Rattle.machine.specs.Room.{RoomSeen}
 use Rattle.machine.specs.Seen.{Marks}
 use Rattle.receiver.specs.Calls.{Feeds, IsDue}
-use Rattle.receiver.specs.Closing.{ClosesOnTrust, Compares, ComesOf, Differ, Finds, GoOn, HasAll, MayEnd, ended_at}
+use Rattle.receiver.specs.Closing.{ClosesOnTrust, Compares, Finds, GoOn, HasAll, MayEnd, ended_at}
 use Rattle.receiver.specs.Disks.{MarksRefused, all_marks_in, sizes_in}
 use Rattle.receiver.specs.Faults.{Fault, IsFault, MayTag, Opens}
 use Rattle.receiver.specs.Fed.{HasRead, IsKnownIn, IsReadWhole, IsReading, Waits}
@@ -27,7 +25,7 @@ use Rattle.receiver.specs.Opened.{Opened, opened_header}
 use Rattle.receiver.specs.Reading.{IsReader, place_of}
 use Rattle.receiver.specs.Receiving.{HasBeenFed, HasHeaderFor, IsGivenUp, IsKnown, IsPastHead, IsReceiver, IsTaken, MayTouch, ReaderSeen, Received, TellsFault, has_ended, has_failed, place_in, reads_in, received_with}
 use Rattle.receiver.specs.Standing.{OpensHead}
-use Rattle.receiver.specs.Sums.{IsTold, Summed, Sums, own, past_of, told}
+use Rattle.receiver.specs.Sums.{IsTold, NotFive, Summed, Sums, own, past_of, told}
 use Rattle.receiver.specs.declared.intake.Intake.{Intake}
 use Rattle.receiver.specs.declared.ram_terms.RamTerms.{RamTerms}
 use Rattle.receiver.specs.declared.recv_error.RecvError.{RecvError}
@@ -73,6 +71,15 @@ goes_on held rest digest (byte ∷ more) lacking is at some = record {
   whole = ap (λ (x : List ℕ). held ++ x) (sym (take-append-drop lacking rest)) ∙ sym (append_assoc held (take lacking rest) (drop lacking rest)) ∙ ap (λ (x : List ℕ). x ++ drop lacking rest) is ∙ ap (λ (x : List ℕ). 5 ∷ (digest ++ x)) (sym at);
 }
 
+-- Bytes that are held and begin with the tag.
+pub front_five : (held rest more : List ℕ) → 0 < length held → held ++ rest ≡ 5 ∷ more → (others : List ℕ) × (held ≡ 5 ∷ others)
+front_five [] rest more some is = absurd (omega (arith, some))
+front_five (x ∷ xs) rest more some is = (xs, ap (λ (t : ℕ). t ∷ xs) (head_same is))
+
+pub begun : (is_begun : Bool) (bytes more : List ℕ) → (is_begun ≡ false → NotFive bytes) → bytes ≡ 5 ∷ more → is_begun ≡ true
+begun true bytes more never is = refl
+begun false bytes more never is = absurd (never refl more is)
+
 -- The tag may come in each version.
 five_may : (version count devices : ℕ) → MayTag version count devices 5
 five_may version count devices = record { least = omega arith; most = omega arith; early = λ low. absurd (not_early 5 (omega arith) (omega arith) low); missing = λ four. absurd (omega (arith, four)); since = λ six. absurd (omega (arith, six)) }
@@ -108,8 +115,7 @@ digest_differs : {ds : List DiskState} {opening : Opened} {before : List Record}
     → (place : ℕ) × IsFault opening before tail errors.BadDigest place
 digest_differs {opening = opening} {before = before} tail more digest h all is same c =
     let other : tail ≡ 5 ∷ (take 32 more ++ drop 32 more) = is ∙ ap (λ (x : List ℕ). 5 ∷ x) (sym (take-append-drop 32 more)) in
-    let first : take 33 tail ≡ 5 ∷ take 32 more = ap (take 33) is in
-    (
+    let first : take 33 tail ≡ 5 ∷ take 32 more = ap (take 33) is in (
       33,
       record {
         digest = take 32 more;

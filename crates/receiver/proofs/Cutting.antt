@@ -1,9 +1,7 @@
 -- Where a piece may be cut so that the digest does not come in it.
 use Rattle.std.proofs.Common.{◌≡◌, ℕ, ◌+◌, ◌≤◌, ◌<◌, ◌⊎◌, inl, inr, Bool, true, false, List, [], ◌∷◌, ◌++◌, length, take, drop, refl, sym, ap, subst, ◌∙◌, append_assoc, append-nil, arith}
-use Rattle.std.specs.Prelude.{Option, Some}
 use Rattle.std.proofs.lemmas.Bool.{cases_lt}
 use Rattle.std.proofs.lemmas.List.{length-append, length-take, take-append-drop}
-use Rattle.sha2.specs.Sha256.{sha256}
 use Rattle.wire.specs.RecordHeads.{BeginsHead, FitsHead, body_len, spelled_head}
 use Rattle.wire.specs.Records.{BeginsNoRecord, HasSpelling, Record, body_of, head_of, spelled_record}
 use Rattle.wire.specs.Stream.{texts}
@@ -16,15 +14,14 @@ use Rattle.receiver.specs.Faults.{IsFront, WaitsHead}
 use Rattle.receiver.specs.Fed.{HasRead, IsKnownIn}
 use Rattle.receiver.specs.Opened.{Opened, opened_header, said_by}
 use Rattle.receiver.specs.Good.{AreGood}
-use Rattle.receiver.specs.Receiving.{IsTaken, NoNext, has_ended, reads_in}
-use Rattle.receiver.specs.Sums.{CanSay, IsClear, NoneEnds, NotFive, Summed, Sums, told}
+use Rattle.receiver.specs.Receiving.{IsTaken, has_ended, reads_in}
+use Rattle.receiver.specs.Sums.{IsClear, NoneEnds, NotFive, Summed}
 use Rattle.receiver.specs.Waiting.{LacksBytes}
 use Rattle.receiver.specs.declared.intake.Intake.{Intake}
 use Rattle.receiver.specs.declared.ram_terms.RamTerms.{RamTerms}
 use Rattle.receiver.specs.declared.stage.Stage.{Stage}
 use Rattle.receiver.specs.declared.stage.Stage.TheVariants as stages
 use Rattle.receiver.proofs.Aligned.{LongerRecords, good_spell, next_good, one_opening, records_led}
-use Rattle.receiver.proofs.Counting.{same_records}
 use Rattle.receiver.proofs.Knowing.{no_other}
 use Rattle.receiver.proofs.Prefixes.{behind}
 use Rattle.receiver.proofs.Working.{front_at, front_of}

@@ -1,4 +1,4 @@
-use Rattle.std.proofs.Common.{rules, arith, ◌≡◌, ◌∷◌, ◌++◌, ◌<◌, ◌+◌, ◌-◌, length, take, drop, ap, sym, ◌∙◌}
+use Rattle.std.proofs.Common.{rules, arith, ◌≡◌, ◌∷◌, ◌++◌, ◌<◌, ◌-◌, length, take, ap, sym, ◌∙◌}
 use Rattle.std.proofs.lemmas.List.{length-append}
 use Rattle.receiver.proofs.Closes.{first_of, goes_on}
 use Rattle.receiver.proofs.closing.compare.Goals as goal
