@@ -254,10 +254,7 @@ impl<'t> Refusals<'t> {
         let ((number, fed), size) = expected;
         let receiver = self.told_receiver(alloc, streams)?;
         let told = trusting_refusal(alloc, stream, receiver, size, false)?;
-        ensure!(
-            told == (number, fed),
-            "a digest on trust, pieces of {size}"
-        );
+        ensure!(told == (number, fed), "a digest on trust, pieces of {size}");
         let receiver = self.told_receiver(alloc, streams)?;
         let (told, _) = trusting_refusal(alloc, stream, receiver, size, true)?;
         let is_compared = number == 0 || number == RecvError::Trailing.code();
@@ -266,10 +263,7 @@ impl<'t> Refusals<'t> {
         } else {
             number
         };
-        ensure!(
-            told == refused,
-            "a wrong digest on trust, pieces of {size}"
-        );
+        ensure!(told == refused, "a wrong digest on trust, pieces of {size}");
         Ok(())
     }
 
