@@ -63,7 +63,7 @@ ComesOf old digest bytes (Ok x) new = MayEnd old.stage × GoesOrEnds old digest 
 ComesOf old digest bytes (Err e) new = Finds old.stage digest bytes (Err e)
 
 -- The next bytes of the record of the digest were taken, or refused, by the digest that was told. No memory is wanted, and no disk is called.
--- Where it is the digest of all bytes that were worked off this is a piece as any other (`right`). So it is whatever was told before the
+-- Where it is the digest of all bytes that were worked off, this is a piece as any other (`right`). So it is, whatever was told, before the
 -- record's last byte, and where the record comes too early.
 pub record ClosesOnTrust (old : Received) (digest rest : List ℕ) (result : Result (Unit {0}) RecvError) (new : Received) : Type 0 where
   pub goes_on : old.failed ≡ false

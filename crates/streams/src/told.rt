@@ -41,52 +41,6 @@ pub fn told_refusal(
     Ok((ended(receiver), Some(stream.len())))
 }
 
-/// The number of the refusal of a stream that is fed in pieces of `size` bytes to a receiver which is told the digest on trust, or 0 where it is
-/// received; and how many bytes were fed by then. The record that closes the stream comes in pieces too. Where `wrong` is set another digest
-/// is told than that of the bytes.
-pub fn trusting_refusal(
-    alloc: Global,
-    stream: &[u8],
-    receiver: Receiver<TestDisk, Told>,
-    size: usize,
-    wrong: bool,
-) -> Result<(u8, usize)> {
-    let mut receiver = receiver;
-    let mut sum = Sha256::new();
-    let mut fed = 0usize;
-    for piece in stream.chunks(size.max(1)) {
-        fed += piece.len();
-        if let Err(error) = feed_on_trust(&mut receiver, &mut sum, piece, wrong)? {
-            return Ok((error.code(), fed));
-        }
-    }
-    Ok((ended(receiver), fed))
-}
-
-/// Feeds a piece, and tells the digest of all that was fed before the record that closes the stream, where that is due; or another one.
-fn feed_on_trust(
-    receiver: &mut Receiver<TestDisk, Told>,
-    sum: &mut Sha256,
-    piece: &[u8],
-    wrong: bool,
-) -> Result<Result<(), RecvError>> {
-    let taken = match receiver.feed_some(piece) {
-        Ok(taken) => taken,
-        Err(error) => return Ok(Err(error)),
-    };
-    let (bytes, closing) = piece.split_at(taken.used);
-    sum.update(bytes);
-    if !taken.is_due {
-        return Ok(Ok(()));
-    }
-    let mut digest = sum.clone()?.finalize();
-    if wrong {
-        digest[0] ^= 0x55;
-        digest[31] ^= 0xaa;
-    }
-    Ok(receiver.close_on_trust(&digest, closing))
-}
-
 /// The number of the refusal of a receiver at its end, or 0.
 fn ended(receiver: Receiver<TestDisk, Told>) -> u8 {
     receiver.finish().err().map_or(0, RecvError::code)
