@@ -1,11 +1,11 @@
 //! Bytes, and what a receiver reports of them.
 
 use crate::changes::Streams;
-use crate::told::told_refusal;
+use crate::told::{told_refusal, trusting_refusal};
 use anyhow::{Context, Result, ensure};
 use books::{Script, spelled};
 use machine::{FaultDisk, Limits, MemDisk};
-use receiver::{Receiver, Terms, read_heading_within};
+use receiver::{Receiver, RecvError, Terms, Told, read_heading_within};
 use scenarios::{PIECES, TestDisk, disks_of, refusal_in_pieces, refusal_of};
 use std::alloc::Global;
 
@@ -236,9 +236,40 @@ impl<'t> Refusals<'t> {
                     told == expected,
                     "a told digest, pieces of {size} at {place}"
                 );
+                self.tell_on_trust(alloc, streams, stream, (expected, size))
+                    .context(place)?;
             }
         }
         Ok(())
+    }
+
+    /// Fails if a receiver that is told the digest on trust gives another answer than `expected.0`, or accepts a stream by a wrong digest.
+    fn tell_on_trust(
+        &self,
+        alloc: Global,
+        streams: &Streams,
+        stream: &[u8],
+        expected: ((u8, usize), usize),
+    ) -> Result<()> {
+        let ((number, fed), size) = expected;
+        let receiver = self.told_receiver(alloc, streams)?;
+        let told = trusting_refusal(stream, receiver, size, false)?;
+        ensure!(told == (number, fed), "a digest on trust, pieces of {size}");
+        let receiver = self.told_receiver(alloc, streams)?;
+        let (told, _) = trusting_refusal(stream, receiver, size, true)?;
+        let is_compared = number == 0 || number == RecvError::Trailing.code();
+        let refused = if is_compared {
+            RecvError::BadDigest.code()
+        } else {
+            number
+        };
+        ensure!(told == refused, "a wrong digest on trust, pieces of {size}");
+        Ok(())
+    }
+
+    fn told_receiver(&self, alloc: Global, streams: &Streams) -> Result<Receiver<TestDisk, Told>> {
+        let disks = self.disks_beside(alloc, streams)?;
+        Ok(Receiver::told(alloc, disks, None, self.terms))
     }
 
     /// The disks with which streams are received.

@@ -41,6 +41,65 @@ pub fn told_refusal(
     Ok((ended(receiver), Some(stream.len())))
 }
 
+/// The number of the refusal of a stream that is fed in pieces of `size` bytes to a receiver which is told the digest on trust, or 0 where it is
+/// received; and how many bytes were fed by then. The record that closes the stream comes in pieces too. Where `is_wrong` is set another
+/// digest is told than that of the bytes.
+pub fn trusting_refusal(
+    stream: &[u8],
+    receiver: Receiver<TestDisk, Told>,
+    size: usize,
+    is_wrong: bool,
+) -> Result<(u8, usize)> {
+    let mut receiver = receiver;
+    match trusting_refusal_of(stream, &mut receiver, size, is_wrong) {
+        Ok(Some(refused)) => Ok(refused),
+        Ok(None) => Ok((ended(receiver), stream.len())),
+        Err(error) => Err(error),
+    }
+}
+
+/// The number of the refusal of a piece, and how many bytes were fed by then.
+fn trusting_refusal_of(
+    stream: &[u8],
+    receiver: &mut Receiver<TestDisk, Told>,
+    size: usize,
+    is_wrong: bool,
+) -> Result<Option<(u8, usize)>> {
+    let mut sum = Sha256::new();
+    let mut fed = 0usize;
+    for piece in stream.chunks(size.max(1)) {
+        fed = fed.saturating_add(piece.len());
+        if let Err(error) = feed_on_trust(receiver, &mut sum, piece, is_wrong)? {
+            return Ok(Some((error.code(), fed)));
+        }
+    }
+    Ok(None)
+}
+
+/// Feeds a piece, and tells the digest of all that was fed before the record that closes the stream, where that is due; or another one.
+fn feed_on_trust(
+    receiver: &mut Receiver<TestDisk, Told>,
+    sum: &mut Sha256,
+    piece: &[u8],
+    is_wrong: bool,
+) -> Result<Result<(), RecvError>> {
+    let taken = match receiver.feed_some(piece) {
+        Ok(taken) => taken,
+        Err(error) => return Ok(Err(error)),
+    };
+    let (bytes, closing) = piece.split_at(taken.used);
+    sum.update(bytes);
+    if !taken.is_due {
+        return Ok(Ok(()));
+    }
+    let mut digest = sum.clone()?.finalize();
+    if is_wrong {
+        digest[0] ^= 0x55;
+        digest[31] ^= 0xaa;
+    }
+    Ok(receiver.close_on_trust(&digest, closing))
+}
+
 /// The number of the refusal of a receiver at its end, or 0.
 fn ended(receiver: Receiver<TestDisk, Told>) -> u8 {
     receiver.finish().err().map_or(0, RecvError::code)
