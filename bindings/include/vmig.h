@@ -87,20 +87,22 @@
  *     written                  NO_MACHINE  NO_MACHINE        .            .            .            .
  *     give_back                NO_MACHINE  NO_MACHINE        NOT_LENT     NOT_LENT     NOT_LENT     .
  *     sector_read, save        NO_MACHINE  NO_MACHINE        .            SENDING      SENDING      LENT
- *     send_begin               NO_MACHINE  NO_MACHINE        .            SENDING      STOPPED      LENT
+ *     send_begin,
+ *       send_begin_as          NO_MACHINE  NO_MACHINE        .            SENDING      STOPPED      LENT
  *     send_some, send_round,
  *       send_stop              NO_MACHINE  NO_MACHINE        NOT_SENDING  .            STOPPED      LENT
+ *     send_tell                NO_MACHINE  NO_MACHINE        NOT_SENDING  NOT_ASKED    .            LENT
  *     send_abort               NO_MACHINE  NO_MACHINE        NOT_SENDING  .            .            LENT
  *     send_left, send_take     NO_MACHINE  NO_MACHINE        NOT_SENDING  .            .            (5)
  *
- *     (1) After VMIG_SEND_FAILED too, where send_begin, send_some, send_round and send_stop are SEND_FAILED (send_stop CALLS_OUT,
- *         if any call is out).
+ *     (1) After VMIG_SEND_FAILED too, where send_begin, send_begin_as, send_some, send_round and send_stop are SEND_FAILED
+ *         (send_stop CALLS_OUT, if any call is out).
  *     (2) A machine that is idle or sending, and whose RAM is out.
  *     (3) Of an arrival that has failed they are STREAM_FAILED.
  *     (4) LENT of a read that is out.
  *     (5) As if not lent: see the other columns.
  *
- * A machine is sending from vmig_send_begin on, and stopped after vmig_send_stop: its guest is paused then. vmig_send_abort makes
+ * A machine is sending from vmig_send_begin or vmig_send_begin_as on, and stopped after vmig_send_stop: its guest is paused then. vmig_send_abort makes
  * it idle again.
  *
  * STEPS. The work of the devices is made of steps. A step names a device and a `pick`, the number of the piece of work:
@@ -271,6 +273,9 @@
  * paused, until vmig_send_abort or vmig_free. vmig_send_abort says when the guest may run here again. The machine that arrives may
  * run once the source has said so, and not before: else two hosts run one guest. A host whose protocol has no such word has let go
  * of the guest with the last byte of the stream.
+ *     The library digests the stream, by some 7 ns a byte, within these calls. After vmig_send_begin_as with VMIG_TOLD it does not:
+ * you digest what you take (SHA-256), as on a thread of its own, and tell the digest by vmig_send_tell after the stop; the last 33
+ * bytes of the stream, which hold it, can be taken only then.
  *
  * A MACHINE ARRIVES: vmig_arrive, with the most that you allow, then vmig_feed with the bytes of the stream in any pieces, as they
  * come over the wire, until VMIG_WHOLE, and vmig_finish. Before its guest runs read the lines, do the devices' work, and ask for
@@ -285,9 +290,9 @@
  * list of sixteen shapes, for the time of the call; vmig_save, for the whole stream, for the time of the call; vmig_step and
  * vmig_work, for a chain of more than four descriptors, or a message longer than those before it; vmig_give_back, vmig_mark and
  * vmig_push with a bitmap or with all pages, for 4 bytes for each page that they name, which are kept for the next such call;
- * vmig_send_begin, for two bits for each page and sector; and vmig_send_begin, vmig_send_some, vmig_send_round and vmig_send_stop
- * for what they write, which waits until it is taken: a stop of a machine of which nothing was copied before writes the whole
- * machine. No other call does. */
+ * vmig_send_begin and vmig_send_begin_as, for two bits for each page and sector; and these two, vmig_send_some, vmig_send_round and
+ * vmig_send_stop for what they write, which waits until it is taken: a stop of a machine of which nothing was copied before writes
+ * the whole machine. No other call does. */
 #ifndef VMIG_H
 #define VMIG_H
 
@@ -391,6 +396,7 @@ enum {
     VMIG_NOT_OUT = 28,                  /* no call of a disk outside with this number is out */
     VMIG_CALLS_OUT = 29,                /* calls of disks outside are out, and have to be answered before */
     VMIG_BAD_BASE = 30,                 /* not a multiple of 4,096, or RAM would reach past the last address */
+    VMIG_NOT_ASKED = 31,                /* send_tell: no VMIG_TOLD, or before the stop, or told already */
 
     /* Refused: what arrives. The arrival is over, and the handle waits for vmig_free or vmig_release. */
     VMIG_STREAM_BAD_MAGIC = 33,         /* it does not begin with "VMIG" */
@@ -573,6 +579,9 @@ typedef struct vmig_setup {
 /* VMIG_LOG: the pages that calls write are logged, for vmig_written. It takes some instructions more a step, and a bit for each
  * page that RAM has, or may have where it arrives, and at least 2 KiB. */
 #define VMIG_LOG 2u
+
+/* VMIG_TOLD, of vmig_send_begin_as alone: the library does not digest the stream. You do, and tell the digest by vmig_send_tell. */
+#define VMIG_TOLD 4u
 
 /* A machine that arrives. Begin with VMIG_ARRIVAL: it allows nothing until you say what. VMIG_OK takes RAM and images, as above. */
 typedef struct vmig_arrival {
@@ -872,6 +881,9 @@ vmig_status vmig_pull(const vmig_machine *m, uint8_t *ram, size_t len, uint64_t 
  * for 1 TiB. NO_MEMORY. */
 vmig_status vmig_send_begin(vmig_machine *m) VMIG_CHECKED_(1);
 
+/* As vmig_send_begin, by flags: VMIG_TOLD, or 0. NOT_KNOWN (another flag), NO_MEMORY. */
+vmig_status vmig_send_begin_as(vmig_machine *m, uint32_t flags) VMIG_CHECKED_(1);
+
 /* Copies up to `most` pages and sectors that are due, those with the least numbers first and pages before sectors: their bytes wait
  * to be taken. VMIG_OK, or VMIG_ROUND_DONE: nothing is due after it. SEND_FAILED, and a part may wait. */
 vmig_status vmig_send_some(vmig_machine *m, uint32_t most) VMIG_CHECKED_(1);
@@ -882,7 +894,8 @@ vmig_status vmig_send_round(vmig_machine *m) VMIG_CHECKED_(1);
 
 /* Copies all that is due or was written since it was sent, then the devices, and closes the stream. *pages and *sectors become the
  * numbers that it copied. The guest is paused from here on, until vmig_send_abort. Take what waits before it: what was not taken is
- * digested in this call, while the guest stands. CALLS_OUT (of any disk outside: answer them, and ask for no more), SEND_FAILED. */
+ * digested in this call, while the guest stands, unless with VMIG_TOLD. CALLS_OUT (of any disk outside: answer them, and ask for no
+ * more), SEND_FAILED. */
 vmig_status vmig_send_stop(vmig_machine *m, uint64_t *pages, uint64_t *sectors) VMIG_CHECKED_(1, 2, 3);
 
 /* The machine continues as if it had never been sent; what waits is lost. After a stop that was done: only where nobody runs what
@@ -891,10 +904,16 @@ vmig_status vmig_send_stop(vmig_machine *m, uint64_t *pages, uint64_t *sectors) 
 vmig_status vmig_send_abort(vmig_machine *m) VMIG_CHECKED_(1);
 
 /* The next bytes of the stream go to the front of buf, *got of them; 0, where size is not 0, says that none waits. After
- * vmig_send_stop and a 0 the stream is whole. Its cost is proportional to the bytes that it returns, so buf may be of any size.
- * After VMIG_SEND_FAILED the bytes that wait may end within a record. */
+ * vmig_send_stop and a 0 the stream is whole, or, with VMIG_TOLD and until the digest is told, all of it but the last 33 bytes was
+ * taken. Its cost is proportional to the bytes that it returns, so buf may be of any size. After VMIG_SEND_FAILED the bytes that
+ * wait may end within a record. */
 vmig_status vmig_send_take(vmig_machine *m, uint8_t *buf, size_t size, size_t *got)
     VMIG_CHECKED_(1, 4) VMIG_WRITES_(2, 3, buf, size);
+
+/* The digest of a stream that was begun with VMIG_TOLD: the SHA-256 of all its bytes but the last 33, in their order, which can be
+ * taken after it. Nobody compares it here: whoever receives the stream refuses another one (STREAM_BAD_DIGEST), and the machine is
+ * still here. NOT_ASKED. */
+vmig_status vmig_send_tell(vmig_machine *m, const uint8_t digest[32]) VMIG_CHECKED_(1, 2);
 
 /* What is left to be sent. */
 typedef struct vmig_left {
@@ -975,7 +994,7 @@ static inline const char *vmig_status_name(vmig_status status)
     VMIG_NAMED_(VMIG_BAD_IMAGES) VMIG_NAMED_(VMIG_NOT_SENDING) VMIG_NAMED_(VMIG_SENDING) VMIG_NAMED_(VMIG_SEND_FAILED)
     VMIG_NAMED_(VMIG_STOPPED) VMIG_NAMED_(VMIG_NO_ROUND_LEFT) VMIG_NAMED_(VMIG_LENT) VMIG_NAMED_(VMIG_NOT_LENT)
     VMIG_NAMED_(VMIG_NOT_YOURS) VMIG_NAMED_(VMIG_BAD_RAM) VMIG_NAMED_(VMIG_NOT_KNOWN) VMIG_NAMED_(VMIG_NOT_OUT)
-    VMIG_NAMED_(VMIG_CALLS_OUT) VMIG_NAMED_(VMIG_BAD_BASE)
+    VMIG_NAMED_(VMIG_CALLS_OUT) VMIG_NAMED_(VMIG_BAD_BASE) VMIG_NAMED_(VMIG_NOT_ASKED)
     VMIG_NAMED_(VMIG_STREAM_BAD_MAGIC) VMIG_NAMED_(VMIG_STREAM_BAD_VERSION) VMIG_NAMED_(VMIG_STREAM_BAD_SHAPE)
     VMIG_NAMED_(VMIG_STREAM_MISMATCH) VMIG_NAMED_(VMIG_STREAM_BAD_TAG) VMIG_NAMED_(VMIG_STREAM_BAD_PAGE)
     VMIG_NAMED_(VMIG_STREAM_BAD_SECTOR) VMIG_NAMED_(VMIG_STREAM_BAD_ROUND) VMIG_NAMED_(VMIG_STREAM_BAD_DEVICE)

@@ -30,7 +30,7 @@ enum class status : std::uint32_t {
     bad_shape = VMIG_BAD_SHAPE, bad_images = VMIG_BAD_IMAGES, not_sending = VMIG_NOT_SENDING, sending = VMIG_SENDING,
     send_failed = VMIG_SEND_FAILED, stopped = VMIG_STOPPED, no_round_left = VMIG_NO_ROUND_LEFT, lent = VMIG_LENT,
     not_lent = VMIG_NOT_LENT, not_yours = VMIG_NOT_YOURS, bad_ram = VMIG_BAD_RAM, not_known = VMIG_NOT_KNOWN,
-    not_out = VMIG_NOT_OUT, calls_out = VMIG_CALLS_OUT, bad_base = VMIG_BAD_BASE,
+    not_out = VMIG_NOT_OUT, calls_out = VMIG_CALLS_OUT, bad_base = VMIG_BAD_BASE, not_asked = VMIG_NOT_ASKED,
     stream_bad_magic = VMIG_STREAM_BAD_MAGIC, stream_bad_version = VMIG_STREAM_BAD_VERSION,
     stream_bad_shape = VMIG_STREAM_BAD_SHAPE, stream_mismatch = VMIG_STREAM_MISMATCH,
     stream_bad_tag = VMIG_STREAM_BAD_TAG, stream_bad_page = VMIG_STREAM_BAD_PAGE,
@@ -529,6 +529,7 @@ public:
         return status{vmig_pull(&held, ram, len, seen, count, pulled)};
     }
     [[nodiscard]] status send_begin() noexcept { return status{vmig_send_begin(&held)}; }
+    [[nodiscard]] status send_begin_as(std::uint32_t flags) noexcept { return status{vmig_send_begin_as(&held, flags)}; }
     [[nodiscard]] status send_some(std::uint32_t most) noexcept { return status{vmig_send_some(&held, most)}; }
     [[nodiscard]] status send_round() noexcept { return status{vmig_send_round(&held)}; }
     [[nodiscard]] status send_stop(std::uint64_t *copied, std::uint64_t *sectors) noexcept
@@ -540,6 +541,7 @@ public:
     {
         return status{vmig_send_take(&held, buf, size, got)};
     }
+    [[nodiscard]] status send_tell(const std::uint8_t (&digest)[32]) noexcept { return status{vmig_send_tell(&held, digest)}; }
     [[nodiscard]] status send_left(vmig_left *left) const noexcept { return status{vmig_send_left(&held, left)}; }
     [[nodiscard]] status save(std::uint8_t *buf, std::size_t size, std::size_t *len) const noexcept
     {

@@ -85,6 +85,9 @@ pub enum Error {
     /// The base is not a multiple of 4,096, or RAM would reach past the last address.
     BadBase = raw::BAD_BASE,
 
+    /// No digest is asked for: the host does not tell it, or the stop was not made, or it was told.
+    NotAsked = raw::NOT_ASKED,
+
     /// The stream does not begin with the magic number.
     StreamBadMagic = raw::STREAM_BAD_MAGIC,
 
@@ -166,6 +169,7 @@ const TEXTS: &[(Error, &str)] = &[
     (Error::NotOut, "no such call of a disk is out"),
     (Error::CallsOut, "calls of disks are out: answer them before"),
     (Error::BadBase, "invalid base: not a multiple of 4,096, or RAM would reach past the last address"),
+    (Error::NotAsked, "no digest is asked for"),
     (Error::StreamBadMagic, "bad magic: not a machine stream"),
     (Error::StreamBadVersion, "unsupported stream version"),
     (Error::StreamBadShape, "invalid machine configuration in the stream"),

@@ -37,12 +37,14 @@ pub data State : Type 0 where
   Arriving : ArrivalSeen → State
   Lent : LoanSeen → State
 
--- Whether its disks lie in memory of the caller, in which state it is, whether what arrives is let in, how many bytes of it were taken, and
--- for each device whether its disk was lost, which calls of disks outside are out, whether it may be as large as can be, for how many pages its
--- log, if it has one, has a place, and for each page whether it is to be handed out as written, if the caller asks for these.
+-- Whether its disks lie in memory of the caller, in which state it is, whether it is being migrated and its host tells the digest, whether what
+-- arrives is let in, how many bytes of it were taken, and for each device whether its disk was lost, which calls of disks outside are out, whether it
+-- may be as large as can be, for how many pages its log, if it has one, has a place, and for each page whether it is to be handed out as written, if
+-- the caller asks for these.
 pub record KeptSeen : Type 0 where
   pub is_mapped : Bool
   pub state : State
+  pub told : Bool
   pub admission : AdmissionSeen
   pub fed : ℕ
   pub lost : List Bool
@@ -78,10 +80,11 @@ first_log flags places = if asks_log flags then Some (replicate places false) el
 abbrev pub first_calls : ℕ → ℕ → AllCalls
 first_calls block from = record { devices = replicate DEVICES_MAX (record { size = block_size block; outs = [] }); turn = 0; number = from }
 
--- As it is at first: whose memory its disks lie in, none of them is lost, nothing was fed, no call is out, and what the flags ask for, with a
--- log of this many places.
+-- As it is at first: whose memory its disks lie in, it is not being migrated, none of its disks is lost, nothing was fed, no call is out, and what the
+-- flags ask for, with a log of this many places.
 pub record IsNew (mapped : Bool) (flags places block from : ℕ) (k : KeptSeen) : Type 0 where
   pub is_mapped : k.is_mapped ≡ mapped
+  pub not_told : k.told ≡ false
   pub none_lost : k.lost ≡ none_lost
   pub none_fed : k.fed ≡ 0
   pub none_out : k.calls ≡ first_calls block from
@@ -97,17 +100,36 @@ admission_of (admissions.Denied status) = Denied status
 abbrev pub loan_of : {D : Type 0} → Loan D → LoanSeen
 loan_of (loans.Still p) = StillLent p
 loan_of (loans.Moving l) = MovingLent l
+loan_of (loans.Told l) = MovingLent l
+
+-- Whether it is being migrated, and its host tells the digest.
+abbrev pub loan_told : {D : Type 0} → Loan D → Bool
+loan_told (loans.Still p) = false
+loan_told (loans.Moving l) = false
+loan_told (loans.Told l) = true
 
 -- The state of a machine over disks of any type.
 abbrev pub state_in : {D : Type 0} → Contents D → State
 state_in (contents.Still m) = Still m
 state_in (contents.Moving l) = Moving l
+state_in (contents.Told l) = Moving l
 state_in (contents.Lent loan) = Lent (loan_of loan)
+
+abbrev pub told_in : {D : Type 0} → Contents D → Bool
+told_in (contents.Still m) = false
+told_in (contents.Moving l) = false
+told_in (contents.Told l) = true
+told_in (contents.Lent loan) = loan_told loan
 
 abbrev pub held_state : Held → State
 held_state (held.Own c) = state_in c
 held_state (held.Mapped c) = state_in c
 held_state (held.Arriving a) = Arriving a
+
+abbrev pub are_told : Held → Bool
+are_told (held.Own c) = told_in c
+are_told (held.Mapped c) = told_in c
+are_told (held.Arriving a) = false
 
 -- The bytes of RAM that its log has to have places for. Of what arrives that is what is allowed.
 abbrev pub ram_in : ℕ → State → ℕ
@@ -122,7 +144,7 @@ are_mapped (held.Mapped c) = true
 are_mapped (held.Arriving a) = is_over a
 
 abbrev pub kept_with : Held → AdmissionSeen → ℕ → List Bool → KeptSeen
-kept_with held admission fed lost = record { is_mapped = are_mapped held; state = held_state held; admission = admission; fed = fed; lost = lost; calls = first_calls 1 0; large = false; places = 0; written = None }
+kept_with held admission fed lost = record { is_mapped = are_mapped held; state = held_state held; told = are_told held; admission = admission; fed = fed; lost = lost; calls = first_calls 1 0; large = false; places = 0; written = None }
 
 -- Where no stream arrives none was asked for.
 abbrev pub unasked : AdmissionSeen

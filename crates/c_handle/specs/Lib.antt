@@ -9,6 +9,7 @@ pub mod CallLaws
 pub mod CallsMet
 pub mod CallsOut
 pub mod Described
+pub mod Digest
 pub mod DiskCalls
 pub mod Dropping
 pub mod Durable

@@ -1,5 +1,5 @@
 -- The migration of a machine of a handle, call by call.
-use Rattle.std.specs.Prelude.{Bool, true, false, ◌≡◌, ◌==◌, ℕ, zero, suc, List, [], ◌++◌, min, length, replicate, take, drop, Option, Some, None}
+use Rattle.std.specs.Prelude.{Bool, true, false, ◌≡◌, ◌==◌, ◌-◌, ℕ, zero, suc, List, [], ◌++◌, min, length, replicate, take, drop, Option, Some, None}
 use Rattle.dirtylog.specs.Members.{member_count}
 use Rattle.disk_calls.specs.Calls.{is_any_out}
 use Rattle.machine.specs.Layout.{pages_of}
@@ -17,12 +17,13 @@ use Rattle.sender.specs.declared.event.LiveReply.TheVariants as live
 use Rattle.sender.specs.declared.mig_error.MigError.TheVariants.{AlreadyStopped, NotBegun, StreamFailed}
 use Rattle.sender.specs.declared.phase.Phase.{Phase}
 use Rattle.sender.specs.declared.phase.Phase.TheVariants as phases
-use Rattle.wire.specs.Sinks.{Takes, over_writer}
+use Rattle.wire.specs.Sinks.{Digested, SinkState, Takes, over_writer}
+use Rattle.wire.specs.Telling.{is_owed, owed_len}
 use Rattle.c_machine.specs.Status.{calls_out, done, lent, no_machine, no_memory, round_done}
 use Rattle.c_handle.specs.SendStatus.{live_status, mig_status}
 use Rattle.c_handle.specs.Kept.{KeptSeen, LoanSeen, StillLent, MovingLent, State, Still, Moving, Arriving, Lent}
 use Rattle.c_handle.specs.Mirror.{is_closed}
-use Rattle.c_handle.specs.OnHandle.{ByState, OfEachState, OfHandle, OnHandle, Refuses, RefusesBoth, Unless}
+use Rattle.c_handle.specs.OnHandle.{ByState, OfEachState, OfHandle, OnHandle, OnToldHandle, Refuses, RefusesBoth, Unless}
 use Rattle.c_handle.specs.declared.migrating.SendLeft.{SendLeft}
 
 -- Every call of a migration but its begin is refused for a machine that is not being migrated.
@@ -146,6 +147,11 @@ AbortsKept (Arriving r) status (Arriving next) = Refuses status next r no_machin
 AbortsKept (Lent x) status (Lent next) = Refuses status next x lent
 AbortsKept _ status _ = ⊥
 
+-- Whether the host tells the digest after it: no longer, where that was done.
+abbrev pub told_aborted : Bool → State → State → Bool
+told_aborted told (Moving l) (Still m) = false
+told_aborted told k next = told
+
 -- This many items are left, and this many bytes.
 pub record AreTold (items : Left) (stop_bytes status : ℕ) (left : SendLeft) : Type 0 where
   pub status_is : status ≡ done
@@ -182,34 +188,44 @@ LeavesKept k status left old =
     let refused = Refuses status left old in
     OfEachState refused (λ m. refused (mig_status NotBegun)) (λ l. IsLeft l status left) (λ p. refused (mig_status NotBegun)) (λ l. IsLeftLent l status left) k
 
--- The first of the bytes that wait went to the front of the buffer, as many as fit, and no longer wait. The digest is still
--- of the same bytes, and all else is unchanged.
-pub record HasTaken (l : LiveSeen) (status got : ℕ) (buf new_buf : List ℕ) (next : LiveSeen) : Type 0 where
+-- How many of the bytes that wait can be taken: all of them, but for the record that closes the stream where the host has to tell the digest before.
+abbrev pub ready_len : Bool → SinkState → Digested → ℕ
+ready_len false out digest = length out.held
+ready_len true out digest = length out.held - owed_len (is_owed digest)
+
+-- The digest is still of the same bytes. Where the host tells it, it is still owed, or still told.
+abbrev pub IsSameDigest : Bool → Digested → Digested → Type 0
+IsSameDigest false old new = Takes old [] new
+IsSameDigest true old new = new ≡ old
+
+-- The first of the bytes that can be taken went to the front of the buffer, as many as fit, and no longer wait. All else is unchanged. It is by
+-- whether the host tells the digest.
+pub record HasTaken (told : Bool) (l : LiveSeen) (status got : ℕ) (buf new_buf : List ℕ) (next : LiveSeen) : Type 0 where
   pub status_is : status ≡ done
-  pub count : got ≡ min (length buf) (length l.out.held)
+  pub count : got ≡ min (length buf) (ready_len told l.out l.digest)
   pub bytes : new_buf ≡ take got l.out.held ++ drop got buf
   pub rest : next ≡ record l { out = over_writer (Some (drop got l.out.held)) 0 false; digest = next.digest }
-  pub digest : Takes l.digest [] next.digest
+  pub digest : IsSameDigest told l.digest next.digest
 
 -- As above, while its RAM is lent: what waits is no part of RAM.
-pub record HasTakenLent (l : LiveParkedSeen) (status got : ℕ) (buf new_buf : List ℕ) (next : LiveParkedSeen) : Type 0 where
+pub record HasTakenLent (told : Bool) (l : LiveParkedSeen) (status got : ℕ) (buf new_buf : List ℕ) (next : LiveParkedSeen) : Type 0 where
   pub status_is : status ≡ done
-  pub count : got ≡ min (length buf) (length l.out.held)
+  pub count : got ≡ min (length buf) (ready_len told l.out l.digest)
   pub bytes : new_buf ≡ take got l.out.held ++ drop got buf
   pub rest : next ≡ record l { out = over_writer (Some (drop got l.out.held)) 0 false; digest = next.digest }
-  pub digest : Takes l.digest [] next.digest
+  pub digest : IsSameDigest told l.digest next.digest
 
-abbrev pub TakesLent : LoanSeen → ℕ → ℕ → ℕ → List ℕ → List ℕ → LoanSeen → Type 0
-TakesLent (StillLent p) status got old_got buf new_buf (StillLent next) = RefusesBoth status got old_got new_buf buf (mig_status NotBegun) × (next ≡ p)
-TakesLent (MovingLent l) status got old_got buf new_buf (MovingLent next) = HasTakenLent l status got buf new_buf next
-TakesLent _ status got old_got buf new_buf _ = ⊥
+abbrev pub TakesLent : Bool → LoanSeen → ℕ → ℕ → ℕ → List ℕ → List ℕ → LoanSeen → Type 0
+TakesLent told (StillLent p) status got old_got buf new_buf (StillLent next) = RefusesBoth status got old_got new_buf buf (mig_status NotBegun) × (next ≡ p)
+TakesLent told (MovingLent l) status got old_got buf new_buf (MovingLent next) = HasTakenLent told l status got buf new_buf next
+TakesLent told _ status got old_got buf new_buf _ = ⊥
 
-abbrev pub TakesKept : State → ℕ → ℕ → ℕ → List ℕ → List ℕ → State → Type 0
-TakesKept (Still m) status got old_got buf new_buf (Still next) = RefusesBoth status got old_got new_buf buf (mig_status NotBegun) × (next ≡ m)
-TakesKept (Moving l) status got old_got buf new_buf (Moving next) = HasTaken l status got buf new_buf next
-TakesKept (Arriving r) status got old_got buf new_buf (Arriving next) = RefusesBoth status got old_got new_buf buf no_machine × (next ≡ r)
-TakesKept (Lent x) status got old_got buf new_buf (Lent next) = TakesLent x status got old_got buf new_buf next
-TakesKept _ status got old_got buf new_buf _ = ⊥
+abbrev pub TakesKept : Bool → State → ℕ → ℕ → ℕ → List ℕ → List ℕ → State → Type 0
+TakesKept told (Still m) status got old_got buf new_buf (Still next) = RefusesBoth status got old_got new_buf buf (mig_status NotBegun) × (next ≡ m)
+TakesKept told (Moving l) status got old_got buf new_buf (Moving next) = HasTaken told l status got buf new_buf next
+TakesKept told (Arriving r) status got old_got buf new_buf (Arriving next) = RefusesBoth status got old_got new_buf buf no_machine × (next ≡ r)
+TakesKept told (Lent x) status got old_got buf new_buf (Lent next) = TakesLent told x status got old_got buf new_buf next
+TakesKept told _ status got old_got buf new_buf _ = ⊥
 
 -- The migration of the machine of a handle begins.
 abbrev pub Begun : Option KeptSeen → ℕ → Option KeptSeen → Type 0
@@ -229,7 +245,7 @@ HasBeenStopped k status pages old_pages sectors old_sectors after = OnHandle (Re
 
 -- Its migration is aborted.
 abbrev pub Aborted : Option KeptSeen → ℕ → Option KeptSeen → Type 0
-Aborted k status after = OnHandle (λ reason. status ≡ reason) (λ old next. AbortsKept old.state status next) k after
+Aborted k status after = OnToldHandle (λ reason. status ≡ reason) (λ old next. told_aborted old.told old.state next) (λ old next. AbortsKept old.state status next) k after
 
 -- What of it is still to be sent.
 abbrev pub Leaves : Option KeptSeen → ℕ → SendLeft → SendLeft → Type 0
@@ -237,4 +253,4 @@ Leaves k status left old = OfHandle (Refuses status left old) (λ state. LeavesK
 
 -- C takes some of the bytes that wait.
 abbrev pub Taken : Option KeptSeen → ℕ → ℕ → ℕ → List ℕ → List ℕ → Option KeptSeen → Type 0
-Taken k status got old_got buf new_buf after = OnHandle (RefusesBoth status got old_got new_buf buf) (λ old next. TakesKept old.state status got old_got buf new_buf next) k after
+Taken k status got old_got buf new_buf after = OnHandle (RefusesBoth status got old_got new_buf buf) (λ old next. TakesKept old.told old.state status got old_got buf new_buf next) k after

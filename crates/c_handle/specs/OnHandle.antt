@@ -63,6 +63,16 @@ abbrev pub OnHandle : (ℕ → Type 0) → (KeptSeen → State → Type 0) → O
 OnHandle refused does None after = refused no_machine × (after ≡ None)
 OnHandle refused does (Some k) after = OnKept does k after
 
+-- As above, for a call that begins a migration or ends one: by whether it was told before it is said whether the host tells the digest after it.
+pub record OnTold (told : KeptSeen → State → Bool) (does : KeptSeen → State → Type 0) (k : KeptSeen) (after : Option KeptSeen) : Type 0 where
+  pub next : State
+  pub is_next : after ≡ Some (record k { state = next; told = told k next })
+  pub done : does k next
+
+abbrev pub OnToldHandle : (ℕ → Type 0) → (KeptSeen → State → Bool) → (KeptSeen → State → Type 0) → Option KeptSeen → Option KeptSeen → Type 0
+OnToldHandle refused told does None after = refused no_machine × (after ≡ None)
+OnToldHandle refused told does (Some k) after = OnTold told does k after
+
 -- As above, for a call that may write into RAM: the log of written pages is told of what it writes, where there is one.
 pub record OnLogged (does : KeptSeen → State → Option (List Bool) → Type 0) (k : KeptSeen) (after : Option KeptSeen) : Type 0 where
   pub next : State

@@ -24,13 +24,10 @@ use c_machine::{asks_large, limits_for};
 use guestmem::{PAGE_SIZE, PAGES_MAX};
 use machine::{DEVICES_MAX, Disk, Machine, MemDisk, PageLog};
 use mapped_disk::MappedDisk;
-use sender::LiveWaiting;
+use sender::{LiveTold, LiveWaiting};
 use std::alloc::Global;
 use std::marker::Model;
 use std::mem;
-
-/// A machine that is being migrated, and the bytes written for it and not taken yet.
-pub(crate) type Moving<D> = LiveWaiting<D>;
 
 /// A machine over disks of one type, in its state.
 #[derive(Drop)]
@@ -39,7 +36,10 @@ pub enum Contents<D: Disk> {
     Still(Machine<D>),
 
     /// It is being migrated while it runs. The bytes written for it wait until C takes them.
-    Moving(Moving<D>),
+    Moving(LiveWaiting<D>),
+
+    /// It is being migrated too, and its host tells the digest of what it takes: the library digests nothing.
+    Told(LiveTold<D>),
 
     /// Its RAM is lent to the caller.
     Lent(Loan<D>),
@@ -106,6 +106,7 @@ macro_rules! by_state {
             lent(loan) => match loan {
                 $crate::loan::Loan::Still($parked) => $still_lent,
                 $crate::loan::Loan::Moving($live_parked) => $moving_lent,
+                $crate::loan::Loan::Told($live_parked) => $moving_lent,
             },
             arriving($arrival) => $arriving,
         )
@@ -120,9 +121,26 @@ macro_rules! by_state {
         lent($loan:pat) => $lent:expr,
         arriving($arrival:pat) => $arriving:expr $(,)?
     ) => {
+        $crate::kept::by_state!($held;
+            still($machine) => $still,
+            moving($live) => $moving,
+            told($live) => $moving,
+            lent($loan) => $lent,
+            arriving($arrival) => $arriving,
+        )
+    };
+    (
+        $held:expr;
+        still($machine:pat) => $still:expr,
+        moving($live:pat) => $moving:expr,
+        told($live_told:pat) => $told:expr,
+        lent($loan:pat) => $lent:expr,
+        arriving($arrival:pat) => $arriving:expr $(,)?
+    ) => {
         $crate::kept::on_disks!($held;
             contents => match contents {
                 $crate::kept::Contents::Lent($loan) => $lent,
+                $crate::kept::Contents::Told($live_told) => $told,
                 $crate::kept::Contents::Moving($live) => $moving,
                 $crate::kept::Contents::Still($machine) => $still,
             },

@@ -12,13 +12,13 @@ ghost use Rattle.guestmem.specs.Memory.{IsMemory};
 ghost use Rattle.machine.specs.Parked.{IsParked};
 ghost use Rattle.guestmem.specs.declared.limits.TheConstants.{PAGE_SIZE, PAGES_GREATEST};
 ghost use Rattle.region.specs.Slot.{region_of};
-ghost use Rattle.c_handle.specs.Kept.{are_mapped, held_state, loan_of, parked_in, ram_in, state_in};
+ghost use Rattle.c_handle.specs.Kept.{are_mapped, are_told, held_state, loan_of, loan_told, parked_in, ram_in, state_in, told_in};
 ghost use Rattle.c_handle.specs.declared.kept.Contents.TheVariants as contents;
 ghost use Rattle.c_handle.specs.Lent.{ComesBack, HasComeBack, IsBackWith, IsLiveLoan, IsReturnable, LendsIfOver, LendsKept, back_refusal_of, lend_refusal_in, lend_refusal_of, lent_pages, return_refusal_of};
 ghost use Rattle.c_machine.specs.Named.{are_pages};
 
-use crate::kept::{Contents, Held, Kept, Moving, by_state, turned};
-use crate::loan::{Loan, MovingLent};
+use crate::kept::{Contents, Held, Kept, by_state, turned};
+use crate::loan::Loan;
 use crate::migrating::taken_out;
 use crate::mirror::has_stopped;
 use c_machine::status::{
@@ -28,8 +28,10 @@ use c_machine::{Pages, put_back, taken_ram};
 use guestmem::{NoLog, PAGE_SIZE};
 use machine::{Disk, Machine, Parked};
 use region::{Region, Slot};
+use sender::{LiveOver, LiveParked};
 use std::alloc::Global;
 use std::mem;
+use wire::Digesting;
 
 /// Lends the RAM of a machine: it goes into the slot, which has to be free. It takes no memory.
 #[tactic(auto, using(crate::proofs::SamePages::same_ram))]
@@ -77,6 +79,7 @@ fn lent(old: Held, ram: &mut Slot) -> (Held, u32)
     ensures lends { LendsIfOver (held_state old) ram.old result.1 ram.new (held_state result.0) }
     ensures ram { (places : ℕ) → ram_in places (held_state result.0) ≡ ram_in places (held_state old) }
     ensures kind { are_mapped result.0 ≡ are_mapped old }
+    ensures told { are_told result.0 ≡ are_told old }
 {
     turned!(old; contents => lent_in(contents, ram))
 }
@@ -86,6 +89,7 @@ fn lent_in<D: Disk>(old: Contents<D>, ram: &mut Slot) -> (Contents<D>, u32)
     requires { lend_refusal_of (state_in old) (length ram.old.content) ≡ None }
     ensures lends { LendsIfOver (state_in old) ram.old result.1 ram.new (state_in result.0) }
     ensures ram { (places : ℕ) → ram_in places (state_in result.0) ≡ ram_in places (state_in old) }
+    ensures told { told_in result.0 ≡ told_in old }
 {
     match old {
         Contents::Still(machine) => match lent_still(machine) {
@@ -95,6 +99,10 @@ fn lent_in<D: Disk>(old: Contents<D>, ram: &mut Slot) -> (Contents<D>, u32)
         Contents::Moving(live) => match lent_live(live) {
             Ok((region, live)) => (lent_as(Loan::Moving(live), region, ram), DONE),
             Err(live) => (Contents::Moving(live), NOT_YOURS),
+        },
+        Contents::Told(live) => match lent_live(live) {
+            Ok((region, live)) => (lent_as(Loan::Told(live), region, ram), DONE),
+            Err(live) => (Contents::Told(live), NOT_YOURS),
         },
         Contents::Lent(loan) => (Contents::Lent(loan), LENT),
     }
@@ -112,7 +120,7 @@ fn lent_still<D: Disk>(machine: Machine<D>) -> Result<(Region, Parked<D>), Machi
 }
 
 /// Lends the RAM of a machine that is being migrated.
-fn lent_live<D: Disk>(live: Moving<D>) -> Result<(Region, MovingLent<D>), Moving<D>>
+fn lent_live<D: Disk, W: Digesting>(live: LiveOver<D, W>) -> Result<(Region, LiveParked<D, W>), LiveOver<D, W>>
     ensures lent { IfOk result (λ r. IsLiveLoan live r.0 r.1) }
     ensures own { IfErr result (λ l. live.machine.memory.place ≡ None) }
     ensures same { IfErr result (λ l. l ≡ live) }
@@ -215,6 +223,7 @@ fn back(old: Held, ram: &mut Slot, pages: &[u32]) -> Held
     requires { IsReturnable (held_state old) (length ram.old.content) pages.now }
     ensures back { HasComeBack (held_state old) ram.old pages.now 0 ram.new (held_state result) }
     ensures kind { are_mapped result ≡ are_mapped old }
+    ensures told { are_told result ≡ are_told old }
 {
     match old {
         Held::Own(contents) => Held::Own(back_in(contents, ram, pages)),
@@ -225,7 +234,8 @@ fn back(old: Held, ram: &mut Slot, pages: &[u32]) -> Held
 
 fn back_in<D: Disk>(old: Contents<D>, ram: &mut Slot, pages: &[u32]) -> Contents<D>
     requires { IsReturnable (state_in old) (length ram.old.content) pages.now }
-    ensures { HasComeBack (state_in old) ram.old pages.now 0 ram.new (state_in result) }
+    ensures back { HasComeBack (state_in old) ram.old pages.now 0 ram.new (state_in result) }
+    ensures told { told_in result ≡ told_in old }
 {
     match old {
         Contents::Lent(loan) => back_from(loan, taken_ram(ram), pages),
@@ -236,10 +246,12 @@ fn back_in<D: Disk>(old: Contents<D>, ram: &mut Slot, pages: &[u32]) -> Contents
 fn back_from<D: Disk>(loan: Loan<D>, region: Region, pages: &[u32]) -> Contents<D>
     requires size { length region.content ≡ PAGE_SIZE * length (parked_in (loan_of loan)).versions }
     requires below { are_pages (length (parked_in (loan_of loan)).versions) pages.now ≡ true }
-    ensures { IsBackWith (loan_of loan) region pages.now (state_in result) }
+    ensures back { IsBackWith (loan_of loan) region pages.now (state_in result) }
+    ensures told { told_in result ≡ loan_told loan }
 {
     match loan {
         Loan::Still(parked) => Contents::Still(parked.give_back(region, pages, &mut NoLog)),
         Loan::Moving(live) => Contents::Moving(live.give_back(region, pages)),
+        Loan::Told(live) => Contents::Told(live.give_back(region, pages)),
     }
 }

@@ -99,7 +99,9 @@ pub use kept::{Held, Kept};
 pub use late::mark;
 pub use lending::{give_back, lend};
 pub use listing::list_calls;
-pub use migrating::{SendLeft, abort, begin, left, send_round, send_some, stop, take};
+pub use migrating::{
+    SendLeft, abort, begin, begin_as, left, send_round, send_some, stop, take, tell,
+};
 pub use mirror::{pull, push};
 pub use moving::save_kept;
 pub use outside::{Call, answer_done, answer_failed, hand_call};

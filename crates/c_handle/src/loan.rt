@@ -6,10 +6,7 @@
 use c_machine::status::{DONE, NOT_SENDING};
 use machine::{Disk, Parked};
 use sender::{LiveParked, Phase};
-use wire::Waiting;
-
-/// A machine that is being migrated, whose RAM is lent.
-pub(crate) type MovingLent<D> = LiveParked<D, Waiting>;
+use wire::{Told, Waiting};
 
 /// All of a machine but its RAM, which is lent.
 #[derive(Drop)]
@@ -18,12 +15,15 @@ pub enum Loan<D: Disk> {
     Still(Parked<D>),
 
     /// It is being migrated.
-    Moving(MovingLent<D>),
+    Moving(LiveParked<D, Waiting>),
+
+    /// It is being migrated, and its host tells the digest.
+    Told(LiveParked<D, Told>),
 }
 
 impl<D: Disk> Loan<D> {
     ghost use Rattle.std.specs.Prelude.{◌≡◌};
-    ghost use Rattle.c_handle.specs.Kept.{loan_of, parked_in};
+    ghost use Rattle.c_handle.specs.Kept.{loan_of, loan_told, parked_in};
     ghost use Rattle.c_handle.specs.Described.{loan_phase};
     ghost use Rattle.c_handle.specs.Migrated.{TakesLent};
 
@@ -34,6 +34,7 @@ impl<D: Disk> Loan<D> {
         match self {
             Loan::Still(parked) => parked,
             Loan::Moving(live) => live.parked(),
+            Loan::Told(live) => live.parked(),
         }
     }
 
@@ -44,16 +45,22 @@ impl<D: Disk> Loan<D> {
         match self {
             Loan::Still(_) => None,
             Loan::Moving(live) => Some(live.phase()),
+            Loan::Told(live) => Some(live.phase()),
         }
     }
 
     /// Takes the first of the bytes that wait into the front of the buffer, if the machine is being migrated.
     pub(crate) fn take(&mut self, buf: &mut [u8], got: &mut usize) -> u32
-        ensures { TakesLent (loan_of self.old) result got.new got.old buf.old buf.new (loan_of self.new) }
+        ensures takes { TakesLent (loan_told self.old) (loan_of self.old) result got.new got.old buf.old buf.new (loan_of self.new) }
+        ensures kind { loan_told self.new ≡ loan_told self.old }
     {
         match self {
             Loan::Still(_) => NOT_SENDING,
             Loan::Moving(live) => {
+                *got = live.take(buf);
+                DONE
+            }
+            Loan::Told(live) => {
                 *got = live.take(buf);
                 DONE
             }

@@ -18,12 +18,12 @@ ghost use Rattle.sender.specs.LiveState.{now};
 ghost use Rattle.sender.specs.Logged.{ServesLogged};
 ghost use Rattle.c_handle.specs.Kept.{FitsLog, first_log};
 
-use crate::kept::Moving;
 use c_machine::asks_log;
 use guestmem::NoMemory;
 use machine::{Disk, Machine, PageLog, Refusal, Reply, Stepped};
-use sender::MigError;
+use sender::{LiveOver, MigError};
 use std::alloc::Global;
+use wire::Digesting;
 
 /// What steps give out: the bytes of the last message that was sent, and the pages that were written.
 #[derive(Drop)]
@@ -80,8 +80,8 @@ pub(crate) fn stepped<D: Disk>(
 }
 
 /// As above, for a machine that is being migrated.
-pub(crate) fn live_stepped<D: Disk>(
-    live: &mut Moving<D>,
+pub(crate) fn live_stepped<D: Disk, W: Digesting>(
+    live: &mut LiveOver<D, W>,
     dev: u8,
     pick: u8,
     output: &mut Output,
@@ -136,8 +136,8 @@ pub(crate) fn gave<D: Disk>(
 }
 
 /// As above, for a machine that is being migrated.
-pub(crate) fn live_gave<D: Disk>(
-    live: &mut Moving<D>,
+pub(crate) fn live_gave<D: Disk, W: Digesting>(
+    live: &mut LiveOver<D, W>,
     dev: u8,
     pick: u8,
     bytes: &[u8],
@@ -155,8 +155,8 @@ pub(crate) fn live_gave<D: Disk>(
 }
 
 /// As `written`, for a machine that is being migrated.
-pub(crate) fn live_written<D: Disk>(
-    live: &mut Moving<D>,
+pub(crate) fn live_written<D: Disk, W: Digesting>(
+    live: &mut LiveOver<D, W>,
     addr: u64,
     bytes: &[u8],
     log: &mut Option<PageLog>,

@@ -1,25 +1,32 @@
 //! The calls of a migration, applied to the contents of a handle.
 
-ghost use Rattle.std.specs.Prelude.{◌≡◌, IfErr, IfOk, [], drop, take};
+ghost use Rattle.std.specs.Prelude.{◌≡◌, IfErr, IfOk, Some, [], drop, false, take, true};
+ghost use Rattle.dirtylog.specs.Members.{HasNone};
 ghost use Rattle.disk_calls.specs.Calls.{is_any_out};
+ghost use Rattle.sender.specs.LiveState.{HasPlaces};
 ghost use Rattle.sender.specs.StopBytes.{IsStopBytes, IsStopBytesLent};
+ghost use Rattle.wire.specs.Sinks.{Covers, over_writer};
+ghost use Rattle.wire.specs.Telling.{is_owed};
+ghost use Rattle.c_handle.specs.Digest.{BeginsAs, TellsIf, TellsKept, told_begun};
 ghost use Rattle.c_handle.specs.Mirror.{is_closed};
-ghost use Rattle.c_handle.specs.Migrated.{AbortsKept, AreTold, BeginsKept, EndsKept, HasBegun, HasEnded, HasStopped, HasTaken, IsAnswered, IsLeft, IsLeftLent, IsMostByStop, LeavesKept, SendsKept, SendsSome, SendsUpTo, StopsKept, StopsUnless, TakesKept, send_refusal};
-ghost use Rattle.c_handle.specs.Kept.{are_mapped, held_state, state_in};
+ghost use Rattle.c_handle.specs.Migrated.{AbortsKept, AreTold, BeginsKept, EndsKept, HasBegun, HasEnded, HasStopped, HasTaken, IsAnswered, IsLeft, IsLeftLent, IsMostByStop, LeavesKept, SendsKept, SendsSome, SendsUpTo, StopsKept, StopsUnless, TakesKept, send_refusal, told_aborted};
+ghost use Rattle.c_handle.specs.Kept.{are_mapped, are_told, held_state, state_in, told_in};
+ghost use Rattle.c_handle.specs.Kept as states;
 
 use crate::arrival::Arrival;
-use crate::kept::{Contents, Held, Kept, Moving, by_state, turned};
-use crate::loan::MovingLent;
+use crate::kept::{Contents, Held, Kept, by_state, turned};
 use crate::mirror::has_stopped;
 use crate::status::mig_status;
+use c_machine::TOLD;
 use c_machine::status::{
-    CALLS_OUT, DONE, LENT, NO_MEMORY, NOT_SENDING, ROUND_DONE, ROUND_OPEN, SEND_FAILED, STOPPED,
+    CALLS_OUT, DONE, LENT, NO_MACHINE, NO_MEMORY, NOT_ASKED, NOT_KNOWN, NOT_SENDING, ROUND_DONE,
+    ROUND_OPEN, SEND_FAILED, STOPPED,
 };
 use machine::{Disk, Machine};
-use sender::{End, Left, LiveWaiting, Phase, Stopped};
+use sender::{End, Left, LiveOver, LiveParked, LiveTold, LiveWaiting, Phase, Stopped};
 use std::alloc::Global;
 use std::mem;
-use wire::Waiting;
+use wire::{Digesting, Waiting};
 
 /// What is still to be sent.
 #[derive(Clone, Copy)]
@@ -45,12 +52,21 @@ pub struct SendLeft {
 }
 
 /// Begins the migration of a machine that is not being migrated.
-#[tactic(auto, using(crate::proofs::SamePages::begun))]
 pub fn begin(alloc: Global, kept: &mut Kept) -> u32
     ensures begins { BeginsKept kept.old.state result kept.new.state }
     ensures kind { kept.new ≡ record kept.old { state = kept.new.state } }
 {
-    let (next, status) = begun(alloc, taken_out(&mut kept.held));
+    begin_as(alloc, kept, 0)
+}
+
+/// As `begin`, by flags: `TOLD`, where the host tells the digest, or none.
+#[tactic(auto, using(crate::proofs::SamePages::begun))]
+pub fn begin_as(alloc: Global, kept: &mut Kept, flags: u32) -> u32
+    ensures begins { BeginsAs flags kept.old.state result kept.new.state }
+    ensures kind { kept.new ≡ record kept.old { state = kept.new.state; told = told_begun flags kept.old.told kept.old.state kept.new.state } }
+    ensures plain { flags ≡ 0 → kept.new.told ≡ kept.old.told }
+{
+    let (next, status) = begun(alloc, flags, taken_out(&mut kept.held));
     drop(mem::replace(&mut kept.held, next));
     status
 }
@@ -62,51 +78,98 @@ pub(crate) fn taken_out(held: &mut Held) -> Held
     mem::replace(held, Held::Arriving(Arrival::failed()))
 }
 
-fn begun(alloc: Global, old: Held) -> (Held, u32)
-    ensures begins { BeginsKept (held_state old) result.1 (held_state result.0) }
+fn begun(alloc: Global, flags: u32, old: Held) -> (Held, u32)
+    ensures begins { BeginsAs flags (held_state old) result.1 (held_state result.0) }
     ensures kind { are_mapped result.0 ≡ are_mapped old }
+    ensures told { are_told result.0 ≡ told_begun flags (are_told old) (held_state old) (held_state result.0) }
 {
-    turned!(old; contents => begun_in(alloc, contents))
+    turned!(old; contents => begun_in(alloc, flags, contents))
 }
 
-fn begun_in<D: Disk>(alloc: Global, old: Contents<D>) -> (Contents<D>, u32)
-    ensures { BeginsKept (state_in old) result.1 (state_in result.0) }
+fn begun_in<D: Disk>(alloc: Global, flags: u32, old: Contents<D>) -> (Contents<D>, u32)
+    ensures begins { BeginsAs flags (state_in old) result.1 (state_in result.0) }
+    ensures told { told_in result.0 ≡ told_begun flags (told_in old) (state_in old) (state_in result.0) }
 {
     match old {
-        Contents::Still(machine) => match begun_of(alloc, machine) {
-            Ok(live) => (Contents::Moving(live), DONE),
-            Err(machine) => (Contents::Still(machine), NO_MEMORY),
-        },
+        Contents::Still(machine) => begun_as(alloc, flags, machine),
         Contents::Moving(live) => {
             let (live, status) = begun_again(live);
             (Contents::Moving(live), status)
+        }
+        Contents::Told(live) => {
+            let (live, status) = begun_again(live);
+            (Contents::Told(live), status)
         }
         Contents::Lent(loan) => (Contents::Lent(loan), LENT),
     }
 }
 
+/// Begins the migration of a machine, if its flags are known.
+fn begun_as<D: Disk>(alloc: Global, flags: u32, machine: Machine<D>) -> (Contents<D>, u32)
+    ensures begins { BeginsAs flags (states.Still machine) result.1 (state_in result.0) }
+    ensures told { told_in result.0 ≡ told_begun flags false (states.Still machine) (state_in result.0) }
+{
+    if flags == TOLD {
+        return match begun_told(alloc, machine) {
+            Ok(live) => (Contents::Told(live), DONE),
+            Err(machine) => (Contents::Still(machine), NO_MEMORY),
+        };
+    }
+    if flags != 0 {
+        return (Contents::Still(machine), NOT_KNOWN);
+    }
+    match begun_of(alloc, machine) {
+        Ok(live) => (Contents::Moving(live), DONE),
+        Err(machine) => (Contents::Still(machine), NO_MEMORY),
+    }
+}
+
 /// Begins the migration of a machine. If memory is refused, gives the machine back as it was.
-#[tactic(auto, using(crate::proofs::Migration::not_begun))]
-fn begun_of<D: Disk>(alloc: Global, machine: Machine<D>) -> Result<Moving<D>, Machine<D>>
+fn begun_of<D: Disk>(alloc: Global, machine: Machine<D>) -> Result<LiveWaiting<D>, Machine<D>>
     ensures begun { IfOk result (λ live. HasBegun machine 0 live) }
     ensures same { IfErr result (λ left. left ≡ machine) }
 {
     match LiveWaiting::new(alloc, machine, Waiting::new(alloc)) {
-        Ok(live) => {
-            let mut live = live;
-            live.recall();
-            match live.begin() {
-                Ok(_) => Ok(live),
-                Err(_) => Err(live.abort()),
-            }
-        }
+        Ok(live) => first_begun(live),
         Err((_, machine, _waiting)) => Err(machine),
+    }
+}
+
+/// As above, of one whose host tells the digest.
+fn begun_told<D: Disk>(alloc: Global, machine: Machine<D>) -> Result<LiveTold<D>, Machine<D>>
+    ensures begun { IfOk result (λ live. HasBegun machine 0 live) }
+    ensures same { IfErr result (λ left. left ≡ machine) }
+{
+    match LiveTold::new(alloc, machine) {
+        Ok(live) => first_begun(live),
+        Err((_, machine)) => Err(machine),
+    }
+}
+
+/// The first call of a migration.
+#[tactic(auto, using(crate::proofs::Migration::not_begun))]
+fn first_begun<D: Disk, W: Digesting + Drop>(
+    live: LiveOver<D, W>,
+) -> Result<LiveOver<D, W>, Machine<D>>
+    requires fresh { live.phase ≡ Phase.Fresh }
+    requires empty { HasNone live.due × HasNone live.dirty }
+    requires digest { Covers live.digest [] }
+    requires places { HasPlaces live }
+    requires out { live.out ≡ over_writer (Some []) 0 false }
+    ensures begun { IfOk result (λ l. HasBegun live.machine 0 l) }
+    ensures same { IfErr result (λ left. left ≡ live.machine) }
+{
+    let mut live = live;
+    live.recall();
+    match live.begin() {
+        Ok(_) => Ok(live),
+        Err(_) => Err(live.abort()),
     }
 }
 
 /// A call to begin for a machine that is already being migrated.
 #[tactic(auto, using(crate::proofs::Migration::begun_again))]
-fn begun_again<D: Disk>(live: Moving<D>) -> (Moving<D>, u32)
+fn begun_again<D: Disk, W: Digesting>(live: LiveOver<D, W>) -> (LiveOver<D, W>, u32)
     ensures { IsAnswered live result.1 result.0 }
 {
     let mut live = live;
@@ -131,7 +194,7 @@ pub fn send_some(kept: &mut Kept, most: u32) -> u32
 
 /// Sends the least due item, at most `most` times, while there is one.
 #[tactic(auto, using(crate::proofs::Migration::some_refused, crate::proofs::Migration::some_sent))]
-fn some_status<D: Disk>(live: &mut Moving<D>, most: u32) -> u32
+fn some_status<D: Disk, W: Digesting>(live: &mut LiveOver<D, W>, most: u32) -> u32
     ensures { SendsSome live.old most result live.new }
 {
     if let Some(status) = send_refusal(live.phase()) {
@@ -141,7 +204,7 @@ fn some_status<D: Disk>(live: &mut Moving<D>, most: u32) -> u32
 }
 
 #[tactic(auto, using(crate::proofs::Migration::none_left, crate::proofs::Migration::one_sent, crate::proofs::Migration::one_refused, crate::proofs::Migration::all_sent, crate::proofs::Migration::none_at_end))]
-fn send_up_to<D: Disk>(live: &mut Moving<D>, most: u32) -> u32
+fn send_up_to<D: Disk, W: Digesting>(live: &mut LiveOver<D, W>, most: u32) -> u32
     ensures { SendsUpTo most live.old result live.new }
 {
     let mut left = most;
@@ -186,7 +249,7 @@ pub fn send_round(kept: &mut Kept) -> u32
 }
 
 #[tactic(auto, using(crate::proofs::Migration::ended))]
-fn round_status<D: Disk>(live: &mut Moving<D>) -> u32
+fn round_status<D: Disk, W: Digesting>(live: &mut LiveOver<D, W>) -> u32
     ensures { HasEnded live.old result live.new }
 {
     live.recall();
@@ -211,7 +274,7 @@ pub fn stop(kept: &mut Kept, pages: &mut u64, sectors: &mut u64) -> u32
     )
 }
 
-fn stop_unless<D: Disk>(out: bool, live: &mut Moving<D>, pages: &mut u64, sectors: &mut u64) -> u32
+fn stop_unless<D: Disk, W: Digesting>(out: bool, live: &mut LiveOver<D, W>, pages: &mut u64, sectors: &mut u64) -> u32
     ensures { StopsUnless out live.old result pages.new pages.old sectors.new sectors.old live.new }
 {
     if out {
@@ -221,7 +284,7 @@ fn stop_unless<D: Disk>(out: bool, live: &mut Moving<D>, pages: &mut u64, sector
 }
 
 #[tactic(auto, using(crate::proofs::Migration::stopped))]
-fn stop_status<D: Disk>(live: &mut Moving<D>, pages: &mut u64, sectors: &mut u64) -> u32
+fn stop_status<D: Disk, W: Digesting>(live: &mut LiveOver<D, W>, pages: &mut u64, sectors: &mut u64) -> u32
     ensures { HasStopped live.old result pages.new pages.old sectors.new sectors.old live.new }
 {
     live.recall();
@@ -244,7 +307,7 @@ fn stop_status<D: Disk>(live: &mut Moving<D>, pages: &mut u64, sectors: &mut u64
 #[tactic(auto, using(crate::proofs::SamePages::aborted))]
 pub fn abort(kept: &mut Kept) -> u32
     ensures aborts { AbortsKept kept.old.state result kept.new.state }
-    ensures kind { kept.new ≡ record kept.old { state = kept.new.state } }
+    ensures kind { kept.new ≡ record kept.old { state = kept.new.state; told = told_aborted kept.old.told kept.old.state kept.new.state } }
 {
     let (next, status) = aborted(taken_out(&mut kept.held));
     drop(mem::replace(&mut kept.held, next));
@@ -254,16 +317,19 @@ pub fn abort(kept: &mut Kept) -> u32
 fn aborted(old: Held) -> (Held, u32)
     ensures aborts { AbortsKept (held_state old) result.1 (held_state result.0) }
     ensures kind { are_mapped result.0 ≡ are_mapped old }
+    ensures told { are_told result.0 ≡ told_aborted (are_told old) (held_state old) (held_state result.0) }
 {
     turned!(old; contents => aborted_in(contents))
 }
 
 fn aborted_in<D: Disk>(old: Contents<D>) -> (Contents<D>, u32)
-    ensures { AbortsKept (state_in old) result.1 (state_in result.0) }
+    ensures aborts { AbortsKept (state_in old) result.1 (state_in result.0) }
+    ensures told { told_in result.0 ≡ told_aborted (told_in old) (state_in old) (state_in result.0) }
 {
     match old {
         Contents::Still(machine) => (Contents::Still(machine), NOT_SENDING),
         Contents::Moving(live) => (Contents::Still(live.abort()), DONE),
+        Contents::Told(live) => (Contents::Still(live.abort()), DONE),
         Contents::Lent(loan) => (Contents::Lent(loan), LENT),
     }
 }
@@ -280,7 +346,7 @@ pub fn left(kept: &Kept, left: &mut SendLeft) -> u32
     )
 }
 
-fn tell_left<D: Disk>(live: &Moving<D>, left: &mut SendLeft) -> u32
+fn tell_left<D: Disk, W: Digesting>(live: &LiveOver<D, W>, left: &mut SendLeft) -> u32
     ensures { IsLeft live.now result left.new }
 {
     let items = live.left();
@@ -288,7 +354,7 @@ fn tell_left<D: Disk>(live: &Moving<D>, left: &mut SendLeft) -> u32
 }
 
 /// The most bytes that a stop would still write: none where it was made.
-fn most_by_stop<D: Disk>(live: &Moving<D>) -> u64
+fn most_by_stop<D: Disk, W: Digesting>(live: &LiveOver<D, W>) -> u64
     ensures { IsMostByStop (is_closed live.now.phase) (IsStopBytes live.now) result }
 {
     if has_stopped(live.phase()) {
@@ -297,7 +363,7 @@ fn most_by_stop<D: Disk>(live: &Moving<D>) -> u64
     live.most_by_stop()
 }
 
-fn tell_left_lent<D: Disk>(live: &MovingLent<D>, left: &mut SendLeft) -> u32
+fn tell_left_lent<D: Disk, W: Digesting>(live: &LiveParked<D, W>, left: &mut SendLeft) -> u32
     ensures { IsLeftLent live.now result left.new }
 {
     let items = live.left();
@@ -305,7 +371,7 @@ fn tell_left_lent<D: Disk>(live: &MovingLent<D>, left: &mut SendLeft) -> u32
 }
 
 /// As above, while its RAM is lent.
-fn most_by_stop_lent<D: Disk>(live: &MovingLent<D>) -> u64
+fn most_by_stop_lent<D: Disk, W: Digesting>(live: &LiveParked<D, W>) -> u64
     ensures { IsMostByStop (is_closed live.now.phase) (IsStopBytesLent live.now) result }
 {
     if has_stopped(live.phase()) {
@@ -332,19 +398,53 @@ fn left_status(items: Left, stop_bytes: u64, left: &mut SendLeft) -> u32
 /// Takes the first of the bytes that wait into the front of the buffer.
 #[tactic(auto, using(crate::proofs::Migration::still_takes, crate::proofs::Migration::moving_takes, crate::proofs::SamePages::taken, crate::proofs::SamePages::taken_lent))]
 pub fn take(kept: &mut Kept, buf: &mut [u8], got: &mut usize) -> u32
-    ensures takes { TakesKept kept.old.state result got.new got.old buf.old buf.new kept.new.state }
+    ensures takes { TakesKept kept.old.told kept.old.state result got.new got.old buf.old buf.new kept.new.state }
     ensures kind { kept.new ≡ record kept.old { state = kept.new.state } }
 {
     by_state!(&mut kept.held;
         still(_) => NOT_SENDING,
         moving(live) => take_status(live, buf, got),
+        told(live) => take_told(live, buf, got),
         lent(loan) => loan.take(buf, got),
+        arriving(_) => NO_MACHINE,
     )
 }
 
-fn take_status<D: Disk>(live: &mut Moving<D>, buf: &mut [u8], got: &mut usize) -> u32
-    ensures { HasTaken live.old result got.new buf.old buf.new live.new }
+fn take_status<D: Disk>(live: &mut LiveWaiting<D>, buf: &mut [u8], got: &mut usize) -> u32
+    ensures { HasTaken false live.old result got.new buf.old buf.new live.new }
 {
     *got = live.take(buf);
+    DONE
+}
+
+/// As above, where the host tells the digest.
+fn take_told<D: Disk>(live: &mut LiveTold<D>, buf: &mut [u8], got: &mut usize) -> u32
+    ensures { HasTaken true live.old result got.new buf.old buf.new live.new }
+{
+    *got = live.take(buf);
+    DONE
+}
+
+/// The host tells the digest of all that it took, if the record that closes the stream waits for it. Nobody compares it here.
+pub fn tell(kept: &mut Kept, digest: &[u8; 32]) -> u32
+    ensures tells { TellsKept kept.old.told digest.now kept.old.state result kept.new.state }
+    ensures kind { kept.new ≡ record kept.old { state = kept.new.state } }
+{
+    by_state!(&mut kept.held;
+        still(_) => NOT_SENDING,
+        moving(_) => NOT_ASKED,
+        told(live) => tell_status(live, digest),
+        lent(_) => LENT,
+        arriving(_) => NO_MACHINE,
+    )
+}
+
+fn tell_status<D: Disk>(live: &mut LiveTold<D>, digest: &[u8; 32]) -> u32
+    ensures { TellsIf (is_owed live.old.digest) digest.now live.old result live.new }
+{
+    if !live.owes() {
+        return NOT_ASKED;
+    }
+    live.tell_on_trust(digest);
     DONE
 }

@@ -16,15 +16,16 @@ ghost use Rattle.c_machine.specs.Status.{done};
 ghost use Rattle.c_handle.specs.Kept as states;
 ghost use Rattle.c_handle.specs.Kept.{FitsLog};
 
-use crate::kept::{Kept, Moving, by_state};
+use crate::kept::{Kept, by_state};
 use crate::logging::{live_written, written};
 use c_machine::Pages;
 use c_machine::status::{DONE, LENT, NO_MACHINE, NO_MEMORY, NOT_KNOWN, STOPPED, TOO_SMALL};
 use guestmem::{PAGE_SIZE, Ram};
 use machine::{Disk, Machine, PageLog};
-use sender::Phase;
+use sender::{LiveOver, Phase};
 use std::alloc::Global;
 use std::mem;
+use wire::Digesting;
 
 /// Copies the pages that are named from the caller's RAM into the machine's, one after another.
 #[tactic(auto, using(crate::proofs::PushedPages::pushable_list, crate::proofs::PushedPages::pushable_named, crate::proofs::PushedPages::push_fit, crate::proofs::PushedPages::not_pushed, crate::proofs::PushedPages::pushed_list, crate::proofs::PushedPages::pushed_named, crate::proofs::PushedPages::push_full))]
@@ -186,8 +187,8 @@ fn push_page<D: Disk>(
 }
 
 /// As `push_still`, for a machine that is being migrated.
-fn push_moving<D: Disk>(
-    live: &mut Moving<D>,
+fn push_moving<D: Disk, W: Digesting>(
+    live: &mut LiveOver<D, W>,
     pages: &[u32],
     ram: &[u8],
     seen: &mut [u64],
@@ -206,8 +207,8 @@ fn push_moving<D: Disk>(
 }
 
 #[tactic(auto, using(crate::proofs::PageLogs::may_all))]
-fn push_live_page<D: Disk>(
-    live: &mut Moving<D>,
+fn push_live_page<D: Disk, W: Digesting>(
+    live: &mut LiveOver<D, W>,
     n: u32,
     ram: &[u8],
     seen: &mut [u64],

@@ -19,14 +19,16 @@ ghost use Rattle.c_handle.specs.Resetting.{loan_refusal, state_refusal};
 
 use crate::calls_out::CallsOut;
 use crate::devices::Devices;
-use crate::kept::{Kept, Moving, by_state};
-use crate::loan::{Loan, MovingLent};
+use crate::kept::{Kept, by_state};
+use crate::loan::Loan;
 use crate::logging::{gave, live_gave};
 use crate::resetting::{state_refusal, stop_refusal};
 use blk::{DiskCall, SECTOR_SIZE, What};
 use c_machine::status::{CALL, DONE, IDLE, LENT, NOT_OUT, TOO_LONG, TOO_SMALL};
 use disk_calls::{Handed, Place, counts};
 use machine::{Disk, Machine, OutsideCall, PageLog, Parked};
+use sender::{LiveOver, LiveParked};
+use wire::Digesting;
 
 /// A call of a disk outside: what its host is to do. It names no memory.
 #[derive(Clone, Copy)]
@@ -403,8 +405,8 @@ fn meet_still<D: Disk>(
 }
 
 /// As above, for a machine that is being migrated.
-fn meet_moving<D: Disk>(
-    live: &mut Moving<D>,
+fn meet_moving<D: Disk, W: Digesting>(
+    live: &mut LiveOver<D, W>,
     place: Place,
     asker: Option<usize>,
     given: Given<'_>,
@@ -450,6 +452,10 @@ fn meet_lent<D: Disk>(loan: &mut Loan<D>, place: Place, calls: &CallsOut, given:
             let asker = calls.asker(live.parked(), place);
             meet_live_parked(live, place, asker, given)
         }
+        Loan::Told(live) => {
+            let asker = calls.asker(live.parked(), place);
+            meet_live_parked(live, place, asker, given)
+        }
     }
 }
 
@@ -481,8 +487,8 @@ fn meet_parked<D: Disk>(
 }
 
 /// As above, for a machine that is being migrated.
-fn meet_live_parked<D: Disk>(
-    lent: &mut MovingLent<D>,
+fn meet_live_parked<D: Disk, W: Digesting>(
+    lent: &mut LiveParked<D, W>,
     place: Place,
     asker: Option<usize>,
     given: Given<'_>,

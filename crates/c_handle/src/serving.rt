@@ -10,12 +10,14 @@ ghost use Rattle.c_handle.specs.Told.{IsServedWrite, IsWritten, ReadsKept, Tells
 ghost use Rattle.c_handle.specs.declared.serving.TheConstants.{NO_BYTE};
 
 use crate::dropping::drops_out;
-use crate::kept::{Kept, Moving, by_state};
+use crate::kept::{Kept, by_state};
 use crate::logging;
 use crate::logging::live_written;
 use crate::stepping::reply_status;
 use c_machine::status::{CALLS_OUT, DONE, answer_status, done_status, written_status};
 use machine::{Disk, Machine, PageLog};
+use sender::LiveOver;
+use wire::Digesting;
 
 /// The number of no byte.
 const NO_BYTE: u32 = 256;
@@ -142,8 +144,8 @@ fn write_still<D: Disk>(
 }
 
 #[tactic(auto, using(crate::proofs::PageLogs::may_all, crate::proofs::ByKept::written, crate::proofs::ByKept::few_logged))]
-fn write_moving<D: Disk>(
-    live: &mut Moving<D>,
+fn write_moving<D: Disk, W: Digesting>(
+    live: &mut LiveOver<D, W>,
     addr: u64,
     bytes: &[u8],
     log: &mut Option<PageLog>,

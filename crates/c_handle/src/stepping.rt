@@ -14,7 +14,7 @@ ghost use Rattle.c_handle.specs.Stepped.{LiveSteps, Steps, StepsKept, StepsOwing
 ghost use Rattle.c_handle.specs.Told.{live_number};
 ghost use Rattle.c_machine.specs.Status.{number_of};
 
-use crate::kept::{Kept, Moving, by_state};
+use crate::kept::{Kept, by_state};
 use crate::logging::{Output, live_stepped, stepped};
 use crate::mirror::has_stopped;
 use crate::status::mig_status;
@@ -23,7 +23,8 @@ use blk::SyncOwed;
 use c_machine::SENT_MAX;
 use c_machine::status::{IDLE, STOPPED, TOO_SMALL, status_of, step_status};
 use machine::{Disk, Kind, Machine, Reply, Stepped};
-use sender::MigError;
+use sender::{LiveOver, MigError};
+use wire::Digesting;
 
 /// A device of a handle's machine does one piece of its work, if the buffer holds all that it may send. Where its disk is lost, a flush
 /// fails, and the step that would end a write that the driver then takes for durable is idle.
@@ -54,8 +55,8 @@ fn step_in(kept: &mut Kept, dev: u8, pick: u8, buf: &mut [u8], number: &mut u32)
 
 /// As above, for a machine that is being migrated.
 #[tactic(auto, using(crate::proofs::PageLogs::may_all, crate::proofs::ByKept::live_stepped, crate::proofs::ByKept::live_not_stepped))]
-fn live_step_status<D: Disk>(
-    live: &mut Moving<D>,
+fn live_step_status<D: Disk, W: Digesting>(
+    live: &mut LiveOver<D, W>,
     dev: u8,
     pick: u8,
     output: &mut Output,

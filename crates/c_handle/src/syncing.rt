@@ -17,12 +17,14 @@ ghost use Rattle.c_handle.specs.Durable.{FailsKept, FailsSync, FailsUnless, Lose
 ghost use Rattle.c_handle.specs.Mirror.{is_closed};
 
 use crate::devices::Devices;
-use crate::kept::{Kept, Moving, by_state};
+use crate::kept::{Kept, by_state};
 use crate::mirror::has_stopped;
 use crate::status::mig_status;
 use blk::SyncOwed;
 use c_machine::status::{DISK_FAILED, DONE, IDLE, NO_DEVICE, NO_MACHINE, STOPPED, WRONG_KIND};
 use machine::{Disk, Kind, Machine};
+use sender::LiveOver;
+use wire::Digesting;
 
 /// What a step of the machine of a handle owes and does not get, since the disk is lost.
 pub(crate) fn owed_lost(kept: &Kept, dev: u8, pick: u8) -> SyncOwed
@@ -49,7 +51,7 @@ fn owed<D: Disk>(machine: &Machine<D>, dev: u8, pick: u8) -> SyncOwed
 }
 
 /// As above, for a machine that is being migrated. One that was stopped makes no steps.
-fn owed_live<D: Disk>(live: &Moving<D>, dev: u8, pick: u8) -> SyncOwed
+fn owed_live<D: Disk, W: Digesting>(live: &LiveOver<D, W>, dev: u8, pick: u8) -> SyncOwed
     ensures { result ≡ owed_unless (is_closed live.now.phase) (state_of live.now.machine) dev pick }
 {
     if has_stopped(live.phase()) {
@@ -129,7 +131,7 @@ fn fail_flush<D: Disk>(machine: &mut Machine<D>, dev: u8, pick: u8) -> u32
 
 /// As above, for a machine that is being migrated.
 #[tactic(auto, using(crate::proofs::Failing::live_failed, crate::proofs::Failing::live_not_failed, crate::proofs::Failing::live_refused))]
-fn fail_live_flush<D: Disk>(live: &mut Moving<D>, dev: u8, pick: u8) -> u32
+fn fail_live_flush<D: Disk, W: Digesting>(live: &mut LiveOver<D, W>, dev: u8, pick: u8) -> u32
     ensures { FailsUnless (is_closed live.old.phase) live.old dev pick result live.new }
 {
     live.recall();

@@ -53,6 +53,7 @@ fn disk_count<D: Disk>(contents: &Contents<D>) -> usize
     match contents {
         Contents::Still(machine) => count_disks(machine.shapes()),
         Contents::Moving(live) => count_disks(live.machine().shapes()),
+        Contents::Told(live) => count_disks(live.machine().shapes()),
         Contents::Lent(loan) => count_disks(loan.parked().shapes()),
     }
 }
@@ -125,6 +126,7 @@ fn release_mapped(contents: Contents<MappedDisk>, images: &mut [Image])
     match contents {
         Contents::Still(machine) => hand_back(machine, images),
         Contents::Moving(live) => hand_back(live.abort(), images),
+        Contents::Told(live) => hand_back(live.abort(), images),
         Contents::Lent(_) => unreachable!(),
     }
 }

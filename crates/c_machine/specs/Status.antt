@@ -11,6 +11,7 @@
 --     27         a struct of the caller asks for what this library does not know
 --     28 to 29   no call of a disk outside is out under this number; or one is out that has to be answered before
 --     30         RAM may not begin at its base
+--     31         no digest is asked for
 --     33 to 48   a stream was refused: 32 plus the number of its fault. No more of it is taken: 48 is returned from then on
 --     49         a stream was refused: its machine is larger than the caller allows. As above, 48 is returned from then on
 --     65 to 73   what a step did
@@ -99,6 +100,10 @@ call = 81
 -- RAM may not begin at this address.
 abbrev pub bad_base : ℕ
 bad_base = 30
+
+-- No digest is asked for: it is not the host who tells it, or the stop was not made, or it was told.
+abbrev pub not_asked : ℕ
+not_asked = 31
 
 -- The machine that a stream announces is larger than the caller allows.
 abbrev pub stream_too_large : ℕ

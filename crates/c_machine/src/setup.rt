@@ -41,6 +41,9 @@ pub const LARGE: u32 = 1;
 /// The flag that asks for a log of the pages that calls write.
 pub const LOG: u32 = 2;
 
+/// A flag: the host tells the digest of the stream, and the library digests nothing.
+pub const TOLD: u32 = 4;
+
 /// How a machine is made.
 #[repr(C)]
 pub struct Setup<'a, 'i> {

@@ -61,6 +61,8 @@ pub const CALLS_OUT: u32 = 29;
 
 pub const BAD_BASE: u32 = 30;
 
+pub const NOT_ASKED: u32 = 31;
+
 pub const STREAM_MISMATCH: u32 = 36;
 
 pub const STREAM_FAILED: u32 = 48;

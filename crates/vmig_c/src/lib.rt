@@ -27,6 +27,7 @@ ghost use Rattle.machine.specs.declared.event.Event.TheVariants as events;
 ghost use Rattle.c_handle.specs.Announced.{Announces};
 ghost use Rattle.c_handle.specs.Arriving.{Fed, Finished};
 ghost use Rattle.c_handle.specs.Described.{Describes};
+ghost use Rattle.c_handle.specs.Digest.{BegunAs, HasBeenTold};
 ghost use Rattle.c_handle.specs.Dropping.{WroteReg};
 ghost use Rattle.c_handle.specs.Durable.{Failed};
 ghost use Rattle.c_handle.specs.Expected.{Expects};
@@ -53,10 +54,10 @@ ghost use Rattle.sha2.specs.Sha256.{sha256};
 use c_digest::Digest;
 use c_handle::{
     Call, Handle, SendLeft, Turn, abort, announced, answer_done, answer_failed, arrive, begin,
-    describe, drop_input, feed, finish, give_back, hand_call, hand_out, held_of, input,
+    begin_as, describe, drop_input, feed, finish, give_back, hand_call, hand_out, held_of, input,
     left as left_of, lend, lines, list_calls, lose_kept, make, mark, next, pull, push, read_ram,
     read_register, read_sector, release, release_refusal, reset, resize, room as room_in,
-    save_kept, send_round, send_some, step_kept, stop, take, work, write_ram, write_register,
+    save_kept, send_round, send_some, step_kept, stop, take, tell, work, write_ram, write_register,
 };
 use c_machine::status::{DONE, NO_MACHINE};
 use c_machine::{Description, Expected, Pages, Setup};
@@ -440,6 +441,15 @@ pub extern "C" fn vmig_send_begin(alloc: Global, machine: &mut Handle) -> u32
     on_kept!(machine; alloc, begin())
 }
 
+/// As `vmig_send_begin`, by flags: the host tells the digest, or it does not.
+#[unsafe(no_mangle)]
+#[tactic(auto, using(crate::proofs::OnHandle::told_none, crate::proofs::OnHandle::told_some))]
+pub extern "C" fn vmig_send_begin_as(alloc: Global, machine: &mut Handle, flags: u32) -> u32
+    ensures { BegunAs machine.old.machine flags result machine.new.machine }
+{
+    on_kept!(machine; alloc, begin_as(flags))
+}
+
 /// Sends at most `most` items that are due.
 #[unsafe(no_mangle)]
 #[tactic(auto, using(crate::proofs::OnHandle::on_none, crate::proofs::OnHandle::on_some))]
@@ -469,7 +479,7 @@ pub extern "C" fn vmig_send_stop(machine: &mut Handle, pages: &mut u64, sectors:
 
 /// Ends the sending; the machine stays as it is.
 #[unsafe(no_mangle)]
-#[tactic(auto, using(crate::proofs::OnHandle::on_none, crate::proofs::OnHandle::on_some))]
+#[tactic(auto, using(crate::proofs::OnHandle::told_none, crate::proofs::OnHandle::told_some))]
 pub extern "C" fn vmig_send_abort(machine: &mut Handle) -> u32
     ensures { Aborted machine.old.machine result machine.new.machine }
 {
@@ -483,6 +493,15 @@ pub extern "C" fn vmig_send_take(machine: &mut Handle, buf: &mut [u8], got: &mut
     ensures { Taken machine.old.machine result got.new got.old buf.old buf.new machine.new.machine }
 {
     on_kept!(machine; take(buf, got))
+}
+
+/// The host tells the digest of what it took: that of the record that closes the stream.
+#[unsafe(no_mangle)]
+#[tactic(auto, using(crate::proofs::OnHandle::on_none, crate::proofs::OnHandle::on_some))]
+pub extern "C" fn vmig_send_tell(machine: &mut Handle, digest: &[u8; 32]) -> u32
+    ensures { HasBeenTold machine.old.machine digest.now result machine.new.machine }
+{
+    on_kept!(machine; tell(digest))
 }
 
 /// What is still to be sent. It looks at each page's place in two sets.

@@ -350,6 +350,8 @@ pub struct Left {
 pub const LARGE: u32 = 1;
 /// A flag of a setup and of an arrival: the pages that calls write are logged.
 pub const LOG: u32 = 2;
+/// A flag of `vmig_send_begin_as`: the caller tells the digest of the stream, by `vmig_send_tell`.
+pub const TOLD: u32 = 4;
 
 /// A network device.
 pub const NETWORK: u8 = 1;
@@ -447,6 +449,8 @@ pub const NOT_OUT: u32 = 28;
 pub const CALLS_OUT: u32 = 29;
 /// Not a multiple of 4,096, or RAM would reach past the last address.
 pub const BAD_BASE: u32 = 30;
+/// `send_tell`: no `TOLD`, or before the stop, or told already.
+pub const NOT_ASKED: u32 = 31;
 /// It does not begin with "VMIG".
 pub const STREAM_BAD_MAGIC: u32 = 33;
 /// A stream whose version is neither 1 nor 2.
@@ -604,6 +608,9 @@ unsafe extern "C" {
     /// The machine begins to be sent.
     #[must_use]
     pub fn vmig_send_begin(machine: *mut Machine) -> u32;
+    /// The machine begins to be sent, by flags: `TOLD` or 0.
+    #[must_use]
+    pub fn vmig_send_begin_as(machine: *mut Machine, flags: u32) -> u32;
     /// Copies pages and sectors that are due.
     #[must_use]
     pub fn vmig_send_some(machine: *mut Machine, most: u32) -> u32;
@@ -619,6 +626,9 @@ unsafe extern "C" {
     /// The next bytes of the stream.
     #[must_use]
     pub fn vmig_send_take(machine: *mut Machine, buf: *mut u8, size: usize, got: *mut usize) -> u32;
+    /// Tells the digest of a stream that was begun with `TOLD`, after the stop.
+    #[must_use]
+    pub fn vmig_send_tell(machine: *mut Machine, digest: *const [u8; 32]) -> u32;
     /// What is left to be sent.
     #[must_use]
     pub fn vmig_send_left(machine: *const Machine, left: *mut Left) -> u32;
