@@ -102,8 +102,8 @@
  *     (4) LENT of a read that is out.
  *     (5) As if not lent: see the other columns.
  *
- * A machine is sending from vmig_send_begin or vmig_send_begin_as on, and stopped after vmig_send_stop: its guest is paused then. vmig_send_abort makes
- * it idle again.
+ * A machine is sending from vmig_send_begin or vmig_send_begin_as on, and stopped after vmig_send_stop: its guest is paused then.
+ * vmig_send_abort makes it idle again.
  *
  * STEPS. The work of the devices is made of steps. A step names a device and a `pick`, the number of the piece of work:
  * - a block device: 0 takes the next request (none while 8 are outstanding), and k, from 1 to 8, brings the k-th request that it
