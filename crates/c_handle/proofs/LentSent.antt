@@ -19,9 +19,9 @@ use Rattle.sender.proofs.Behind.{back_is_behind}
 use Rattle.sender.specs.Taking.{untaken}
 use Rattle.sender.proofs.ParkedServed.{live_parked_is_served}
 use Rattle.sender.proofs.StepBeside.{goes_beside}
-use Rattle.wire.specs.Sinks.{Digested, SinkState, Takes, over_writer}
+use Rattle.wire.specs.Sinks.{Digested, SinkState, over_writer}
 use Rattle.c_handle.specs.Lent.{IsLiveLoan}
-use Rattle.c_handle.specs.Migrated.{HasTaken}
+use Rattle.c_handle.specs.Migrated.{HasTaken, IsSameDigest, ready_len}
 use Rattle.c_handle.specs.Mirror.{is_closed}
 use Rattle.c_handle.specs.Sent.{LentCallsStaySent, LentComesBackSent, LentStepsStaySent, LentTakingsStaySent, lent_base}
 use Rattle.c_handle.proofs.Sent.{calls_stay_sent, takings_stay_sent}
@@ -62,21 +62,22 @@ writer_is : (l : LiveSeen) (before : Region) (p : LiveParkedSeen) → IsLivePark
 writer_is l before p h = ap (λ (x : LiveParkedSeen). x.out) h.rest
 
 pub lent_takings_stay_sent : LentTakingsStaySent
-lent_takings_stay_sent m h taken pages buf new_buf status got before p next is quiet took =
+lent_takings_stay_sent told m h taken pages buf new_buf status got before p next is quiet took =
     let l = is.lender in
     let same : p.out ≡ l.out = writer_is l before p is.loan.parked in
+    let digests : p.digest ≡ l.digest = ap (λ (x : LiveParkedSeen). x.digest) is.loan.parked.rest in
     let o : SinkState = over_writer (Some (drop got p.out.held)) 0 false in
     let d : Digested = next.digest in
-    let taking : HasTaken l status got buf new_buf (live_on l o d) = record {
+    let taking : HasTaken told l status got buf new_buf (live_on l o d) = record {
       status_is = took.status_is;
-      count = took.count ∙ ap (λ (w : SinkState). min (length buf) (length w.held)) same;
+      count = took.count ∙ ap (λ (w : SinkState). min (length buf) (ready_len told w p.digest)) same ∙ ap (λ (x : Digested). min (length buf) (ready_len told l.out x)) digests;
       bytes = took.bytes ∙ ap (λ (w : SinkState). take got w.held ++ drop got buf) same;
       rest = ap (λ (w : SinkState). live_on l (over_writer (Some (drop got w.held)) 0 false) d) same;
-      digest = subst (λ (x : Digested). Takes x [] d) (ap (λ (x : LiveParkedSeen). x.digest) is.loan.parked.rest) took.digest;
+      digest = subst (λ (x : Digested). IsSameDigest told x d) digests took.digest;
     } in
     record {
       lender = live_on l o d;
-      is_sent = takings_stay_sent m h taken pages buf new_buf status got l (live_on l o d) is.is_sent quiet taking;
+      is_sent = takings_stay_sent told m h taken pages buf new_buf status got l (live_on l o d) is.is_sent quiet taking;
       loan = subst (λ (x : LiveParkedSeen). IsLiveLoan (live_on l o d) before x) (sym took.rest) (loan_on l before p o d is.loan);
       goes = is.goes;
     }

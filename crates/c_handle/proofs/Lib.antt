@@ -42,6 +42,8 @@ mod SamePages
 mod Sending
 mod Sent
 mod Streams
+mod Telling
+mod ToldSent
 mod ToldStates
 mod TurnSteps
 mod TurnsSent

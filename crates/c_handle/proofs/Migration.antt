@@ -16,7 +16,7 @@ use Rattle.sender.specs.declared.event.LiveReply.TheVariants as live
 use Rattle.sender.specs.declared.mig_error.MigError.{MigError}
 use Rattle.sender.specs.declared.mig_error.MigError.TheVariants as errors
 use Rattle.c_handle.specs.Mirror.{is_closed}
-use Rattle.c_handle.specs.Migrated.{AreCounted, AreTold, GoesOn, IsLeft, IsLeftLent, HasEnded, HasStopped, HasTaken, IsAnswered, IsMostByStop, SendsIf, SendsSome, SendsUpTo, TakesKept, end_status, is_none_due, send_refusal, stopped_pages, stopped_sectors}
+use Rattle.c_handle.specs.Migrated.{AreCounted, AreTold, GoesOn, IsLeft, IsLeftLent, HasEnded, HasStopped, HasTaken, IsAnswered, IsMostByStop, SendsIf, SendsSome, SendsUpTo, TakesKept, TakesLent, end_status, is_none_due, send_refusal, stopped_pages, stopped_sectors}
 use Rattle.c_handle.specs.SendStatus.{live_status, mig_status}
 use Rattle.machine.specs.Layout.{pages_of}
 use Rattle.sender.specs.LiveState.{now}
@@ -24,7 +24,7 @@ use Rattle.sender.specs.Parked.{LiveParkedSeen}
 use Rattle.sender.specs.StopBytes.{IsStopBytes, IsStopBytesLent}
 use Rattle.sender.specs.declared.event.Left.{Left}
 use Rattle.c_handle.specs.declared.migrating.SendLeft.{SendLeft}
-use Rattle.c_handle.specs.Kept.{State, Still, Moving}
+use Rattle.c_handle.specs.Kept.{LoanSeen, State, Still, Moving, Lent}
 
 same_machine : (o : Option MigError) (l next : LiveSeen) (error : MigError) → MatchOption o (Does l events.Begin (live.Mig error) next) (λ x. (live.Mig error ≡ live.Mig x) × (next ≡ l)) → CallsNone l.machine next.machine → next.machine ≡ l.machine
 same_machine None l next errors.StreamFailed after none = uncalled_is_same l.machine next.machine after.machine none
@@ -48,11 +48,16 @@ pub stopped : (l next : LiveSeen) (reply : LiveReply) (status pages old_pages se
     → HasStopped l status pages old_pages sectors old_sectors next
 stopped l next reply status pages old_pages sectors old_sectors places serves told p s = record { reply = reply; places = places; serves = serves; status_is = told; pages_are = p; sectors_are = s }
 
-pub still_takes : (k : State) (m : Seen) (got : ℕ) (buf : List ℕ) → k ≡ Still m → TakesKept k 17 got got buf buf (Still m)
-still_takes k m got buf is = subst (λ (x : State). TakesKept x 17 got got buf buf (Still m)) (sym is) ((refl, refl, refl), refl)
+pub still_takes : (told : Bool) (k : State) (m : Seen) (got : ℕ) (buf : List ℕ) → k ≡ Still m → TakesKept told k 17 got got buf buf (Still m)
+still_takes told k m got buf is = subst (λ (x : State). TakesKept told x 17 got got buf buf (Still m)) (sym is) ((refl, refl, refl), refl)
 
-pub moving_takes : (k : State) (l next : LiveSeen) (status got old_got : ℕ) (buf new_buf : List ℕ) → k ≡ Moving l → HasTaken l status got buf new_buf next → TakesKept k status got old_got buf new_buf (Moving next)
-moving_takes k l next status got old_got buf new_buf is was = subst (λ (x : State). TakesKept x status got old_got buf new_buf (Moving next)) (sym is) was
+pub moving_takes : (told known : Bool) (k : State) (l next : LiveSeen) (status got old_got : ℕ) (buf new_buf : List ℕ) → told ≡ known → k ≡ Moving l → HasTaken known l status got buf new_buf next → TakesKept told k status got old_got buf new_buf (Moving next)
+moving_takes told known k l next status got old_got buf new_buf knows is was =
+    subst (λ (b : Bool). TakesKept b k status got old_got buf new_buf (Moving next)) (sym knows) (subst (λ (x : State). TakesKept known x status got old_got buf new_buf (Moving next)) (sym is) was)
+
+pub lent_takes : (told known : Bool) (k : State) (x next : LoanSeen) (status got old_got : ℕ) (buf new_buf : List ℕ) → told ≡ known → k ≡ Lent x → TakesLent known x status got old_got buf new_buf next → TakesKept told k status got old_got buf new_buf (Lent next)
+lent_takes told known k x next status got old_got buf new_buf knows is was =
+    subst (λ (b : Bool). TakesKept b k status got old_got buf new_buf (Lent next)) (sym knows) (subst (λ (s : State). TakesKept known s status got old_got buf new_buf (Lent next)) (sym is) was)
 
 -- Items sent one after another: what is sent of the rest is sent of all.
 abbrev pub IsOnWay : ℕ → LiveSeen → ℕ → LiveSeen → Type 0

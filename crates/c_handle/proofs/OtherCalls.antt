@@ -16,12 +16,14 @@ use Rattle.sender.specs.declared.event.LiveReply.TheVariants as live
 use Rattle.sender.specs.declared.mig_error.MigError.{MigError}
 use Rattle.sender.specs.declared.mig_error.MigError.TheVariants as errors
 use Rattle.wire.specs.Stream.{whole}
+use Rattle.wire.specs.Telling.{is_owed}
 use Rattle.c_machine.specs.Named.{named_pages, needs_list}
-use Rattle.c_handle.specs.CallsMet.{AreFew, HasRam, OthersKeepDevices, a_begin, a_list_of_pages, a_loan, a_mark, a_return, a_save, a_sector_read, a_send, a_stop, a_taking, an_abort, an_end_of_round}
+use Rattle.c_handle.specs.CallsMet.{AreFew, HasRam, OthersKeepDevices, a_begin, a_begin_as, a_list_of_pages, a_loan, a_mark, a_return, a_save, a_sector_read, a_send, a_stop, a_taking, a_telling, an_abort, an_end_of_round}
+use Rattle.c_handle.specs.Digest.{BeginsAs, BeginsIf, TellsIf, TellsKept, TellsMoving, are_known, told_begun}
 use Rattle.c_handle.specs.Kept.{KeptSeen, StillLent, MovingLent, State, Still, Moving, Arriving, Lent}
 use Rattle.c_handle.specs.Late.{HasMarked, IsMarked, mark_refusal}
 use Rattle.c_handle.specs.Lent.{HasComeBack, IsBack, IsLoan, IsUnlent, LendsIfOver, back_refusal_of, lend_refusal_of, lent_pages}
-use Rattle.c_handle.specs.Migrated.{AbortsKept, BeginsKept, EndsKept, GoesOn, SendsIf, SendsKept, SendsUpTo, StopsKept, StopsUnless, TakesKept, is_none_due, send_refusal}
+use Rattle.c_handle.specs.Migrated.{AbortsKept, BeginsKept, EndsKept, GoesOn, SendsIf, SendsKept, SendsUpTo, StopsKept, StopsUnless, TakesKept, is_none_due, send_refusal, told_aborted}
 use Rattle.c_handle.specs.Mirror.{memory_in}
 use Rattle.c_handle.specs.Moving.{SavesIf, SavesKept}
 use Rattle.c_handle.specs.OnHandle.{Refuses, Unless}
@@ -99,6 +101,16 @@ begins (Arriving r) (Arriving next) status h = same_kept (Arriving r) (Arriving 
 begins (Lent x) (Lent next) status h = same_kept (Lent x) (Lent next) (ap Lent h.1)
 begins _ _ status h = absurd h
 
+begins_if : (known : Bool) (m : Seen) (next : State) (status : ℕ) → BeginsIf known m status next → IsKept (Still m) next
+begins_if true m next status h = begins (Still m) next status h
+begins_if false m next status h = same_kept (Still m) next h.1
+
+begins_as : (flags : ℕ) (k next : State) (status : ℕ) → BeginsAs flags k status next → IsKept k next
+begins_as flags (Still m) next status h = begins_if (are_known flags) m next status h
+begins_as flags (Moving l) next status h = begins (Moving l) next status h
+begins_as flags (Arriving r) next status h = begins (Arriving r) next status h
+begins_as flags (Lent x) next status h = begins (Lent x) next status h
+
 -- Items that are sent, one after another.
 goes_same : (reply : LiveReply) (rest : LiveSeen → Type 0) (mid next : LiveSeen) (status : ℕ) → ((x : LiveSeen) → rest x → IsRead x next) → GoesOn reply rest mid status next → IsRead mid next
 goes_same (live.Mig error) rest mid next status same h = same_read mid next h.1
@@ -153,14 +165,29 @@ aborts (Arriving r) (Arriving next) status h = same_kept (Arriving r) (Arriving 
 aborts (Lent x) (Lent next) status h = same_kept (Lent x) (Lent next) (ap Lent h.1)
 aborts _ _ status h = absurd h
 
-takes : (k next : State) (status got old_got : ℕ) (buf new_buf : List ℕ) → TakesKept k status got old_got buf new_buf next → IsKept k next
-takes (Still m) (Still next) status got old_got buf new_buf h = seen_kept m next h.1
-takes (Moving l) (Moving next) status got old_got buf new_buf h = read_kept l next (ap now h.rest, ap (λ (x : LiveSeen). x.machine.memory.versions) h.rest)
-takes (Arriving r) (Arriving next) status got old_got buf new_buf h = same_kept (Arriving r) (Arriving next) (ap Arriving h.1)
-takes (Lent (StillLent p)) (Lent (StillLent next)) status got old_got buf new_buf h = same_kept (Lent (StillLent p)) (Lent (StillLent next)) (ap (λ x. Lent (StillLent x)) h.1)
-takes (Lent (MovingLent l)) (Lent (MovingLent next)) status got old_got buf new_buf h =
+tells_if : (owed : Bool) (l next : LiveSeen) (digest : List ℕ) (status : ℕ) → TellsIf owed digest l status next → IsRead l next
+tells_if true l next digest status h = (ap now h.rest, ap (λ (x : LiveSeen). x.machine.memory.versions) h.rest)
+tells_if false l next digest status h = same_read l next h.1
+
+tells_moving : (told : Bool) (l next : LiveSeen) (digest : List ℕ) (status : ℕ) → TellsMoving told digest l status next → IsRead l next
+tells_moving true l next digest status h = tells_if (is_owed l.digest) l next digest status h
+tells_moving false l next digest status h = same_read l next h.1
+
+tells : (told : Bool) (k next : State) (digest : List ℕ) (status : ℕ) → TellsKept told digest k status next → IsKept k next
+tells told (Still m) (Still next) digest status h = seen_kept m next h.1
+tells told (Moving l) (Moving next) digest status h = read_kept l next (tells_moving told l next digest status h)
+tells told (Arriving r) (Arriving next) digest status h = same_kept (Arriving r) (Arriving next) (ap Arriving h.1)
+tells told (Lent x) (Lent next) digest status h = same_kept (Lent x) (Lent next) (ap Lent h.1)
+tells told _ _ digest status h = absurd h
+
+takes : (told : Bool) (k next : State) (status got old_got : ℕ) (buf new_buf : List ℕ) → TakesKept told k status got old_got buf new_buf next → IsKept k next
+takes told (Still m) (Still next) status got old_got buf new_buf h = seen_kept m next h.1
+takes told (Moving l) (Moving next) status got old_got buf new_buf h = read_kept l next (ap now h.rest, ap (λ (x : LiveSeen). x.machine.memory.versions) h.rest)
+takes told (Arriving r) (Arriving next) status got old_got buf new_buf h = same_kept (Arriving r) (Arriving next) (ap Arriving h.1)
+takes told (Lent (StillLent p)) (Lent (StillLent next)) status got old_got buf new_buf h = same_kept (Lent (StillLent p)) (Lent (StillLent next)) (ap (λ x. Lent (StillLent x)) h.1)
+takes told (Lent (MovingLent l)) (Lent (MovingLent next)) status got old_got buf new_buf h =
     (ap (λ (x : LiveParkedSeen). devices_of (Lent (MovingLent x))) h.rest, subst (λ (x : LiveParkedSeen). AreFew x.parked.versions) (sym h.rest))
-takes _ _ status got old_got buf new_buf h = absurd h
+takes told _ _ status got old_got buf new_buf h = absurd h
 
 -- RAM that is lent, and taken back.
 states_of : (new old : List DeviceSeen) → new ≡ old → map (λ (d : DeviceSeen). d.state) new ≡ map (λ (d : DeviceSeen). d.state) old
@@ -237,6 +264,11 @@ some_is a b is = cc
 abbrev Others : KeptSeen → KeptSeen → Type 0
 Others k next = (devices_of next.state ≡ devices_of k.state) × (next.calls ≡ k.calls) × HasRam next.state
 
+kept_told : (k next : KeptSeen) (s : State) (told : Bool) → HasRam k.state → ◌≡◌ {A = Option KeptSeen} (Some next) (Some (record k { state = s; told = told })) → IsKept k.state s → Others k next
+kept_told k next s told ram is kept =
+    let now_is = some_is next (record k { state = s; told = told }) is in
+    (ap (λ (x : KeptSeen). devices_of x.state) now_is ∙ kept.0, ap (λ (x : KeptSeen). x.calls) now_is, subst (λ (x : KeptSeen). HasRam x.state) (sym now_is) (kept.1 ram))
+
 kept_by : (k next : KeptSeen) (s : State) → HasRam k.state → ◌≡◌ {A = Option KeptSeen} (Some next) (Some (record k { state = s })) → IsKept k.state s → Others k next
 kept_by k next s ram is kept =
     let now_is = some_is next (record k { state = s }) is in
@@ -244,11 +276,13 @@ kept_by k next s ram is kept =
 
 pub others_keep_devices : OthersKeepDevices
 others_keep_devices k next a_begin ram h = kept_by k next h.1.next ram h.1.is_next (begins k.state h.1.next h.0 h.1.done)
+others_keep_devices k next (a_begin_as flags) ram h = kept_told k next h.1.next (told_begun flags k.told k.state h.1.next) ram h.1.is_next (begins_as flags k.state h.1.next h.0 h.1.done)
 others_keep_devices k next a_send ram h = kept_by k next h.2.next ram h.2.is_next (sends k.state h.2.next h.0 h.1 h.2.done)
 others_keep_devices k next an_end_of_round ram h = kept_by k next h.1.next ram h.1.is_next (ends k.state h.1.next h.0 h.1.done)
 others_keep_devices k next a_stop ram h = kept_by k next h.5.next ram h.5.is_next (stops _ k.state h.5.next h.0 h.1 h.2 h.3 h.4 h.5.done)
-others_keep_devices k next an_abort ram h = kept_by k next h.1.next ram h.1.is_next (aborts k.state h.1.next h.0 h.1.done)
-others_keep_devices k next a_taking ram h = kept_by k next h.5.next ram h.5.is_next (takes k.state h.5.next h.0 h.1 h.2 h.3 h.4 h.5.done)
+others_keep_devices k next an_abort ram h = kept_told k next h.1.next (told_aborted k.told k.state h.1.next) ram h.1.is_next (aborts k.state h.1.next h.0 h.1.done)
+others_keep_devices k next a_taking ram h = kept_by k next h.5.next ram h.5.is_next (takes k.told k.state h.5.next h.0 h.1 h.2 h.3 h.4 h.5.done)
+others_keep_devices k next a_telling ram h = kept_by k next h.2.next ram h.2.is_next (tells k.told k.state h.2.next h.0 h.1 h.2.done)
 others_keep_devices k next a_loan ram h = kept_by k next h.3.next ram h.3.is_next (lends (lend_refusal_of k.state (length h.0.content)) k.state h.3.next h.0 h.2 h.1 h.3.done)
 others_keep_devices k next a_return ram h =
     kept_by k next h.4.next ram h.4.is_next (returns (back_refusal_of k.state (length h.0.content) h.1) k.state h.4.next h.0 h.3 (named_pages h.1 (lent_pages k.state)) (needs_list h.1) h.2 _ h.4.done)

@@ -34,6 +34,8 @@ use Rattle.c_handle.specs.DiskCalls.{MeetsParked, asker_lent}
 use Rattle.c_handle.specs.Durable.{FailsSync, FailsUnless}
 use Rattle.c_handle.specs.Kept.{FitsLog, LoanSeen, StillLent, MovingLent, State, Still, Moving, Arriving, Lent, parked_in, ram_in}
 use Rattle.c_handle.specs.Lent.{HasComeBack, IsLiveLoan, IsReturnable}
+use Rattle.wire.specs.Telling.{is_owed}
+use Rattle.c_handle.specs.Digest.{BeginsAs, BeginsIf, TellsIf, are_known}
 use Rattle.c_handle.specs.Migrated.{AbortsKept, BeginsKept, GoesOn, HasEnded, StopsUnless, HasTaken, SendsIf, SendsSome, SendsUpTo, TakesLent, is_none_due, send_refusal}
 use Rattle.c_handle.specs.Mirror.{is_closed}
 use Rattle.c_handle.specs.Moving.{Saves, SavesIf}
@@ -146,17 +148,24 @@ stopped_size false l next status pages old_pages sectors old_sectors s = served_
 pub stopped : (log : Option (List Bool)) (places : ℕ) (k : State) (l next : LiveSeen) (out : Bool) (status pages old_pages sectors old_sectors : ℕ) → FitsLog log (ram_in places k) → StopsUnless out l status pages old_pages sectors old_sectors next → k ≡ Moving l → FitsLog log (length next.machine.memory.bytes)
 stopped log places k l next out status pages old_pages sectors old_sectors fits s is = fits_at log places k (Moving l) (Moving next) fits is (stopped_size out l next status pages old_pages sectors old_sectors s)
 
-pub taken : (log : Option (List Bool)) (places : ℕ) (k : State) (l next : LiveSeen) (status got : ℕ) (buf new_buf : List ℕ) → FitsLog log (ram_in places k) → HasTaken l status got buf new_buf next → k ≡ Moving l → FitsLog log (length next.machine.memory.bytes)
-taken log places k l next status got buf new_buf fits t is = fits_at log places k (Moving l) (Moving next) fits is (ap (λ (l : LiveSeen). length l.machine.memory.bytes) t.rest)
+pub taken : (told : Bool) (log : Option (List Bool)) (places : ℕ) (k : State) (l next : LiveSeen) (status got : ℕ) (buf new_buf : List ℕ) → FitsLog log (ram_in places k) → HasTaken told l status got buf new_buf next → k ≡ Moving l → FitsLog log (length next.machine.memory.bytes)
+taken told log places k l next status got buf new_buf fits t is = fits_at log places k (Moving l) (Moving next) fits is (ap (λ (l : LiveSeen). length l.machine.memory.bytes) t.rest)
 
-taken_size : (places : ℕ) (x next : LoanSeen) (status got old_got : ℕ) (buf new_buf : List ℕ) → TakesLent x status got old_got buf new_buf next → ram_in places (Lent next) ≡ ram_in places (Lent x)
-taken_size places (StillLent p) (StillLent next) status got old_got buf new_buf t = ap (λ (p : ParkedSeen). 4096 * length p.versions) t.1
-taken_size places (MovingLent l) (MovingLent next) status got old_got buf new_buf t = ap (λ (l : LiveParkedSeen). 4096 * length l.parked.versions) t.rest
-taken_size places (StillLent p) (MovingLent next) status got old_got buf new_buf t = absurd t
-taken_size places (MovingLent l) (StillLent next) status got old_got buf new_buf t = absurd t
+told_size : (owed : Bool) (l next : LiveSeen) (digest : List ℕ) (status : ℕ) → TellsIf owed digest l status next → length next.machine.memory.bytes ≡ length l.machine.memory.bytes
+told_size true l next digest status t = ap (λ (l : LiveSeen). length l.machine.memory.bytes) t.rest
+told_size false l next digest status t = ap (λ (l : LiveSeen). length l.machine.memory.bytes) t.1
 
-pub taken_lent : (log : Option (List Bool)) (places : ℕ) (k : State) (x next : LoanSeen) (status got old_got : ℕ) (buf new_buf : List ℕ) → FitsLog log (ram_in places k) → TakesLent x status got old_got buf new_buf next → k ≡ Lent x → FitsLog log (ram_in places (Lent next))
-taken_lent log places k x next status got old_got buf new_buf fits t is = fits_at log places k (Lent x) (Lent next) fits is (taken_size places x next status got old_got buf new_buf t)
+pub told : (log : Option (List Bool)) (places : ℕ) (k : State) (l next : LiveSeen) (digest : List ℕ) (status : ℕ) → FitsLog log (ram_in places k) → TellsIf (is_owed l.digest) digest l status next → k ≡ Moving l → FitsLog log (length next.machine.memory.bytes)
+told log places k l next digest status fits t is = fits_at log places k (Moving l) (Moving next) fits is (told_size (is_owed l.digest) l next digest status t)
+
+taken_size : (told : Bool) (places : ℕ) (x next : LoanSeen) (status got old_got : ℕ) (buf new_buf : List ℕ) → TakesLent told x status got old_got buf new_buf next → ram_in places (Lent next) ≡ ram_in places (Lent x)
+taken_size told places (StillLent p) (StillLent next) status got old_got buf new_buf t = ap (λ (p : ParkedSeen). 4096 * length p.versions) t.1
+taken_size told places (MovingLent l) (MovingLent next) status got old_got buf new_buf t = ap (λ (l : LiveParkedSeen). 4096 * length l.parked.versions) t.rest
+taken_size told places (StillLent p) (MovingLent next) status got old_got buf new_buf t = absurd t
+taken_size told places (MovingLent l) (StillLent next) status got old_got buf new_buf t = absurd t
+
+pub taken_lent : (told : Bool) (log : Option (List Bool)) (places : ℕ) (k : State) (x next : LoanSeen) (status got old_got : ℕ) (buf new_buf : List ℕ) → FitsLog log (ram_in places k) → TakesLent told x status got old_got buf new_buf next → k ≡ Lent x → FitsLog log (ram_in places (Lent next))
+taken_lent told log places k x next status got old_got buf new_buf fits t is = fits_at log places k (Lent x) (Lent next) fits is (taken_size told places x next status got old_got buf new_buf t)
 
 saved_size : (short : Bool) (m next : Seen) (status len old_len : ℕ) (buf new_buf : List ℕ) → SavesIf short m status len old_len buf new_buf next → length next.memory.bytes ≡ length m.memory.bytes
 saved_size true m next status len old_len buf new_buf s = ap (λ (m : Seen). length m.memory.bytes) s.same
@@ -191,8 +200,18 @@ begun_size places (Lent x) (Still next) status b = absurd b
 begun_size places (Lent x) (Moving next) status b = absurd b
 begun_size places (Lent x) (Arriving next) status b = absurd b
 
-pub begun : (log : Option (List Bool)) (places : ℕ) (k next : State) (status : ℕ) → FitsLog log (ram_in places k) → BeginsKept k status next → FitsLog log (ram_in places next)
-begun log places k next status fits b = fits_as log (ram_in places k) (ram_in places next) fits (begun_size places k next status b)
+begun_if : (known : Bool) (places : ℕ) (m : Seen) (next : State) (status : ℕ) → BeginsIf known m status next → ram_in places next ≡ ram_in places (Still m)
+begun_if true places m next status b = begun_size places (Still m) next status b
+begun_if false places m next status b = ap (ram_in places) b.1
+
+begun_as : (flags places : ℕ) (k next : State) (status : ℕ) → BeginsAs flags k status next → ram_in places next ≡ ram_in places k
+begun_as flags places (Still m) next status b = begun_if (are_known flags) places m next status b
+begun_as flags places (Moving l) next status b = begun_size places (Moving l) next status b
+begun_as flags places (Arriving r) next status b = begun_size places (Arriving r) next status b
+begun_as flags places (Lent x) next status b = begun_size places (Lent x) next status b
+
+pub begun : (flags : ℕ) (log : Option (List Bool)) (places : ℕ) (k next : State) (status : ℕ) → FitsLog log (ram_in places k) → BeginsAs flags k status next → FitsLog log (ram_in places next)
+begun flags log places k next status fits b = fits_as log (ram_in places k) (ram_in places next) fits (begun_as flags places k next status b)
 
 aborted_size : (places : ℕ) (k next : State) (status : ℕ) → AbortsKept k status next → ram_in places next ≡ ram_in places k
 aborted_size places (Still m) (Still next) status a = ap (λ (m : Seen). length m.memory.bytes) a.1

@@ -1,6 +1,6 @@
 -- The migration of a machine out of a handle.
-use Rattle.std.proofs.Common.{◌≡◌, ◌≤◌, ℕ, true, false, List, [], ◌++◌, refl, sym, ap, ◌∙◌, subst, take, drop, length, append_assoc, append-nil}
-use Rattle.std.specs.Prelude.{Some}
+use Rattle.std.proofs.Common.{◌≡◌, ◌≤◌, arith, ℕ, Bool, true, false, List, [], ◌++◌, refl, sym, ap, ◌∙◌, subst, take, drop, length, append_assoc, append-nil}
+use Rattle.std.specs.Prelude.{Some, min}
 use Rattle.std.proofs.Math.Nat.{min-le_right}
 use Rattle.std.proofs.Math.Seq.{take-append_seam}
 use Rattle.std.proofs.lemmas.List.{take-append-drop, length-take-le}
@@ -18,7 +18,7 @@ use Rattle.sender.proofs.Taking.{taken_are_whole}
 use Rattle.wire.specs.Sinks.{Covers, Digested, SinkState, Takes, over_writer}
 use Rattle.wire.specs.Stream.{IsStream}
 use Rattle.wire.proofs.Unique.{one_machine}
-use Rattle.c_handle.specs.Migrated.{HasTaken}
+use Rattle.c_handle.specs.Migrated.{HasTaken, IsSameDigest, ready_len}
 use Rattle.c_handle.specs.Sent.{AbortsAfterTakings, ArrivedIsSent, CallsStaySent, FirstIsSent, MarksStaySent, StoppedIsWhole, TakingsChangeNothingElse, TakingsStaySent}
 
 pub first_is_sent : FirstIsSent
@@ -64,10 +64,24 @@ relates_still m h out d s takes g = record {
 abbrev IsExact : MachineState → History → List ℕ → LiveSeen → Type 0
 IsExact m h taken l = Relates m h (over_writer (Some []) 0 false) (untaken taken l)
 
-takings : (m : MachineState) (h : History) (taken buf new_buf : List ℕ) (status got : ℕ) (l next : LiveSeen) → IsExact m h taken l → has_fault h ≡ false → HasTaken l status got buf new_buf next → untaken (taken ++ take got new_buf) next ≡ unflushed next.digest (untaken taken l)
-takings m h taken buf new_buf status got l next is quiet took =
+few_ready : (told : Bool) (out : SinkState) (digest : Digested) → ready_len told out digest ≤ length out.held
+few_ready true out digest = omega arith
+few_ready false out digest = omega arith
+
+few_taken : (told : Bool) (room got : ℕ) (out : SinkState) (digest : Digested) → got ≡ min room (ready_len told out digest) → got ≤ length out.held
+few_taken told room got out digest is =
+    let few : got ≤ ready_len told out digest = rw is (min-le_right room (ready_len told out digest)) in
+    omega (arith, few, few_ready told out digest)
+
+-- It is still the digest of the same bytes.
+same_takes : (told : Bool) (old new : Digested) → IsSameDigest told old new → Takes old [] new
+same_takes false old new same = same
+same_takes true old new same = λ before covers. subst (Covers new) (sym (append-nil before)) (subst (λ (d : Digested). Covers d before) (sym same) covers)
+
+takings : (told : Bool) (m : MachineState) (h : History) (taken buf new_buf : List ℕ) (status got : ℕ) (l next : LiveSeen) → IsExact m h taken l → has_fault h ≡ false → HasTaken told l status got buf new_buf next → untaken (taken ++ take got new_buf) next ≡ unflushed next.digest (untaken taken l)
+takings told m h taken buf new_buf status got l next is quiet took =
     let held = l.out.held in
-    let few : got ≤ length held = rw (took.count) (min-le_right (length buf) (length held)) in
+    let few : got ≤ length held = few_taken told (length buf) got l.out l.digest took.count in
     let front : take got new_buf ≡ take got held = rw (took.bytes) (front_of got held buf few) in
     let all : (taken ++ take got new_buf) ++ drop got held ≡ taken ++ held = rw front (append_assoc taken (take got held) (drop got held) ∙ ap (λ (b : List ℕ). taken ++ b) (take-append-drop got held)) in
     let count : 0 ≡ l.out.failures = sym (rw quiet at is.count) in
@@ -76,16 +90,16 @@ takings m h taken buf new_buf status got l next is quiet took =
     let sinks : out ≡ whole_writer taken l.out = (λ i. record { held = all i; failures = count i; honest = honest i; is_flushed = false }) in
     ap (λ (s : LiveSeen). untaken (taken ++ take got new_buf) s) took.rest ∙ ap (λ (o : SinkState). record l { out = o; digest = next.digest }) sinks
 
-taken_exact : (m : MachineState) (h : History) (taken buf new_buf : List ℕ) (status got : ℕ) (l next : LiveSeen) → IsExact m h taken l → has_fault h ≡ false → HasTaken l status got buf new_buf next → IsExact m h (taken ++ take got new_buf) next
-taken_exact m h taken buf new_buf status got l next is quiet took =
+taken_exact : (told : Bool) (m : MachineState) (h : History) (taken buf new_buf : List ℕ) (status got : ℕ) (l next : LiveSeen) → IsExact m h taken l → has_fault h ≡ false → HasTaken told l status got buf new_buf next → IsExact m h (taken ++ take got new_buf) next
+taken_exact told m h taken buf new_buf status got l next is quiet took =
     let P : LiveSeen → Type 0 = λ s. Relates m h (over_writer (Some []) 0 false) s in
-    subst P (sym (takings m h taken buf new_buf status got l next is quiet took)) (relates_still m h (over_writer (Some []) 0 false) next.digest (untaken taken l) took.digest is)
+    subst P (sym (takings told m h taken buf new_buf status got l next is quiet took)) (relates_still m h (over_writer (Some []) 0 false) next.digest (untaken taken l) (same_takes told l.digest next.digest took.digest) is)
 
 pub takings_stay_sent : TakingsStaySent
-takings_stay_sent m h taken pages buf new_buf status got l next b quiet took =
+takings_stay_sent told m h taken pages buf new_buf status got l next b quiet took =
     let late = b.late in
-    let also : HasTaken (if_dirty late l) status got buf new_buf (if_dirty late next) = record { status_is = took.status_is; count = took.count; bytes = took.bytes; rest = ap (if_dirty late) took.rest; digest = took.digest } in
-    record { late = late; among = b.among; relates = taken_exact m h taken buf new_buf status got (if_dirty late l) (if_dirty late next) b.relates quiet also }
+    let also : HasTaken told (if_dirty late l) status got buf new_buf (if_dirty late next) = record { status_is = took.status_is; count = took.count; bytes = took.bytes; rest = ap (if_dirty late) took.rest; digest = took.digest } in
+    record { late = late; among = b.among; relates = taken_exact told m h taken buf new_buf status got (if_dirty late l) (if_dirty late next) b.relates quiet also }
 
 pub marks_stay_sent : MarksStaySent
 marks_stay_sent m h taken pages marks rest l b places mem goes below all =
@@ -106,11 +120,11 @@ arrived_is_sent m h taken l r arrived is sound stopped come based there =
 
 -- A taking, by itself.
 pub takings_change_nothing_else : TakingsChangeNothingElse
-takings_change_nothing_else l next status got buf new_buf h = record {
+takings_change_nothing_else told l next status got buf new_buf h = record {
   rest = h.rest ∙ ap (λ (o : SinkState). record l { out = o; digest = next.digest }) (sym (ap (λ (v : LiveSeen). v.out) h.rest));
   waits = sym (take-append-drop got l.out.held) ∙ ap (λ (x : List ℕ). take got l.out.held ++ x) (sym (ap (λ (v : LiveSeen). v.out.held) h.rest));
-  digest = h.digest;
+  digest = same_takes told l.digest next.digest h.digest;
 }
 
 pub aborts_after_takings : AbortsAfterTakings
-aborts_after_takings l next status got aborted buf new_buf m h a = a.1 ∙ ap (λ (v : LiveSeen). v.machine) h.rest
+aborts_after_takings told l next status got aborted buf new_buf m h a = a.1 ∙ ap (λ (v : LiveSeen). v.machine) h.rest

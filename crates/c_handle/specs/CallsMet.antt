@@ -12,6 +12,7 @@ use Rattle.machine.specs.State.{MachineState}
 use Rattle.machine.specs.declared.event.Event.{Event}
 use Rattle.machine.specs.declared.event.Event.TheVariants.{RegWrite, Disk}
 use Rattle.c_machine.specs.declared.pages.Pages.{Pages}
+use Rattle.c_handle.specs.Digest.{BegunAs, HasBeenTold}
 use Rattle.c_handle.specs.Dropping.{WroteReg}
 use Rattle.c_handle.specs.Durable.{Failed}
 use Rattle.c_handle.specs.HandedOut.{HandedOut}
@@ -127,11 +128,14 @@ CallsStayOut = (k next : KeptSeen) (cs : List HostCall) (dev i : ℕ) (out : Out
 -- machine. What is left of the calls changes nothing, brings a machine into a handle, or takes the handle away.
 pub data OtherCall : Type 0 where
   a_begin : OtherCall
+  -- or by these flags
+  a_begin_as : ℕ → OtherCall
   a_send : OtherCall
   an_end_of_round : OtherCall
   a_stop : OtherCall
   an_abort : OtherCall
   a_taking : OtherCall
+  a_telling : OtherCall
   a_loan : OtherCall
   a_return : OtherCall
   a_mark : OtherCall
@@ -141,11 +145,13 @@ pub data OtherCall : Type 0 where
 
 abbrev pub DoesOther : KeptSeen → OtherCall → KeptSeen → Type 0
 DoesOther k a_begin next = (status : ℕ) × Begun (Some k) status (Some next)
+DoesOther k (a_begin_as flags) next = (status : ℕ) × BegunAs (Some k) flags status (Some next)
 DoesOther k a_send next = (most : ℕ) × (status : ℕ) × SentSome (Some k) most status (Some next)
 DoesOther k an_end_of_round next = (status : ℕ) × EndedRound (Some k) status (Some next)
 DoesOther k a_stop next = (status : ℕ) × (pages : ℕ) × (old_pages : ℕ) × (sectors : ℕ) × (old_sectors : ℕ) × HasBeenStopped (Some k) status pages old_pages sectors old_sectors (Some next)
 DoesOther k an_abort next = (status : ℕ) × Aborted (Some k) status (Some next)
 DoesOther k a_taking next = (status : ℕ) × (got : ℕ) × (old_got : ℕ) × (buf : List ℕ) × (new_buf : List ℕ) × Taken (Some k) status got old_got buf new_buf (Some next)
+DoesOther k a_telling next = (digest : List ℕ) × (status : ℕ) × HasBeenTold (Some k) digest status (Some next)
 DoesOther k a_loan next = (ram : Slot) × (status : ℕ) × (new_ram : Slot) × Lends (Some k) ram status new_ram (Some next)
 DoesOther k a_return next = (ram : Slot) × (pages : Pages) × (status : ℕ) × (new_ram : Slot) × GivesBack (Some k) ram pages status new_ram (Some next)
 DoesOther k a_mark next = (pages : Pages) × (status : ℕ) × Marked (Some k) pages status (Some next)

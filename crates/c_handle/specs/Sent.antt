@@ -1,7 +1,7 @@
 -- The migration of a machine out of a handle, from its first call on: its history, and the bytes that C has taken. What C has
 -- taken, followed by what waits, is all that a machine that is being migrated has written. So after a stop it is the whole
 -- stream of the machine, and what is made of it on the other side is the machine.
-use Rattle.std.specs.Prelude.{◌≡◌, ◌≢◌, ◌++◌, ℕ, List, [], ◌∷◌, Some, false, length, map, take}
+use Rattle.std.specs.Prelude.{◌≡◌, ◌≢◌, ◌++◌, ℕ, Bool, List, [], ◌∷◌, Some, false, length, map, take}
 use Rattle.region.specs.Address.{address}
 use Rattle.region.specs.Lending.{with_content}
 use Rattle.region.specs.declared.region.Region.{Region}
@@ -31,8 +31,11 @@ use Rattle.sender.specs.declared.event.LiveReply.TheVariants as r
 use Rattle.sender.specs.declared.phase.Phase.TheVariants as phases
 use Rattle.wire.specs.Sinks.{Takes, over_writer}
 use Rattle.wire.specs.Stream.{IsStream}
+use Rattle.wire.specs.declared.record_head.TheConstants.{COMMIT_RECORD}
+use Rattle.sha2.specs.Sha256.{sha256}
 use Rattle.c_handle.specs.ArrivalSeen.{ArrivalSeen}
 use Rattle.c_handle.specs.Awaited.{HasArrived, HasCome, awaited_base}
+use Rattle.c_handle.specs.Digest.{HasTold}
 use Rattle.c_handle.specs.Lent.{IsLiveLoan}
 use Rattle.c_handle.specs.Kept.{Moving, Still}
 use Rattle.c_handle.specs.Migrated.{AbortsKept, HasTaken, HasTakenLent, IsFresh}
@@ -63,7 +66,7 @@ FailedFlushesStaySent = (m : MachineState) (h : History) (taken pages : List ℕ
 
 -- and each taking, while there was memory for what waits, adds to what was taken.
 abbrev pub TakingsStaySent : Type 0
-TakingsStaySent = (m : MachineState) (h : History) (taken pages buf new_buf : List ℕ) (status got : ℕ) (l next : LiveSeen) → IsSent m h taken pages l → has_fault h ≡ false → HasTaken l status got buf new_buf next
+TakingsStaySent = (told : Bool) (m : MachineState) (h : History) (taken pages buf new_buf : List ℕ) (status got : ℕ) (l next : LiveSeen) → IsSent m h taken pages l → has_fault h ≡ false → HasTaken told l status got buf new_buf next
     → IsSent m h (taken ++ take got new_buf) pages next
 
 -- A taking changes what waits and what is digested, and nothing else, whether or not the stream has failed.
@@ -73,11 +76,11 @@ pub record IsOnlyTaken (l next : LiveSeen) (got : ℕ) : Type 0 where
   pub digest : Takes l.digest [] next.digest
 
 abbrev pub TakingsChangeNothingElse : Type 0
-TakingsChangeNothingElse = (l next : LiveSeen) (status got : ℕ) (buf new_buf : List ℕ) → HasTaken l status got buf new_buf next → IsOnlyTaken l next got
+TakingsChangeNothingElse = (told : Bool) (l next : LiveSeen) (status got : ℕ) (buf new_buf : List ℕ) → HasTaken told l status got buf new_buf next → IsOnlyTaken l next got
 
 -- So who takes what waits after a send that failed, and aborts, has the machine as it was when the send failed.
 abbrev pub AbortsAfterTakings : Type 0
-AbortsAfterTakings = (l next : LiveSeen) (status got aborted : ℕ) (buf new_buf : List ℕ) (m : Seen) → HasTaken l status got buf new_buf next → AbortsKept (Moving next) aborted (Still m) → m ≡ l.machine
+AbortsAfterTakings = (told : Bool) (l next : LiveSeen) (status got aborted : ℕ) (buf new_buf : List ℕ) (m : Seen) → HasTaken told l status got buf new_buf next → AbortsKept (Moving next) aborted (Still m) → m ≡ l.machine
 
 -- While RAM is lent: all this happened before or meanwhile, and so these bytes were taken, before the caller wrote anything.
 pub record IsSentLent (m : MachineState) (h : History) (taken pages : List ℕ) (before : Region) (p : LiveParkedSeen) : Type 0 where
@@ -97,8 +100,8 @@ LentCallsStaySent = (m : MachineState) (h : History) (taken pages : List ℕ) (e
 
 -- and what is taken adds to what was taken.
 abbrev pub LentTakingsStaySent : Type 0
-LentTakingsStaySent = (m : MachineState) (h : History) (taken pages buf new_buf : List ℕ) (status got : ℕ) (before : Region) (p next : LiveParkedSeen) → IsSentLent m h taken pages before p → has_fault h ≡ false
-    → HasTakenLent p status got buf new_buf next → IsSentLent m h (taken ++ take got new_buf) pages before next
+LentTakingsStaySent = (told : Bool) (m : MachineState) (h : History) (taken pages buf new_buf : List ℕ) (status got : ℕ) (before : Region) (p next : LiveParkedSeen) → IsSentLent m h taken pages before p → has_fault h ≡ false
+    → HasTakenLent told p status got buf new_buf next → IsSentLent m h (taken ++ take got new_buf) pages before next
 
 -- These events of the guest are added to the history, nothing is written meanwhile, and no pages but these are still to be named.
 pub record GoesOnSent (m : MachineState) (h : History) (taken : List ℕ) (events : List Event) (pages : List ℕ) (next : LiveSeen) : Type 0 where
@@ -137,6 +140,11 @@ LentComesBackSent = (m : MachineState) (h : History) (taken pages : List ℕ) (b
 abbrev pub MarksStaySent : Type 0
 MarksStaySent = (m : MachineState) (h : History) (taken pages marks rest : List ℕ) (l : LiveSeen) → IsSent m h taken pages l → HasPlaces l → IsMemory l.machine.memory → l.phase ≢ phases.Stopped → AreBelow (length l.machine.memory.versions) marks
     → AreAmong pages (marks ++ rest) → GoesOnSent m h taken (page_writes (live_base l) marks l.machine.memory.bytes) rest (live_marked l marks)
+
+-- After a stop, a host that took all but the record that closes the stream, and tells the digest of what it took, keeps the machine sent.
+abbrev pub TellingsStaySent : Type 0
+TellingsStaySent = (m : MachineState) (h : History) (taken pages digest : List ℕ) (status : ℕ) (l next : LiveSeen) → IsSent m h taken pages l → IsSound m → phase_of h ≡ phases.Stopped → length l.out.held ≡ COMMIT_RECORD
+    → HasTold l digest status next → digest ≡ sha256 taken → IsSent m h taken pages next
 
 -- After a stop, what was taken, followed by what waits, is the stream of the machine.
 abbrev pub StoppedIsWhole : Type 0

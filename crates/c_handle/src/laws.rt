@@ -10,7 +10,7 @@ ghost use Rattle.c_handle.specs.Outside.{RefusedAnswersNothing, RefusedHandsNoth
 ghost use Rattle.c_handle.specs.Refused.{RefusedTellsNothing, RefusedWritesNothing};
 ghost use Rattle.c_handle.specs.Stepped.{RefusedStepsNothing};
 ghost use Rattle.c_handle.specs.Turns.{RefusedTurnsNothing, TurnsStaySent};
-ghost use Rattle.c_handle.specs.Sent.{AbortsAfterTakings, ArrivedIsSent, CallsStaySent, FailedFlushesStaySent, FirstIsSent, LentCallsStaySent, LentComesBackSent, LentStepsStaySent, LentTakingsStaySent, MarksStaySent, StoppedIsWhole, TakingsChangeNothingElse, TakingsStaySent};
+ghost use Rattle.c_handle.specs.Sent.{AbortsAfterTakings, ArrivedIsSent, CallsStaySent, FailedFlushesStaySent, FirstIsSent, LentCallsStaySent, LentComesBackSent, LentStepsStaySent, LentTakingsStaySent, MarksStaySent, StoppedIsWhole, TakingsChangeNothingElse, TakingsStaySent, TellingsStaySent};
 
 /// A machine over disks in memory stays one.
 pub fn plain_stays()
@@ -141,6 +141,13 @@ pub fn failed_flushes_stay_sent()
 pub fn takings_stay_sent()
     ensures { TakingsStaySent }
 {}
+
+/// A host that took all but the record that closes the stream, and tells the digest of what it took, keeps the machine sent.
+pub fn tellings_stay_sent()
+    ensures { TellingsStaySent }
+{
+    sender::laws::taken_is_digested();
+}
 
 /// A taking changes what waits and what is digested, and nothing else, also once a send has failed; and then an abort gives the machine back as it was.
 pub fn takings_change_nothing_else()

@@ -52,6 +52,7 @@ pub struct SendLeft {
 }
 
 /// Begins the migration of a machine that is not being migrated.
+#[tactic(auto, using(crate::proofs::Telling::begins, crate::proofs::Telling::as_before))]
 pub fn begin(alloc: Global, kept: &mut Kept) -> u32
     ensures begins { BeginsKept kept.old.state result kept.new.state }
     ensures kind { kept.new ≡ record kept.old { state = kept.new.state } }
@@ -60,7 +61,7 @@ pub fn begin(alloc: Global, kept: &mut Kept) -> u32
 }
 
 /// As `begin`, by flags: `TOLD`, where the host tells the digest, or none.
-#[tactic(auto, using(crate::proofs::SamePages::begun))]
+#[tactic(auto, using(crate::proofs::SamePages::begun, crate::proofs::Telling::plain))]
 pub fn begin_as(alloc: Global, kept: &mut Kept, flags: u32) -> u32
     ensures begins { BeginsAs flags kept.old.state result kept.new.state }
     ensures kind { kept.new ≡ record kept.old { state = kept.new.state; told = told_begun flags kept.old.told kept.old.state kept.new.state } }
@@ -396,7 +397,7 @@ fn left_status(items: Left, stop_bytes: u64, left: &mut SendLeft) -> u32
 }
 
 /// Takes the first of the bytes that wait into the front of the buffer.
-#[tactic(auto, using(crate::proofs::Migration::still_takes, crate::proofs::Migration::moving_takes, crate::proofs::SamePages::taken, crate::proofs::SamePages::taken_lent))]
+#[tactic(auto, using(crate::proofs::Migration::still_takes, crate::proofs::Migration::moving_takes, crate::proofs::Migration::lent_takes, crate::proofs::SamePages::taken, crate::proofs::SamePages::taken_lent))]
 pub fn take(kept: &mut Kept, buf: &mut [u8], got: &mut usize) -> u32
     ensures takes { TakesKept kept.old.told kept.old.state result got.new got.old buf.old buf.new kept.new.state }
     ensures kind { kept.new ≡ record kept.old { state = kept.new.state } }
@@ -426,6 +427,7 @@ fn take_told<D: Disk>(live: &mut LiveTold<D>, buf: &mut [u8], got: &mut usize) -
 }
 
 /// The host tells the digest of all that it took, if the record that closes the stream waits for it. Nobody compares it here.
+#[tactic(auto, using(crate::proofs::ByState::by_still, crate::proofs::Telling::tells, crate::proofs::Telling::tells_not, crate::proofs::SamePages::told))]
 pub fn tell(kept: &mut Kept, digest: &[u8; 32]) -> u32
     ensures tells { TellsKept kept.old.told digest.now kept.old.state result kept.new.state }
     ensures kind { kept.new ≡ record kept.old { state = kept.new.state } }
@@ -439,6 +441,7 @@ pub fn tell(kept: &mut Kept, digest: &[u8; 32]) -> u32
     )
 }
 
+#[tactic(auto, using(crate::proofs::Telling::asked, crate::proofs::Telling::not_asked))]
 fn tell_status<D: Disk>(live: &mut LiveTold<D>, digest: &[u8; 32]) -> u32
     ensures { TellsIf (is_owed live.old.digest) digest.now live.old result live.new }
 {
