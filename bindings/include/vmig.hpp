@@ -541,7 +541,10 @@ public:
     {
         return status{vmig_send_take(&held, buf, size, got)};
     }
-    [[nodiscard]] status send_tell(const std::uint8_t (&digest)[32]) noexcept { return status{vmig_send_tell(&held, digest)}; }
+    [[nodiscard]] status send_tell(const std::array<std::uint8_t, 32> &digest) noexcept
+    {
+        return status{vmig_send_tell(&held, digest.data())};
+    }
     [[nodiscard]] status send_left(vmig_left *left) const noexcept { return status{vmig_send_left(&held, left)}; }
     [[nodiscard]] status save(std::uint8_t *buf, std::size_t size, std::size_t *len) const noexcept
     {

@@ -118,11 +118,13 @@ void none()
     EXPECT(m.release(nullptr, 0), status::no_machine);
     EXPECT(m.sector_read(0, 0, sector), status::no_machine);
     EXPECT(m.send_begin(), status::no_machine);
+    EXPECT(m.send_begin_as(VMIG_TOLD), status::no_machine);
     EXPECT(m.send_some(1), status::no_machine);
     EXPECT(m.send_round(), status::no_machine);
     EXPECT(m.send_stop(&copied, &sectors), status::no_machine);
     EXPECT(m.send_abort(), status::no_machine);
     EXPECT(m.send_take(sector, 1, &len), status::no_machine);
+    EXPECT(m.send_tell({}), status::no_machine);
     EXPECT(m.send_left(&left), status::no_machine);
     EXPECT(m.save(nullptr, 0, &len), status::no_machine);
     EXPECT(m.feed(nullptr, 0), status::no_machine);
@@ -187,6 +189,8 @@ void moved()
     arrival.most_pages = 4;
     EXPECT(m.send_begin(), status::ok);
     EXPECT(m.send_begin(), status::sending);
+    EXPECT(m.send_begin_as(VMIG_TOLD), status::sending);
+    EXPECT(m.send_tell({}), status::not_asked);
     EXPECT(m.send_round(), status::round_open);
     EXPECT(m.send_some(4), status::round_done);
     in_state(m, status::ok);
@@ -209,6 +213,37 @@ void moved()
     EXPECT(m.send_abort(), status::ok);
     EXPECT(m.save(nullptr, 0, &got), status::more);
     EXPECT(arrived.describe().pages == 4);
+}
+
+// The host tells the digest of what it sends.
+void told()
+{
+    std::vector<std::uint8_t> memory(4 * 4096);
+    machine m = made(memory), arrived;
+    std::uint64_t copied = 0, sectors = 0;
+    std::uint8_t piece[4096];
+    std::size_t got = 0;
+    vmig_arrival arrival = VMIG_ARRIVAL;
+    vmig::digest digest;
+    status fed = status::ok;
+
+    arrival.most_pages = 4;
+    EXPECT(arrived.arrive(&arrival), status::ok);
+    EXPECT(m.send_begin_as(1), status::not_known);
+    EXPECT(m.send_begin_as(VMIG_TOLD), status::ok);
+    EXPECT(m.send_tell({}), status::not_asked);
+    EXPECT(m.send_stop(&copied, &sectors), status::ok);
+    while (m.send_take(piece, sizeof piece, &got) == status::ok && got != 0) {
+        digest.add(piece, got);
+        fed = arrived.feed(piece, got);
+    }
+    EXPECT(fed, status::ok);
+    EXPECT(m.send_tell(digest.end()), status::ok);
+    EXPECT(m.send_tell({}), status::not_asked);
+    EXPECT(m.send_take(piece, sizeof piece, &got), status::ok);
+    EXPECT(got == 33);
+    EXPECT(arrived.feed(piece, got), status::whole);
+    EXPECT(arrived.finish(), status::ok);
 }
 
 // One with a page more than the usual is made, and arrives, where that is asked for.
@@ -294,6 +329,7 @@ int main()
     none();
     idle_and_lent();
     moved();
+    told();
     large();
     long_frames();
     EXPECT(vmig::version() == VMIG_VERSION_NUMBER);

@@ -3,6 +3,9 @@
 //! A lent machine answers what touches no RAM: registers, what the host puts in, its lines and its shape, the next step, what is left to be
 //! sent, and what waits to be taken. All else is refused by one status, also where the answer could be given, such as a sector.
 
+ghost use Rattle.std.specs.Prelude.{true};
+ghost use Rattle.c_handle.specs.Migrated.{HasTakenLent};
+
 use c_machine::status::{DONE, NOT_SENDING};
 use machine::{Disk, Parked};
 use sender::{LiveParked, Phase};
@@ -60,10 +63,16 @@ impl<D: Disk> Loan<D> {
                 *got = live.take(buf);
                 DONE
             }
-            Loan::Told(live) => {
-                *got = live.take(buf);
-                DONE
-            }
+            Loan::Told(live) => take_told(live, buf, got),
         }
     }
+}
+
+/// The same where the host tells the digest: while the record that closes the stream waits for it, it is not taken.
+fn take_told<D: Disk>(live: &mut LiveParked<D, Told>, buf: &mut [u8], got: &mut usize) -> u32
+    ensures { HasTakenLent true live.old result got.new buf.old buf.new live.new }
+{
+    let taken = live.take(buf);
+    *got = taken;
+    DONE
 }

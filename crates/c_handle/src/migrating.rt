@@ -422,7 +422,8 @@ fn take_status<D: Disk>(live: &mut LiveWaiting<D>, buf: &mut [u8], got: &mut usi
 fn take_told<D: Disk>(live: &mut LiveTold<D>, buf: &mut [u8], got: &mut usize) -> u32
     ensures { HasTaken true live.old result got.new buf.old buf.new live.new }
 {
-    *got = live.take(buf);
+    let taken = live.take(buf);
+    *got = taken;
     DONE
 }
 

@@ -37,11 +37,13 @@ namespace {
     m.push(vmig::pages::none(), bytes, 1, words, 1);
     m.pull(bytes, 1, words, 1, nullptr);
     m.send_begin();
+    m.send_begin_as(0);
     m.send_some(1);
     m.send_round();
     m.send_stop(words, words);
     m.send_abort();
     m.send_take(bytes, 1, nullptr);
+    m.send_tell({});
     m.send_left(nullptr);
     m.save(bytes, 1, nullptr);
     m.arrive(nullptr);
