@@ -26,6 +26,7 @@ void *__libc_calloc(size_t count, size_t size);
 void *__libc_realloc(void *at, size_t size);
 void __libc_free(void *at);
 
+static int is_told;     /* whether a machine is sent whose host tells the digest */
 static int refuses;     /* whether each request for memory is refused */
 
 void *malloc(size_t size) { return refuses ? NULL : __libc_malloc(size); }
@@ -76,7 +77,7 @@ static vmig_machine in_state(int state)
     }
     if (state == FAILED) expect("another stream", vmig_feed(&m, stream, 100), VMIG_STREAM_BAD_SHAPE);
     if (state >= IDLE) make_one(&m);
-    if (state >= SENDING && state != LENT) expect("begin", vmig_send_begin(&m), VMIG_OK);
+    if (state >= SENDING && state != LENT) expect("begin", vmig_send_begin_as(&m, is_told ? VMIG_TOLD : 0), VMIG_OK);
     if (state == SEND_FAILED || state == SEND_FAILED_LENT) fail_to_send(&m);
     if (state == STOPPED) expect("stop", vmig_send_stop(&m, &pages, &sectors), VMIG_OK);
     if (state >= LENT) expect("lend", vmig_lend(&m, &out), VMIG_OK);
@@ -180,12 +181,14 @@ static vmig_status sync_failed(vmig_machine *m, int bad) { return vmig_sync_fail
 static vmig_status sector_read(vmig_machine *m, int bad) { return vmig_sector_read(m, DISK, bad ? 7 : 0, bytes); }
 static vmig_status save(vmig_machine *m, int bad) { size_t len; return vmig_save(m, bytes, bad ? 0 : sizeof bytes, &len); }
 static vmig_status send_begin(vmig_machine *m, int bad) { (void)bad; return vmig_send_begin(m); }
+static vmig_status send_begin_as(vmig_machine *m, int bad) { return vmig_send_begin_as(m, bad ? 3 : VMIG_TOLD); }
 static vmig_status send_some(vmig_machine *m, int bad) { return vmig_send_some(m, bad ? 0 : 1); }
 static vmig_status send_round(vmig_machine *m, int bad) { (void)bad; return vmig_send_round(m); }
 static vmig_status send_stop(vmig_machine *m, int bad) { uint64_t pages, sectors; (void)bad; return vmig_send_stop(m, &pages, &sectors); }
 static vmig_status send_abort(vmig_machine *m, int bad) { (void)bad; return vmig_send_abort(m); }
 static vmig_status send_left(vmig_machine *m, int bad) { vmig_left left; (void)bad; return vmig_send_left(m, &left); }
 static vmig_status send_take(vmig_machine *m, int bad) { size_t got; return vmig_send_take(m, bytes, bad ? 0 : sizeof bytes, &got); }
+static vmig_status send_tell(vmig_machine *m, int bad) { (void)bad; return vmig_send_tell(m, bytes); }
 
 /* A call of an idle machine, and of one that is sent, that answers DONE there, with what it answers in the other states. */
 #define NO_MACHINE_YET VMIG_NO_MACHINE, VMIG_NO_MACHINE, VMIG_NO_MACHINE
@@ -243,12 +246,14 @@ static const Row ROWS[] = {
     {"vmig_sector_read", sector_read, OF_IDLE},
     {"vmig_save", save, OF_IDLE},
     {"vmig_send_begin", send_begin, {NO_MACHINE_YET, VMIG_OK, VMIG_SENDING, VMIG_SEND_FAILED, VMIG_STOPPED, WHILE_LENT}},
+    {"vmig_send_begin_as", send_begin_as, {NO_MACHINE_YET, VMIG_OK, VMIG_SENDING, VMIG_SEND_FAILED, VMIG_STOPPED, WHILE_LENT}},
     {"vmig_send_some", send_some, OF_SENDER(VMIG_OK)},
     {"vmig_send_round", send_round, OF_SENDER(VMIG_ROUND_OPEN)},
     {"vmig_send_stop", send_stop, OF_SENDER(VMIG_OK)},
     {"vmig_send_abort", send_abort, {NO_MACHINE_YET, VMIG_NOT_SENDING, VMIG_OK, VMIG_OK, VMIG_OK, WHILE_LENT}},
     {"vmig_send_left", send_left, OF_SENT(VMIG_OK)},
     {"vmig_send_take", send_take, OF_SENT(VMIG_OK)},
+    {"vmig_send_tell", send_tell, {NO_MACHINE_YET, VMIG_NOT_SENDING, VMIG_NOT_ASKED, VMIG_NOT_ASKED, VMIG_NOT_ASKED, WHILE_LENT}},
 };
 
 /* The handle is as it is described. Its lines can be read in each state. */
@@ -266,40 +271,52 @@ static void is_described(const char *what, const vmig_machine *m, int state)
     expect("lines", vmig_lines(m), state >= IDLE);
 }
 
+/* A digest is asked for once a machine was stopped, where its host tells it. */
+static vmig_status wanted_of(const Row *row, int state)
+{
+    return is_told && row->call == send_tell && state == STOPPED ? VMIG_OK : row->wanted[state];
+}
+
 /* A call that the state refuses changes nothing. */
 static void refuses_so(const char *what, const Row *row, int state, int bad)
 {
     vmig_machine m = in_state(state);
     vmig_description before = description_of(&m), after;
 
-    expect(what, row->call(&m, bad), row->wanted[state]);
+    expect(what, row->call(&m, bad), wanted_of(row, state));
     after = description_of(&m);
     expect(what, (uint64_t)memcmp(&before, &after, sizeof before), 0);
     if (state >= LENT) expect("it is still lent", give_back_all(&m, &out), VMIG_OK);
     vmig_free(&m);
 }
 
+/* A call in each state. */
+static void in_each_state(const Row *row)
+{
+    char what[80];
+
+    for (int state = NONE; state < STATES; state++) {
+        vmig_machine m = in_state(state);
+        snprintf(what, sizeof what, "%s of %s%s", row->name, STATE_NAMES[state], is_told ? ", told" : "");
+        is_described(what, &m, state);
+        expect(what, row->call(&m, 0), wanted_of(row, state));
+        if (state >= LENT && out.at != NULL) expect("it is still lent", give_back_all(&m, &out), VMIG_OK);
+        vmig_free(&m);
+        expect("freed", m.at != NULL, 0);
+        if (!vmig_refused(wanted_of(row, state))) continue;
+        refuses_so(what, row, state, 0);
+        refuses_so(what, row, state, 1);
+    }
+}
+
 int main(void)
 {
     vmig_machine source = VMIG_NONE;
-    char what[80];
 
     make_one(&source);
     expect("save", vmig_save(&source, stream, sizeof stream, &stream_len), VMIG_OK);
     vmig_free(&source);
-    for (size_t row = 0; row < sizeof ROWS / sizeof *ROWS; row++) {
-        for (int state = NONE; state < STATES; state++) {
-            vmig_machine m = in_state(state);
-            snprintf(what, sizeof what, "%s of %s", ROWS[row].name, STATE_NAMES[state]);
-            is_described(what, &m, state);
-            expect(what, ROWS[row].call(&m, 0), ROWS[row].wanted[state]);
-            if (state >= LENT && out.at != NULL) expect("it is still lent", give_back_all(&m, &out), VMIG_OK);
-            vmig_free(&m);
-            expect("freed", m.at != NULL, 0);
-            if (!vmig_refused(ROWS[row].wanted[state])) continue;
-            refuses_so(what, &ROWS[row], state, 0);
-            refuses_so(what, &ROWS[row], state, 1);
-        }
-    }
+    for (is_told = 0; is_told < 2; is_told++)
+        for (size_t row = 0; row < sizeof ROWS / sizeof *ROWS; row++) in_each_state(&ROWS[row]);
     return ended("states");
 }

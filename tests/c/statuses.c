@@ -362,7 +362,7 @@ static void no_stream_within(void)
 
 static void names(void)
 {
-    static const uint32_t unknown[] = {6, 13, 14, 16, 19, 31, 32, 46, 50, 63, 64, 74, 75, 83, 255, UINT32_MAX};
+    static const uint32_t unknown[] = {6, 13, 14, 16, 19, 32, 46, 50, 63, 64, 74, 75, 83, 255, UINT32_MAX};
     uint32_t known = 0;
 
     expect("name of a success", (uint64_t)strcmp(vmig_status_name(VMIG_OK), "VMIG_OK"), 0);
@@ -373,7 +373,7 @@ static void names(void)
         expect("refused", (uint64_t)vmig_refused(status), status >= 1 && status <= 63);
     }
     expect("refused", (uint64_t)vmig_refused(UINT32_MAX), 0);
-    expect("statuses that have a name", known, 58);
+    expect("statuses that have a name", known, 59);
     for (size_t i = 0; i < sizeof unknown / sizeof *unknown; i++)
         expect("no name", (uint64_t)strcmp(vmig_status_name(unknown[i]), "unknown status"), 0);
 }
