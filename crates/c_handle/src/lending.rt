@@ -120,7 +120,9 @@ fn lent_still<D: Disk>(machine: Machine<D>) -> Result<(Region, Parked<D>), Machi
 }
 
 /// Lends the RAM of a machine that is being migrated.
-fn lent_live<D: Disk, W: Digesting>(live: LiveOver<D, W>) -> Result<(Region, LiveParked<D, W>), LiveOver<D, W>>
+fn lent_live<D: Disk, W: Digesting>(
+    live: LiveOver<D, W>,
+) -> Result<(Region, LiveParked<D, W>), LiveOver<D, W>>
     ensures lent { IfOk result (λ r. IsLiveLoan live r.0 r.1) }
     ensures own { IfErr result (λ l. live.machine.memory.place ≡ None) }
     ensures same { IfErr result (λ l. l ≡ live) }

@@ -275,7 +275,12 @@ pub fn stop(kept: &mut Kept, pages: &mut u64, sectors: &mut u64) -> u32
     )
 }
 
-fn stop_unless<D: Disk, W: Digesting>(out: bool, live: &mut LiveOver<D, W>, pages: &mut u64, sectors: &mut u64) -> u32
+fn stop_unless<D: Disk, W: Digesting>(
+    out: bool,
+    live: &mut LiveOver<D, W>,
+    pages: &mut u64,
+    sectors: &mut u64,
+) -> u32
     ensures { StopsUnless out live.old result pages.new pages.old sectors.new sectors.old live.new }
 {
     if out {
@@ -285,7 +290,11 @@ fn stop_unless<D: Disk, W: Digesting>(out: bool, live: &mut LiveOver<D, W>, page
 }
 
 #[tactic(auto, using(crate::proofs::Migration::stopped))]
-fn stop_status<D: Disk, W: Digesting>(live: &mut LiveOver<D, W>, pages: &mut u64, sectors: &mut u64) -> u32
+fn stop_status<D: Disk, W: Digesting>(
+    live: &mut LiveOver<D, W>,
+    pages: &mut u64,
+    sectors: &mut u64,
+) -> u32
     ensures { HasStopped live.old result pages.new pages.old sectors.new sectors.old live.new }
 {
     live.recall();
