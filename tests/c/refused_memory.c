@@ -52,6 +52,7 @@ void free(void *at)
 
 static uint32_t answer;     /* of the last call */
 static int told;            /* how many calls said that memory was refused */
+static uint32_t flags;      /* of a migration */
 
 static uint32_t ended_call(void)
 {
@@ -207,7 +208,7 @@ static int migrate(vmig_machine *m)
 {
     uint64_t pages, sectors;
 
-    CALL_AGAIN("begin", vmig_send_begin(m), VMIG_OK);
+    CALL_AGAIN("begin", flags == 0 ? vmig_send_begin(m) : vmig_send_begin_as(m, flags), VMIG_OK);
     look(m, 1);
     while (CALL(vmig_send_some(m, 3)) == VMIG_OK) continue;
     if (answer == VMIG_SEND_FAILED) return 1;
@@ -238,15 +239,32 @@ static void give_up(vmig_machine *m)
     expect("abort", CALL(vmig_send_abort(m)), VMIG_OK);
 }
 
-static size_t take_all(vmig_machine *m, uint8_t *stream)
+static size_t take_from(vmig_machine *m, uint8_t *stream, size_t len)
 {
-    size_t len = 0, got = 1;
+    size_t got = 1;
 
     while (got != 0) {
         expect("take", CALL(vmig_send_take(m, stream + len, STREAM_MAX - len, &got)), VMIG_OK);
         len += got;
     }
     return len;
+}
+
+/* The whole stream. Where the host tells its digest that takes no memory. */
+static size_t take_all(vmig_machine *m, uint8_t *stream)
+{
+    size_t len = take_from(m, stream, 0);
+    uint64_t before = requests;
+    vmig_digest digest;
+    uint8_t out[32];
+
+    if (flags != VMIG_TOLD) return len;
+    vmig_digest_begin(&digest);
+    vmig_digest_add(&digest, stream, len);
+    vmig_digest_end(&digest, out);
+    expect("tell", CALL(vmig_send_tell(m, out)), VMIG_OK);
+    expect("requests for memory", requests, before);
+    return take_from(m, stream, len);
 }
 
 /* Feeds a stream in pieces. Returns whether memory was refused. The end of a stream takes none. */
@@ -403,7 +421,8 @@ static uint64_t play(uint64_t refused)
     return requests;
 }
 
-int main(void)
+/* The script with each request refused in turn. */
+static void refuse_each(void)
 {
     uint64_t all = play(0);
 
@@ -415,5 +434,12 @@ int main(void)
         }
     }
     printf("requests refused, one in turn: %llu\n", (unsigned long long)all);
+}
+
+int main(void)
+{
+    refuse_each();
+    flags = VMIG_TOLD;
+    refuse_each();
     return ended("refused_memory");
 }
