@@ -8,7 +8,7 @@
 //! says which disks they are. What is seen of a machine has the sectors of its disks, and not where they lie, so with one type for both a
 //! `vmig_release` that gave no image back would meet its clause. What arrives is beside them: it has no disks before its header is whole.
 //!
-//! `by_state` has the states once: a call names two or three answers in place of seven cases. It is a macro, and no function of a generic type
+//! `by_state` has the states once: a call names two or three answers in place of nine cases. It is a macro, and no function of a generic type
 //! that each call would have beside its own, with a contract that says the same.
 
 ghost use Rattle.c_handle.specs.Kept.{admission_of, places_for, unasked};
@@ -70,9 +70,9 @@ macro_rules! on_disks {
     };
 }
 
-/// What a call answers in each state: of a machine that is not being migrated, and of one that is, whatever its disks; of one whose RAM is
-/// lent, which is a status if nothing else is said, and has two answers for a call that needs no RAM; and where one arrives, which is none
-/// yet.
+/// What a call answers in each state: of a machine that is not being migrated, and of one that is, whatever its disks, and whoever makes the
+/// digest unless that is said apart; of one whose RAM is lent, which is a status if nothing else is said, and has two answers for a call that
+/// needs no RAM; and where one arrives, which is none yet.
 macro_rules! by_state {
     ($held:expr; still($machine:pat) => $still:expr, moving($live:pat) => $moving:expr $(,)?) => {
         $crate::kept::by_state!($held; still($machine) => $still, moving($live) => $moving, lent(_) => c_machine::status::LENT)

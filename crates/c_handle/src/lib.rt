@@ -24,6 +24,9 @@
 //!   header of what arrives: no byte that completes it is let in before it was compared with the limits (`specs/Admission`).
 //! - The bytes that were taken, followed by those that wait, are what a machine that is being migrated has written, from its
 //!   first call to its stop, and the machine that arrives from them is that machine: laws over these clauses (`specs/Sent`).
+//! - A host may tell the digest of the stream (`begin_as`, `tell`, `specs/Digest`): all but the record that closes the stream can be taken
+//!   until it does, once, after the stop. Nobody compares what it tells; where it is the digest of what was taken, the machine is sent as
+//!   ever, and the laws hold of it as they stand (`laws::tellings_stay_sent`).
 //! - A caller whose guest runs on hardware keeps the guest's RAM in memory of its own (`specs/Mirror`). `push` is one
 //!   write of a whole page for each page that it hands in, and `pull` copies out each page whose version is not the one
 //!   that the caller noted, or is the greatest. `Mirrors` says that each page whose noted version is the current one is the
