@@ -8,3 +8,6 @@ lent_as-requires-in-Ok-lent_live g c = free_slot (state_in c.args.old) c.in-Movi
 
 pub lent_as-requires : goal.lent_as-requires
 lent_as-requires g c = free_still (state_in c.args.old) c.in-Still.machine c.args.ram.now.content (ap state_in c.in-Still.is) c.requires
+
+pub lent_as-requires-in-Ok-lent_live-2 : goal.lent_as-requires-in-Ok-lent_live-2
+lent_as-requires-in-Ok-lent_live-2 g c = free_slot (state_in c.args.old) c.in-Told.live c.args.ram.now.content (ap state_in c.in-Told.is) c.requires
