@@ -6,7 +6,7 @@ use Rattle.sha2.proofs.Facts256.{length-sha256}
 use Rattle.sha2.specs.Sha256.{sha256}
 use Rattle.machine.specs.State.{MachineState}
 use Rattle.sender.specs.Follows.{AgreesIn, Relates}
-use Rattle.sender.specs.History.{History, phase_of}
+use Rattle.sender.specs.History.{History, phase_of, text}
 use Rattle.sender.specs.LiveState.{LiveSeen}
 use Rattle.sender.specs.Marks.{if_dirty}
 use Rattle.sender.specs.Taking.{untaken}
@@ -14,10 +14,10 @@ use Rattle.sender.specs.Telling.{TakenIsDigested}
 use Rattle.sender.specs.declared.phase.Phase.{Phase}
 use Rattle.sender.specs.declared.phase.Phase.TheVariants as phases
 use Rattle.wire.specs.Records.{commit, spelled_record}
-use Rattle.wire.specs.Sinks.{Digested, SinkState, over_writer}
-use Rattle.wire.specs.Telling.{EndsIn, EndsInstead}
+use Rattle.wire.specs.Sinks.{Covers, Digested, SinkState, undigested, lagging, remembered, over_writer}
+use Rattle.wire.specs.Telling.{EndsIn, EndsInstead, is_owed}
 use Rattle.c_handle.specs.Digest.{HasTold}
-use Rattle.c_handle.specs.Sent.{TellingsStaySent}
+use Rattle.c_handle.specs.Sent.{NoneIsAskedYet, TellingsStaySent}
 
 -- The record of a digest has 33 bytes.
 length-record : (digest : List ℕ) → length (spelled_record (commit digest)) ≡ 1 + length digest
@@ -54,6 +54,15 @@ another_digest m h out d s stopped g = record {
 
 only_digest : (l next : LiveSeen) (digest : List ℕ) (status : ℕ) → HasTold l digest status next → next.out.held ≡ l.out.held → next ≡ record l { digest = next.digest }
 only_digest l next digest status told same = told.rest ∙ ap (λ (b : List ℕ). record l { digest = next.digest; out = record l.out { held = b } }) same
+
+-- What covers known bytes is not owed.
+not_owed : (d : Digested) (bytes : List ℕ) → Covers d bytes → is_owed d ≡ false
+not_owed undigested bytes covers = absurd covers
+not_owed (lagging taken waiting) bytes covers = refl
+not_owed (remembered past owed) bytes covers = covers.1
+
+pub none_is_asked_yet : NoneIsAskedYet
+none_is_asked_yet m h taken pages l b quiet going = not_owed l.digest (text m h) (b.relates.taken quiet going)
 
 pub tellings_stay_sent : TakenIsDigested → TellingsStaySent
 tellings_stay_sent digested m h taken pages digest status l next b sound stopped short told is =

@@ -31,6 +31,7 @@ use Rattle.sender.specs.declared.event.LiveReply.TheVariants as r
 use Rattle.sender.specs.declared.phase.Phase.TheVariants as phases
 use Rattle.wire.specs.Sinks.{Takes, over_writer}
 use Rattle.wire.specs.Stream.{IsStream}
+use Rattle.wire.specs.Telling.{is_owed}
 use Rattle.wire.specs.declared.record_head.TheConstants.{COMMIT_RECORD}
 use Rattle.sha2.specs.Sha256.{sha256}
 use Rattle.c_handle.specs.ArrivalSeen.{ArrivalSeen}
@@ -140,6 +141,10 @@ LentComesBackSent = (m : MachineState) (h : History) (taken pages : List ℕ) (b
 abbrev pub MarksStaySent : Type 0
 MarksStaySent = (m : MachineState) (h : History) (taken pages marks rest : List ℕ) (l : LiveSeen) → IsSent m h taken pages l → HasPlaces l → IsMemory l.machine.memory → l.phase ≢ phases.Stopped → AreBelow (length l.machine.memory.versions) marks
     → AreAmong pages (marks ++ rest) → GoesOnSent m h taken (page_writes (live_base l) marks l.machine.memory.bytes) rest (live_marked l marks)
+
+-- Before a stop no digest is asked for.
+abbrev pub NoneIsAskedYet : Type 0
+NoneIsAskedYet = (m : MachineState) (h : History) (taken pages : List ℕ) (l : LiveSeen) → IsSent m h taken pages l → has_fault h ≡ false → phase_of h ≢ phases.Stopped → is_owed l.digest ≡ false
 
 -- After a stop, a host that took all but the record that closes the stream, and tells the digest of what it took, keeps the machine sent.
 abbrev pub TellingsStaySent : Type 0

@@ -10,7 +10,7 @@ ghost use Rattle.c_handle.specs.Outside.{RefusedAnswersNothing, RefusedHandsNoth
 ghost use Rattle.c_handle.specs.Refused.{RefusedTellsNothing, RefusedWritesNothing};
 ghost use Rattle.c_handle.specs.Stepped.{RefusedStepsNothing};
 ghost use Rattle.c_handle.specs.Turns.{RefusedTurnsNothing, TurnsStaySent};
-ghost use Rattle.c_handle.specs.Sent.{AbortsAfterTakings, ArrivedIsSent, CallsStaySent, FailedFlushesStaySent, FirstIsSent, LentCallsStaySent, LentComesBackSent, LentStepsStaySent, LentTakingsStaySent, MarksStaySent, StoppedIsWhole, TakingsChangeNothingElse, TakingsStaySent, TellingsStaySent};
+ghost use Rattle.c_handle.specs.Sent.{AbortsAfterTakings, ArrivedIsSent, CallsStaySent, FailedFlushesStaySent, FirstIsSent, LentCallsStaySent, LentComesBackSent, LentStepsStaySent, LentTakingsStaySent, MarksStaySent, NoneIsAskedYet, StoppedIsWhole, TakingsChangeNothingElse, TakingsStaySent, TellingsStaySent};
 
 /// A machine over disks in memory stays one.
 pub fn plain_stays()
@@ -140,6 +140,11 @@ pub fn failed_flushes_stay_sent()
 /// What is taken follows what was taken before, and the history stays.
 pub fn takings_stay_sent()
     ensures { TakingsStaySent }
+{}
+
+/// Before a stop no digest is asked for: so a digest that is told then is refused.
+pub fn none_is_asked_yet()
+    ensures { NoneIsAskedYet }
 {}
 
 /// A host that took all but the record that closes the stream, and tells the digest of what it took, keeps the machine sent.
