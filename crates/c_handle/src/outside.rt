@@ -13,7 +13,7 @@ ghost use Rattle.machine.specs.Seen.{state_of};
 ghost use Rattle.machine.specs.declared.event.DiskAnswer.TheVariants as answers;
 ghost use Rattle.machine.specs.declared.machine.TheConstants.{DEVICES_MAX};
 ghost use Rattle.c_handle.specs.DiskCalls.{HandsFrom, HandsUnless, IsAllowed, IsAskedFor, IsOut, MeetsParked, MeetsStill, answer_in, answers_call, asker_lent, asker_of, counted, counts_in, done_as, done_with, filled_with, fits_done, is_durable, is_part, puts_bytes, told_call, what_of};
-ghost use Rattle.c_handle.specs.Kept.{FitsLog, is_lost, loan_of};
+ghost use Rattle.c_handle.specs.Kept.{FitsLog, is_lost, loan_of, loan_told};
 ghost use Rattle.c_handle.specs.Outside.{AnswersKept, HandsKept, Meets, MeetsLent, MeetsLiveParked, MeetsMoving, Unfound, counted_answer, devices_of, is_lent, unfit};
 ghost use Rattle.c_handle.specs.Resetting.{loan_refusal, state_refusal};
 
@@ -441,7 +441,8 @@ fn meet_lent<D: Disk>(loan: &mut Loan<D>, place: Place, calls: &CallsOut, given:
     requires none { puts_bytes (answer_in given) ≡ false }
     requires goes { loan_refusal (loan_of loan.old) ≡ None }
     requires there { place.dev < DEVICES_MAX }
-    ensures { MeetsLent place (answer_in given.entry) (loan_of loan.old) (loan_of loan.new) }
+    ensures meets { MeetsLent place (answer_in given.entry) (loan_of loan.old) (loan_of loan.new) }
+    ensures told { loan_told loan.new ≡ loan_told loan.old }
 {
     match loan {
         Loan::Still(parked) => {
