@@ -41,6 +41,7 @@ mod Resets
 mod SamePages
 mod Sending
 mod Sent
+mod ServedPages
 mod Streams
 mod Telling
 mod ToldSent

@@ -6,7 +6,8 @@ ghost use Rattle.std.specs.Prelude.{◌≡◌, length};
 ghost use Rattle.machine.specs.declared.event.Event.TheVariants as events;
 ghost use Rattle.c_handle.specs.Dropping.{WritesReg};
 ghost use Rattle.c_handle.specs.Kept.{FitsLog};
-ghost use Rattle.c_handle.specs.Told.{IsServedWrite, IsWritten, ReadsKept, Tells, TellsOr, TellsSo, WritesKept, lines_in};
+ghost use Rattle.sender.specs.declared.event.LiveEvent.TheVariants.{Guest};
+ghost use Rattle.c_handle.specs.Told.{IsServed, IsServedLent, IsServedWrite, IsWritten, ReadsKept, Tells, TellsOr, TellsSo, WritesKept, lines_in};
 ghost use Rattle.c_handle.specs.declared.serving.TheConstants.{NO_BYTE};
 
 use crate::dropping::drops_out;
@@ -16,7 +17,7 @@ use crate::logging::live_written;
 use crate::stepping::reply_status;
 use c_machine::status::{CALLS_OUT, DONE, answer_status, done_status, written_status};
 use machine::{Disk, Machine, PageLog};
-use sender::LiveOver;
+use sender::{LiveOver, LiveParked};
 use wire::Digesting;
 
 /// The number of no byte.
@@ -191,41 +192,75 @@ fn put_in(kept: &mut Kept, dev: u8, bytes: &[u8], accepted: &mut u32) -> u32
 }
 
 /// The host sets the size of a console.
-#[tactic(auto, using(crate::proofs::ByState::each_still, crate::proofs::ByState::each_moving, crate::proofs::ByState::each_still_lent, crate::proofs::ByState::each_moving_lent, crate::proofs::ByKept::told_so, crate::proofs::ByKept::resized, crate::proofs::ByKept::few_told, crate::proofs::ByParked::told_so, crate::proofs::ByParked::resized, crate::proofs::ByParked::few_told, crate::proofs::SamePages::applied, crate::proofs::SamePages::served, crate::proofs::SamePages::applied_lent, crate::proofs::SamePages::served_lent))]
+#[tactic(auto, using(crate::proofs::ByState::each_still, crate::proofs::ByState::each_moving, crate::proofs::ByState::each_still_lent, crate::proofs::ByState::each_moving_lent, crate::proofs::ByKept::told_so, crate::proofs::ByParked::told_so, crate::proofs::SamePages::applied, crate::proofs::ServedPages::served_so, crate::proofs::SamePages::applied_lent, crate::proofs::ServedPages::served_lent_so))]
 pub fn resize(kept: &mut Kept, dev: u8, cols: u16, rows: u16) -> u32
     ensures told { TellsSo kept.old.state (events.Resize dev cols rows) result kept.new.state }
     ensures kind { kept.new ≡ record kept.old { state = kept.new.state } }
 {
     by_state!(&mut kept.held;
         still(machine) => done_status(machine.resize(dev, cols, rows)),
-        moving(live) => {
-            live.recall();
-            reply_status(live.resize(dev, cols, rows), &mut 0)
-        },
+        moving(live) => resize_moving(live, dev, cols, rows),
         still_lent(parked) => done_status(parked.resize(dev, cols, rows)),
-        moving_lent(live) => {
-            live.parked().recall();
-            reply_status(live.resize(dev, cols, rows), &mut 0)
-        },
+        moving_lent(live) => resize_moving_lent(live, dev, cols, rows),
     )
 }
 
+/// As above, for a machine that is being migrated.
+#[tactic(auto, using(crate::proofs::ByKept::resized, crate::proofs::ByKept::few_told))]
+fn resize_moving<D: Disk, W: Digesting>(
+    live: &mut LiveOver<D, W>,
+    dev: u8,
+    cols: u16,
+    rows: u16,
+) -> u32
+    ensures { IsServed live.old (Guest (events.Resize dev cols rows)) result 0 0 live.new }
+{
+    live.recall();
+    reply_status(live.resize(dev, cols, rows), &mut 0)
+}
+
+/// So it is while its RAM is lent.
+#[tactic(auto, using(crate::proofs::ByParked::resized, crate::proofs::ByParked::few_told))]
+fn resize_moving_lent<D: Disk, W: Digesting>(
+    live: &mut LiveParked<D, W>,
+    dev: u8,
+    cols: u16,
+    rows: u16,
+) -> u32
+    ensures { IsServedLent live.old (events.Resize dev cols rows) result 0 0 live.new }
+{
+    live.parked().recall();
+    reply_status(live.resize(dev, cols, rows), &mut 0)
+}
+
 /// The host drops what it put in and the guest has not taken.
-#[tactic(auto, using(crate::proofs::ByState::each_still, crate::proofs::ByState::each_moving, crate::proofs::ByState::each_still_lent, crate::proofs::ByState::each_moving_lent, crate::proofs::ByKept::told_so, crate::proofs::ByKept::dropped, crate::proofs::ByKept::few_told, crate::proofs::ByParked::told_so, crate::proofs::ByParked::dropped, crate::proofs::ByParked::few_told, crate::proofs::SamePages::applied, crate::proofs::SamePages::served, crate::proofs::SamePages::applied_lent, crate::proofs::SamePages::served_lent))]
+#[tactic(auto, using(crate::proofs::ByState::each_still, crate::proofs::ByState::each_moving, crate::proofs::ByState::each_still_lent, crate::proofs::ByState::each_moving_lent, crate::proofs::ByKept::told_so, crate::proofs::ByParked::told_so, crate::proofs::SamePages::applied, crate::proofs::ServedPages::served_so, crate::proofs::SamePages::applied_lent, crate::proofs::ServedPages::served_lent_so))]
 pub fn drop_input(kept: &mut Kept, dev: u8) -> u32
     ensures told { TellsSo kept.old.state (events.Drop dev) result kept.new.state }
     ensures kind { kept.new ≡ record kept.old { state = kept.new.state } }
 {
     by_state!(&mut kept.held;
         still(machine) => done_status(machine.drop_input(dev)),
-        moving(live) => {
-            live.recall();
-            reply_status(live.drop_input(dev), &mut 0)
-        },
+        moving(live) => drop_moving(live, dev),
         still_lent(parked) => done_status(parked.drop_input(dev)),
-        moving_lent(live) => {
-            live.parked().recall();
-            reply_status(live.drop_input(dev), &mut 0)
-        },
+        moving_lent(live) => drop_moving_lent(live, dev),
     )
+}
+
+/// As above, for a machine that is being migrated.
+#[tactic(auto, using(crate::proofs::ByKept::dropped, crate::proofs::ByKept::few_told))]
+fn drop_moving<D: Disk, W: Digesting>(live: &mut LiveOver<D, W>, dev: u8) -> u32
+    ensures { IsServed live.old (Guest (events.Drop dev)) result 0 0 live.new }
+{
+    live.recall();
+    reply_status(live.drop_input(dev), &mut 0)
+}
+
+/// So it is while its RAM is lent.
+#[tactic(auto, using(crate::proofs::ByParked::dropped, crate::proofs::ByParked::few_told))]
+fn drop_moving_lent<D: Disk, W: Digesting>(live: &mut LiveParked<D, W>, dev: u8) -> u32
+    ensures { IsServedLent live.old (events.Drop dev) result 0 0 live.new }
+{
+    live.parked().recall();
+    reply_status(live.drop_input(dev), &mut 0)
 }
