@@ -1,6 +1,5 @@
 /* The carrier of a move, a thread: it connects the line, or makes the file of a guest that is saved, and while the
- * guest runs it alone sends and hears there.
- * What waits in the machine is digested as it is taken. */
+ * guest runs it alone sends, digests and hears there. */
 #define _DEFAULT_SOURCE
 #include <poll.h>
 #include <string.h>
@@ -10,8 +9,8 @@
 #include "saved.h"
 #include "terminal.h"
 
-/* What the carrier takes at once, for whose digest the library is its own, 0.1 ms. */
-enum { PIECE = 16384 };
+/* What the carrier takes at once where the library digests it then, for 0.1 ms; else all that a frame holds. */
+enum { OWN_PIECE = 16384 };
 
 static const char BROKEN[] = "the line is broken";
 
@@ -62,6 +61,12 @@ static const char *send_frame(struct line *l)
     return why;
 }
 
+void begin_piece(struct host *h, const uint8_t *bytes, size_t length)
+{
+    if (!h->options.digest_is_own) digest_add(&h->move.digest, bytes, length);
+    line_begin(&h->move.line, STREAM, bytes, length);
+}
+
 /* Waits for the bell, and hears what the target says meanwhile. */
 static const char *await_more(struct line *l)
 {
@@ -71,18 +76,18 @@ static const char *await_more(struct line *l)
 /* With the lock, which is free while it sends or waits. Returns why the move is over, or NULL. */
 static const char *carry_some(struct host *h)
 {
-    static uint8_t bytes[PIECE];
+    static uint8_t bytes[BODY_MAX];
     struct move *m = &h->move;
     struct line *l = &m->line;
-    size_t got = 0;
+    size_t got = 0, most = h->options.digest_is_own ? OWN_PIECE : BODY_MAX;
     const char *why;
 
     if (m->is_sending && l->out_at == l->out_length)
-        must(vmig_send_take(&h->machine, bytes, sizeof bytes, &got), "vmig_send_take");
+        must(vmig_send_take(&h->machine, bytes, most, &got), "vmig_send_take");
     m->is_carried = got == 0 && l->out_at == l->out_length;
     if (m->is_carried) call_out(h);
     unlock_library(h);
-    if (got > 0) line_begin(l, STREAM, bytes, got);
+    if (got > 0) begin_piece(h, bytes, got);
     why = l->out_at == l->out_length ? await_more(l) : send_frame(l);
     lock_library(h);
     return why;

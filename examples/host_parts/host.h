@@ -7,6 +7,7 @@
 #include <pthread.h>
 #include <stdatomic.h>
 #include "devices.h"
+#include "digest.h"
 #include "guest.h"
 #include "line.h"
 #include "network.h"
@@ -35,7 +36,8 @@ struct move {
     atomic_int is_carried;       /* it has met it, and has nothing to take */
     atomic_int is_broken;        /* it has ended: `why` says why */
     const char *why;
-    int is_on, is_sending;       /* a move is on; vmig_send_begin was called */
+    int is_on, is_sending;       /* a move is on; vmig_send_begin_as was called */
+    struct digest digest;        /* of what was taken of the stream, by whoever takes: unless --digest own is given */
     int is_stopped;              /* vmig_send_stop was called */
     int round_is_sent;
     unsigned pauses;             /* how often the guest was paused */
@@ -179,6 +181,8 @@ void leave_line(struct host *h, const char *why);
 
 /* carrier.c: begins the thread of the line. Returns why there is none, or NULL. */
 const char *begin_carrier(struct host *h);
+/* Begins the frame of bytes that were taken of the stream. They are digested here, without the lock. */
+void begin_piece(struct host *h, const uint8_t *bytes, size_t length);
 /* It has something to take. */
 void wake_carrier(struct host *h);
 /* It ends, and the line belongs to who calls this. A frame may be sent in part. */

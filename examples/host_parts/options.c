@@ -27,6 +27,12 @@ static void add_disk(struct options *o, const char *option, const char *word)
     o->disks[o->count_disks++] = (struct disk_option){word, strcmp(option, "--mapped") == 0};
 }
 
+static int is_own(const char *option, const char *word)
+{
+    if (strcmp(word, "own") != 0 && strcmp(word, "beside") != 0) misused("it is own or beside", option);
+    return strcmp(word, "own") == 0;
+}
+
 static int is_to_stop(const char *option, const char *word)
 {
     if (strcmp(word, "stop") != 0 && strcmp(word, "tell") != 0) misused("it is stop or tell", option);
@@ -63,6 +69,7 @@ static void take_word(struct options *o, const char *option, const char *word)
     if (text != NULL) *text = word;
     else if (strcmp(option, "--disk") == 0 || strcmp(option, "--mapped") == 0) add_disk(o, option, word);
     else if (strcmp(option, "--disk-errors") == 0) o->stops_on_error = is_to_stop(option, word);
+    else if (strcmp(option, "--digest") == 0) o->digest_is_own = is_own(option, word);
     else if (strcmp(option, "--mem") == 0) o->mib = number_of(option, word, 1, RAM_MIB_MAX);
     else if (strcmp(option, "--mtu") == 0) o->mtu = number_of(option, word, MTU_MIN, MTU_MAX);
     else if (strcmp(option, "--rounds") == 0) o->rounds = number_of(option, word, 1, 1000000);

@@ -149,7 +149,9 @@ static const char *begin_sending(struct host *h)
     const char *why;
 
     take_ram(h);
-    if (vmig_send_begin(&h->machine) != VMIG_OK) return OUT_OF_MEMORY;
+    why = h->options.digest_is_own ? NULL : digest_begin(&h->move.digest);
+    if (why != NULL) return why;
+    if (vmig_send_begin_as(&h->machine, h->options.digest_is_own ? 0 : VMIG_TOLD) != VMIG_OK) return OUT_OF_MEMORY;
     h->move.is_sending = 1;
     line_be_patient(&h->move.line);
     begin_round(h, 1);
@@ -164,7 +166,7 @@ static int begin_stream(struct host *h)
     size_t got = 0;
 
     must(vmig_send_take(&h->machine, bytes, sizeof bytes, &got), "vmig_send_take");
-    if (got > 0) line_begin(&h->move.line, STREAM, bytes, got);
+    if (got > 0) begin_piece(h, bytes, got);
     return got > 0;
 }
 
@@ -234,6 +236,18 @@ static const char *send_last_round(struct host *h)
     return vmig_refused(status) ? OUT_OF_MEMORY : why;
 }
 
+/* All of the stream was sent but for the record that closes it, which has its digest. Returns why the digest is not
+ * there, or NULL. */
+static const char *tell_digest(struct host *h)
+{
+    uint8_t digest[SHA256_LENGTH];
+
+    if (h->options.digest_is_own) return NULL;
+    if (!digest_end(&h->move.digest, digest)) return "the stream could not be digested";
+    must(vmig_send_tell(&h->machine, digest), "vmig_send_tell");
+    return send_waiting(h);
+}
+
 /* The guest is outside for good: its registers are read, and then the log once more, as reading them may write RAM. */
 static const char *read_state(struct host *h, uint8_t state[BODY_MAX], size_t *length)
 {
@@ -277,6 +291,7 @@ static const char *send_rest(struct host *h)
     h->move.is_stopped = 1;
     if (vmig_send_stop(&h->machine, &pages, &sectors) != VMIG_OK) return OUT_OF_MEMORY;
     why = send_waiting(h);
+    if (why == NULL) why = tell_digest(h);
     if (why != NULL) return why;
     if (!line_send(l, STATE, state, length) || !line_send_end(l, devices_lost(&h->devices))) return why_not(h);
     return l->is_file ? saved_close(l) : await_ready(h);

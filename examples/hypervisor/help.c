@@ -38,6 +38,8 @@ const char HELP[] =
     "  --max-tries N      the move ends once that was so N times: 3 unless it is given\n"
     "  --word FILE        the first line of this file, of at most 64 bytes, is a word by which both ends of a\n"
     "                     move know each other\n"
+    "  --digest own|beside  the library digests what is moved, or a thread of this program does, beside the guest:\n"
+    "                     that, unless it is given\n"
     "  --few N            and pauses it earlier where at most N pages and sectors are left: 256 unless it is\n"
     "                     given\n"
     "  --no-reboot        a guest that asks for a reboot ends\n"

@@ -28,6 +28,22 @@ impl Machine {
         done(unsafe { raw::vmig_send_begin(&mut self.held) }).map(drop)
     }
 
+    /// As [`Machine::send_begin`], but the library digests nothing: the host digests what it takes, as on a thread of its own, and tells the
+    /// digest by [`Machine::send_tell`] after the stop.
+    pub fn send_begin_told(&mut self) -> Result<(), Error> {
+        // SAFETY: as above.
+        done(unsafe { raw::vmig_send_begin_as(&mut self.held, raw::TOLD) }).map(drop)
+    }
+
+    /// The SHA-256 of all bytes of a stream but the last 33, in their order. These can be taken after it. Nobody compares it here: whoever
+    /// receives the stream refuses another one ([`Error::StreamBadDigest`]), and the machine is still here.
+    ///
+    /// `NotAsked` without [`Machine::send_begin_told`], before the stop, and of a second one.
+    pub fn send_tell(&mut self, digest: &[u8; 32]) -> Result<(), Error> {
+        // SAFETY: as above, and the array is valid for the call.
+        done(unsafe { raw::vmig_send_tell(&mut self.held, digest) }).map(drop)
+    }
+
     /// Copies up to `most` of the pages and sectors that are due in this round. Whether something is due after it. Their bytes wait until they
     /// are taken, and are digested then.
     pub fn send_some(&mut self, most: u32) -> Result<bool, Error> {
@@ -44,7 +60,8 @@ impl Machine {
     }
 
     /// Copies all that is left, and closes the stream: how many pages and sectors it copied. The guest is paused from here on. Take what waits
-    /// before it: what was not taken is digested in this call, while the guest stands. `CallsOut`: a call of a disk is out ([`Machine::disk_call`]).
+    /// before it: what was not taken is digested in this call, while the guest stands, unless the host tells the digest. `CallsOut`: a call of a
+    /// disk is out ([`Machine::disk_call`]).
     pub fn send_stop(&mut self) -> Result<(u64, u64), Error> {
         let (mut pages, mut sectors) = (0, 0);
         // SAFETY: as above.
@@ -67,7 +84,8 @@ impl Machine {
         Ok(Left { due_pages, due_sectors, dirty_pages, dirty_sectors, stop_bytes })
     }
 
-    /// Takes the first of the bytes that wait, as many as the buffer holds, and tells how many these are.
+    /// Takes the first of the bytes that wait, as many as the buffer holds, and tells how many these are. Where the host tells the digest, and
+    /// has not told it yet, the last 33 bytes of the stream are not among them.
     pub fn send_take(&mut self, buf: &mut [u8]) -> Result<usize, Error> {
         let mut got = 0;
         // SAFETY: as above, and the slice is valid for the call.
