@@ -64,6 +64,7 @@ static const char *send_frame(struct line *l)
 void begin_piece(struct host *h, const uint8_t *bytes, size_t length)
 {
     if (!h->options.digest_is_own) digest_add(&h->move.digest, bytes, length);
+    h->move.sent += length;
     line_begin(&h->move.line, STREAM, bytes, length);
 }
 

@@ -44,6 +44,8 @@ struct move {
     uint64_t until;              /* when the pause has to be over */
     uint32_t round;
     uint64_t pages, sectors;     /* that the round sends */
+    _Atomic uint64_t sent;       /* bytes of the stream that were put on the line */
+    uint64_t sent_before, round_began, renewed;  /* as the round began; when it did; and when progress was said last */
     uint64_t least;              /* the least that a round left */
     int stalls;                  /* how many rounds left hardly less than that, one after another */
 };
@@ -189,6 +191,10 @@ void wake_carrier(struct host *h);
 void end_carrier(struct host *h);
 /* What came on the line while nothing is awaited, without waiting: why the move is over, or NULL. */
 const char *line_says(struct line *l);
+
+/* progress.c: a round begins; and how far it is, now and then. RAM is not lent. */
+void begin_progress(struct host *h);
+void say_progress(struct host *h);
 
 /* target.c: waits for a guest that is moved here, or takes one that was saved, and returns when it is to run. */
 void host_receive(struct host *h);

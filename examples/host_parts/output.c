@@ -50,6 +50,7 @@ static size_t write_some(size_t from, size_t length)
     ssize_t put;
 
     poll(&out, 1, -1);
+    say_no_more();
     put = write(STDOUT_FILENO, output.bytes + from, length);
     if (put < 0 && (errno == EINTR || errno == EAGAIN)) return 0;
     return put < 0 ? length : (size_t)put;

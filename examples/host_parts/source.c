@@ -119,6 +119,7 @@ static void begin_round(struct host *h, uint32_t number)
     h->move.round_is_sent = 0;
     h->move.pages = left.due_pages;
     h->move.sectors = left.due_sectors;
+    begin_progress(h);
 }
 
 /* Begins a move: the carrier meets the target. Returns why there is none, or NULL. */
@@ -182,6 +183,7 @@ static const char *copy_some(struct host *h)
     while (status == VMIG_OK && clock_nanoseconds() < end);
     if (vmig_refused(status)) return OUT_OF_MEMORY;
     m->round_is_sent = status == VMIG_ROUND_DONE;
+    say_progress(h);
     m->is_carried = 0;
     wake_carrier(h);
     return NULL;

@@ -1,6 +1,7 @@
 #define _DEFAULT_SOURCE
 #include <errno.h>
 #include <stdarg.h>
+#include <stdatomic.h>
 #include <stdio.h>
 #include <stdlib.h>
 #include <sys/eventfd.h>
@@ -157,12 +158,16 @@ int terminal_size(uint16_t *columns, uint16_t *rows)
     return 1;
 }
 
-static void say_line(const char *format, va_list values)
+/* What was said is still in the line of the cursor: the next words take its place. */
+static atomic_int is_renewed;
+
+/* `renews` leaves the cursor in the line. */
+static void say_line(const char *format, va_list values, int renews)
 {
     char line[512];
-    int length = vsnprintf(line, sizeof line, format, values);
+    int length = vsnprintf(line, sizeof line, format, values), was = atomic_exchange(&is_renewed, renews);
 
-    if (length >= 0) fprintf(stderr, "hypervisor: %s\n", line);
+    if (length >= 0) fprintf(stderr, "%shypervisor: %s%s", was ? "\r\033[K" : "", line, renews ? "" : "\n");
 }
 
 void say(const char *format, ...)
@@ -170,8 +175,22 @@ void say(const char *format, ...)
     va_list values;
 
     va_start(values, format);
-    say_line(format, values);
+    say_line(format, values, 0);
     va_end(values);
+}
+
+void say_again(const char *format, ...)
+{
+    va_list values;
+
+    va_start(values, format);
+    say_line(format, values, 1);
+    va_end(values);
+}
+
+void say_no_more(void)
+{
+    if (atomic_exchange(&is_renewed, 0)) fputs("\r\033[K", stderr);
 }
 
 void fail(const char *format, ...)
@@ -179,7 +198,7 @@ void fail(const char *format, ...)
     va_list values;
 
     va_start(values, format);
-    say_line(format, values);
+    say_line(format, values, 0);
     va_end(values);
     exit(1);
 }

@@ -53,6 +53,16 @@ class Over(Exception):
     """A case cannot continue. What is wrong was said."""
 
 
+def openssl():
+    """The options by which a program digests with OpenSSL, for its compiler and its linker. None where it is not there."""
+    if not shutil.which("pkg-config"):
+        return None
+    found = outcome_of("pkg-config", "--cflags", "libcrypto"), outcome_of("pkg-config", "--libs", "libcrypto")
+    if any(one.returncode != 0 for one in found):
+        return None
+    return ["-DWITH_OPENSSL", *found[0].stdout.split()], found[1].stdout.split()
+
+
 def archives_of(words):
     """The library: what was named, or the one of a release that this is a part of, or that of this repository,
     built where a source has changed."""
@@ -145,6 +155,7 @@ class Run:
         self.failures, self.case, self.hosts, self.program, self.echo = 0, "build", [], self.work / "hypervisor", None
         self.kernel, self.sum, self.looks_at_storage = self.here / "guest/guest.bin", None, False
         self.objects, self.changed = {}, {}  # of a source the object, and the source that is taken in its place
+        self.openssl = openssl()
         (self.work / "first.disk").write_bytes(random.Random(1).randbytes(DISK_SIZE))
         for number in (signal.SIGTERM, signal.SIGHUP):
             signal.signal(number, lambda number, _: sys.exit(128 + number))
@@ -227,7 +238,9 @@ class Run:
         options += shlex.split(os.environ.get("CFLAGS") or "-O2")
         options += [f"-I{folder}" for folder in (INCLUDE, self.here, PARTS)]
         words = [self.objects.get(word) or self.changed.get(word, word) for word in words]
-        command = [os.environ.get("CC") or "cc", *options, *words, "-o", self.work / name]
+        with_openssl, libraries = self.openssl or ([], [])
+        libraries = [] if "-c" in words else libraries
+        command = [os.environ.get("CC") or "cc", *options, *with_openssl, *words, "-o", self.work / name, *libraries]
         if subprocess.run([str(word) for word in command], check=False).returncode != 0:
             sys.exit(1)
         return self.work / name
