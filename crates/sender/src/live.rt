@@ -23,11 +23,14 @@ ghost use Rattle.sender.specs.Parked.{IsLiveParked};
 ghost use Rattle.sender.specs.Reads.{HasLiveCalled, ReadsItem, SendCalls};
 ghost use Rattle.sender.specs.Uncalled.{CallsNone};
 ghost use Rattle.sender.specs.StopBytes.{IsStopBytes};
+ghost use Rattle.sender.specs.SectorsLent.{IsNextDue};
 ghost use Rattle.sender.specs.Unsynced.{FlushesLiveDisk, TriesFlush};
 ghost use Rattle.sender.specs.Stopping.{ClosesStream, HasNoneUpTo, IsLive, SendsAll, SendsItem, lesser, one_more, phase_after};
 
 use crate::dirty::{Dirty, Logs};
-use crate::event::{CopyAnswer, End, Item, Left, LiveEvent, LiveReply, Remaining, Stopped};
+use crate::event::{
+    CopyAnswer, End, Item, Left, LiveEvent, LiveReply, NextDue, Remaining, Stopped,
+};
 use crate::left::{left_of, most_bytes};
 use crate::lending::LiveParked;
 use crate::measuring::devices_len;
@@ -496,6 +499,20 @@ impl<D: Disk, W: Digesting> LiveOver<D, W> {
         self.due.remove(number);
         self.logs.first.set.remove(number);
         Ok(item)
+    }
+
+    /// What `copy` sends next, as `LiveParked::next_item` says it while RAM is lent.
+    pub fn next_item(&self) -> NextDue
+        ensures { IsNextDue (pages_of (now self.now)) self.now.due result }
+    {
+        let Some(number) = self.due.first_from(self.at) else {
+            return NextDue::Nothing;
+        };
+        if number < page_count(&self.machine) {
+            NextDue::Page(number as u32)
+        } else {
+            NextDue::Sector
+        }
     }
 
     /// Sends the least due item.
