@@ -505,13 +505,10 @@ impl<D: Disk, W: Digesting> LiveOver<D, W> {
     pub fn next_item(&self) -> NextDue
         ensures { IsNextDue (pages_of (now self.now)) self.now.due result }
     {
-        let Some(number) = self.due.first_from(self.at) else {
-            return NextDue::Nothing;
-        };
-        if number < page_count(&self.machine) {
-            NextDue::Page(number as u32)
-        } else {
-            NextDue::Sector
+        match self.due.first_from(self.at) {
+            Some(number) if number < page_count(&self.machine) => NextDue::Page(number as u32),
+            Some(_) => NextDue::Sector,
+            None => NextDue::Nothing,
         }
     }
 
