@@ -80,8 +80,8 @@
  *     disk_done                NO_MACHINE  NO_MACHINE        .            .            STOPPED      . (4)
  *     room, calls_out          NO_MACHINE  NO_MACHINE        .            .            .            .
  *     step, work, ram_write,
- *       mark, push, lend,
- *       disk_call              NO_MACHINE  NO_MACHINE        .            .            STOPPED      LENT
+ *       push, lend, disk_call  NO_MACHINE  NO_MACHINE        .            .            STOPPED      LENT
+ *     mark                     NO_MACHINE  NO_MACHINE        .            .            STOPPED      .
  *     ram_read, pull           NO_MACHINE  NO_MACHINE        .            .            .            LENT
  *     lines                    0           0                 .            .            .            .
  *     written                  NO_MACHINE  NO_MACHINE        .            .            .            .
@@ -89,18 +89,21 @@
  *     sector_read, save        NO_MACHINE  NO_MACHINE        .            SENDING      SENDING      LENT
  *     send_begin,
  *       send_begin_as          NO_MACHINE  NO_MACHINE        .            SENDING      STOPPED      LENT
- *     send_some, send_round,
- *       send_stop              NO_MACHINE  NO_MACHINE        NOT_SENDING  .            STOPPED      LENT
+ *     send_some, send_next,
+ *       send_round             NO_MACHINE  NO_MACHINE        NOT_SENDING  .            STOPPED      (5)
+ *     send_stop                NO_MACHINE  NO_MACHINE        NOT_SENDING  .            STOPPED      LENT
+ *     send_page                NO_MACHINE  NO_MACHINE        NOT_SENDING  NOT_LENT     STOPPED      . (6)
  *     send_tell                NO_MACHINE  NO_MACHINE        NOT_SENDING  NOT_ASKED    .            LENT
  *     send_abort               NO_MACHINE  NO_MACHINE        NOT_SENDING  .            .            LENT
  *     send_left, send_take     NO_MACHINE  NO_MACHINE        NOT_SENDING  .            .            (5)
  *
- *     (1) After VMIG_SEND_FAILED too, where send_begin, send_begin_as, send_some, send_round and send_stop are SEND_FAILED
- *         (send_stop CALLS_OUT, if any call is out).
+ *     (1) After VMIG_SEND_FAILED too, where send_begin, send_begin_as, send_some, send_next, send_round and send_stop are
+ *         SEND_FAILED (send_stop CALLS_OUT, if any call is out).
  *     (2) A machine that is idle or sending, and whose RAM is out.
  *     (3) Of an arrival that has failed they are STREAM_FAILED.
  *     (4) LENT of a read that is out.
  *     (5) As if not lent: see the other columns.
+ *     (6) NOT_SENDING of one that is idle, and SEND_FAILED of one whose send has failed.
  *
  * A machine is sending from vmig_send_begin or vmig_send_begin_as on, and stopped after vmig_send_stop: its guest is paused then.
  * vmig_send_abort makes it idle again.
@@ -290,8 +293,8 @@
  * list of sixteen shapes, for the time of the call; vmig_save, for the whole stream, for the time of the call; vmig_step and
  * vmig_work, for a chain of more than four descriptors, or a message longer than those before it; vmig_give_back, vmig_mark and
  * vmig_push with a bitmap or with all pages, for 4 bytes for each page that they name, which are kept for the next such call;
- * vmig_send_begin and vmig_send_begin_as, for two bits for each page and sector; and these two, vmig_send_some, vmig_send_round and
- * vmig_send_stop for what they write, which waits until it is taken: a stop of a machine of which nothing was copied before writes
+ * vmig_send_begin and vmig_send_begin_as, for two bits for each page and sector; and these two, vmig_send_some, vmig_send_page,
+ * vmig_send_round and vmig_send_stop for what they write, which waits until it is taken: a stop of a machine of which nothing was copied before writes
  * the whole machine. No other call does. */
 #ifndef VMIG_H
 #define VMIG_H
@@ -302,8 +305,10 @@
 #ifdef __cplusplus
 extern "C" {
 #define VMIG_NULL_ nullptr
+#define VMIG_AS_(type, at) static_cast<type>(at)
 #else
 #define VMIG_NULL_ 0
+#define VMIG_AS_(type, at) ((type)(at))
 #endif
 
 /* A status that nobody looks at is a mistake, and so is a null for one of the parameters of these numbers. So is a null with a
@@ -397,6 +402,7 @@ enum {
     VMIG_CALLS_OUT = 29,                /* calls of disks outside are out, and have to be answered before */
     VMIG_BAD_BASE = 30,                 /* not a multiple of 4,096, or RAM would reach past the last address */
     VMIG_NOT_ASKED = 31,                /* send_tell: no VMIG_TOLD, or before the stop, or told already */
+    VMIG_NOT_NEXT = 32,                 /* send_page: another page is next, or none (vmig_send_next) */
 
     /* Refused: what arrives. The arrival is over, and the handle waits for vmig_free or vmig_release. */
     VMIG_STREAM_BAD_MAGIC = 33,         /* it does not begin with "VMIG" */
@@ -431,13 +437,14 @@ enum {
     VMIG_SENT = 71,                     /* a message of the guest is at the front of your buffer; *len are its bytes */
     VMIG_DROPPED = 72,                  /* a frame did not fit into the guest's buffer, and is gone */
     VMIG_NEEDS_RESET = 73,              /* the guest's chain is malformed; the device asks its driver for a reset */
-    VMIG_ROUND_DONE = 76,               /* send_some: nothing is due any more in this round */
+    VMIG_ROUND_DONE = 76,               /* send_some, send_next: nothing is due any more in this round */
     VMIG_ROUND_OPEN = 77,               /* send_round: something is still due, and the round stays open */
     VMIG_WORK = 78,                     /* next: the step that it names has something to do; work: there is more to do */
     VMIG_MORE = 79,                     /* stream_describe: the header is not whole; save: the stream is longer than size */
     VMIG_SYNC = 80,                     /* next, work: the step that it names needs its disk durable before */
     VMIG_CALL = 81,                     /* disk_call: there is one; next: no step has anything to do, and there is one */
-    VMIG_WHOLE = 82                     /* feed: the stream has ended, and is right: call vmig_finish */
+    VMIG_WHOLE = 82,                    /* feed: the stream has ended, and is right: call vmig_finish */
+    VMIG_SECTORS = 84                   /* send_next: no page is due any more in this round, and sectors are */
 };
 
 /* Whether a call was refused: 1 or 0. */
@@ -848,7 +855,9 @@ vmig_status vmig_lend(vmig_machine *m, vmig_ram *ram) VMIG_CHECKED_(1, 2);
 vmig_status vmig_give_back(vmig_machine *m, vmig_ram *ram, const vmig_pages *written) VMIG_CHECKED_(1, 2, 3);
 
 /* Names pages that were written while RAM was lent, and not named when it came back, as vmig_give_back does: each is taken for
- * written whole, with the bytes that lie there. Pages may be named in pieces, and more of them than were written.
+ * written whole, with the bytes that lie there. Pages may be named in pieces, and more of them than were written. While RAM is lent
+ * they become dirty, and are due after vmig_send_round; a page that may be written after it is named again, by another mark or at
+ * the return. It changes nothing for vmig_pull then, nor of a machine that is not being sent: for these the return names them.
  * NOT_KNOWN, TOO_SMALL, OUT_OF_RAM (no such page), NO_MEMORY (a bitmap, or all). */
 vmig_status vmig_mark(vmig_machine *m, const vmig_pages *written) VMIG_CHECKED_(1, 2);
 
@@ -885,11 +894,41 @@ vmig_status vmig_send_begin(vmig_machine *m) VMIG_CHECKED_(1);
 vmig_status vmig_send_begin_as(vmig_machine *m, uint32_t flags) VMIG_CHECKED_(1);
 
 /* Copies up to `most` pages and sectors that are due, those with the least numbers first and pages before sectors: their bytes wait
- * to be taken. VMIG_OK, or VMIG_ROUND_DONE: nothing is due after it. SEND_FAILED, and a part may wait. */
+ * to be taken. VMIG_OK, or VMIG_ROUND_DONE: nothing is due after it. While RAM is lent it copies sectors; pages are handed in.
+ * LENT (RAM is lent, and a page is next), SEND_FAILED, and a part may wait. */
 vmig_status vmig_send_some(vmig_machine *m, uint32_t most) VMIG_CHECKED_(1);
 
+/* What is sent next, by vmig_send_some or vmig_send_page: VMIG_OK, and *page becomes the page's number; VMIG_SECTORS: no page is due,
+ * and sectors are; or VMIG_ROUND_DONE: nothing is due. Where it is not VMIG_OK *page is as it was. SEND_FAILED. */
+vmig_status vmig_send_next(const vmig_machine *m, uint32_t *page) VMIG_CHECKED_(1, 2);
+
+#if defined(__GNUC__)
+typedef uint64_t vmig_word_ __attribute__((may_alias, aligned(1)));
+#else
+typedef uint8_t vmig_word_;
+#endif
+
+/* Copies the 4,096 bytes of a page of lent RAM for vmig_send_page, while the guest may write them: each 8 bytes are loaded once, and
+ * the compiler assumes nothing about what it reads. */
+static inline void vmig_copy_page(const void *page, uint8_t bytes[4096])
+{
+    const volatile vmig_word_ *from = VMIG_AS_(const volatile vmig_word_ *, page);
+    void *at = bytes;
+    vmig_word_ *to = VMIG_AS_(vmig_word_ *, at);
+
+    for (size_t i = 0; i < 4096 / sizeof *to; i++) to[i] = from[i];
+}
+
+/* Copies a page while RAM is lent and the guest runs: the 4,096 bytes at `bytes`, which you have copied out of RAM (vmig_copy_page),
+ * whatever the guest wrote meanwhile. It has to be the page that vmig_send_next names. The order matters, and nothing checks it:
+ * forget the page's bit in your log, then copy its bytes, then hand them in. `bytes` never points into RAM. For vmig_pull name the
+ * page all the same.
+ * OUT_OF_RAM (no such page), NOT_NEXT, SEND_FAILED, and a part may wait. */
+vmig_status vmig_send_page(vmig_machine *m, uint32_t page, const uint8_t bytes[4096]) VMIG_CHECKED_(1, 3);
+
 /* Ends the round, if nothing is due in it: what the guest and the devices wrote since it was sent is due in the next. VMIG_OK, or
- * VMIG_ROUND_OPEN: something is still due, and nothing changed. NO_ROUND_LEFT, SEND_FAILED. */
+ * VMIG_ROUND_OPEN: something is still due, and nothing changed. While RAM is lent what was written in this loan counts as written
+ * after it; what was written before has to be named before. NO_ROUND_LEFT, SEND_FAILED. */
 vmig_status vmig_send_round(vmig_machine *m) VMIG_CHECKED_(1);
 
 /* Copies all that is due or was written since it was sent, then the devices, and closes the stream. *pages and *sectors become the
@@ -995,6 +1034,7 @@ static inline const char *vmig_status_name(vmig_status status)
     VMIG_NAMED_(VMIG_STOPPED) VMIG_NAMED_(VMIG_NO_ROUND_LEFT) VMIG_NAMED_(VMIG_LENT) VMIG_NAMED_(VMIG_NOT_LENT)
     VMIG_NAMED_(VMIG_NOT_YOURS) VMIG_NAMED_(VMIG_BAD_RAM) VMIG_NAMED_(VMIG_NOT_KNOWN) VMIG_NAMED_(VMIG_NOT_OUT)
     VMIG_NAMED_(VMIG_CALLS_OUT) VMIG_NAMED_(VMIG_BAD_BASE) VMIG_NAMED_(VMIG_NOT_ASKED)
+    VMIG_NAMED_(VMIG_NOT_NEXT)
     VMIG_NAMED_(VMIG_STREAM_BAD_MAGIC) VMIG_NAMED_(VMIG_STREAM_BAD_VERSION) VMIG_NAMED_(VMIG_STREAM_BAD_SHAPE)
     VMIG_NAMED_(VMIG_STREAM_MISMATCH) VMIG_NAMED_(VMIG_STREAM_BAD_TAG) VMIG_NAMED_(VMIG_STREAM_BAD_PAGE)
     VMIG_NAMED_(VMIG_STREAM_BAD_SECTOR) VMIG_NAMED_(VMIG_STREAM_BAD_ROUND) VMIG_NAMED_(VMIG_STREAM_BAD_DEVICE)
@@ -1004,7 +1044,7 @@ static inline const char *vmig_status_name(vmig_status status)
     VMIG_NAMED_(VMIG_BAD_SECTOR) VMIG_NAMED_(VMIG_DISK_FAILED) VMIG_NAMED_(VMIG_COMPLETED) VMIG_NAMED_(VMIG_SENT)
     VMIG_NAMED_(VMIG_DROPPED) VMIG_NAMED_(VMIG_NEEDS_RESET) VMIG_NAMED_(VMIG_ROUND_DONE) VMIG_NAMED_(VMIG_ROUND_OPEN)
     VMIG_NAMED_(VMIG_WORK) VMIG_NAMED_(VMIG_MORE) VMIG_NAMED_(VMIG_SYNC) VMIG_NAMED_(VMIG_CALL)
-    VMIG_NAMED_(VMIG_WHOLE)
+    VMIG_NAMED_(VMIG_WHOLE) VMIG_NAMED_(VMIG_SECTORS)
     default: return "unknown status";
     }
 #undef VMIG_NAMED_
@@ -1102,6 +1142,7 @@ static inline vmig_status vmig_push_or_null_(vmig_machine *m, const vmig_pages *
 #define vmig_mark(...) vmig_mark_or_null_(__VA_ARGS__)
 #define vmig_push(...) vmig_push_or_null_(__VA_ARGS__)
 
+#undef VMIG_AS_
 #undef VMIG_CHECKED_
 #undef VMIG_NONNULL_
 #undef VMIG_READS_

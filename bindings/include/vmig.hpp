@@ -31,6 +31,7 @@ enum class status : std::uint32_t {
     send_failed = VMIG_SEND_FAILED, stopped = VMIG_STOPPED, no_round_left = VMIG_NO_ROUND_LEFT, lent = VMIG_LENT,
     not_lent = VMIG_NOT_LENT, not_yours = VMIG_NOT_YOURS, bad_ram = VMIG_BAD_RAM, not_known = VMIG_NOT_KNOWN,
     not_out = VMIG_NOT_OUT, calls_out = VMIG_CALLS_OUT, bad_base = VMIG_BAD_BASE, not_asked = VMIG_NOT_ASKED,
+    not_next = VMIG_NOT_NEXT,
     stream_bad_magic = VMIG_STREAM_BAD_MAGIC, stream_bad_version = VMIG_STREAM_BAD_VERSION,
     stream_bad_shape = VMIG_STREAM_BAD_SHAPE, stream_mismatch = VMIG_STREAM_MISMATCH,
     stream_bad_tag = VMIG_STREAM_BAD_TAG, stream_bad_page = VMIG_STREAM_BAD_PAGE,
@@ -42,7 +43,7 @@ enum class status : std::uint32_t {
     taken = VMIG_TAKEN, moved = VMIG_MOVED, bad_sector = VMIG_BAD_SECTOR, disk_failed = VMIG_DISK_FAILED,
     completed = VMIG_COMPLETED, sent = VMIG_SENT, dropped = VMIG_DROPPED, needs_reset = VMIG_NEEDS_RESET,
     round_done = VMIG_ROUND_DONE, round_open = VMIG_ROUND_OPEN, work = VMIG_WORK, more = VMIG_MORE, sync = VMIG_SYNC,
-    call = VMIG_CALL, whole = VMIG_WHOLE,
+    call = VMIG_CALL, whole = VMIG_WHOLE, sectors = VMIG_SECTORS,
 };
 
 /* The name that a status has in vmig.h. */
@@ -531,6 +532,11 @@ public:
     [[nodiscard]] status send_begin() noexcept { return status{vmig_send_begin(&held)}; }
     [[nodiscard]] status send_begin_as(std::uint32_t flags) noexcept { return status{vmig_send_begin_as(&held, flags)}; }
     [[nodiscard]] status send_some(std::uint32_t most) noexcept { return status{vmig_send_some(&held, most)}; }
+    [[nodiscard]] status send_next(std::uint32_t *page) const noexcept { return status{vmig_send_next(&held, page)}; }
+    [[nodiscard]] status send_page(std::uint32_t page, const std::array<std::uint8_t, 4096> &bytes) noexcept
+    {
+        return status{vmig_send_page(&held, page, bytes.data())};
+    }
     [[nodiscard]] status send_round() noexcept { return status{vmig_send_round(&held)}; }
     [[nodiscard]] status send_stop(std::uint64_t *copied, std::uint64_t *sectors) noexcept
     {
@@ -659,6 +665,11 @@ public:
     [[nodiscard]] status written(std::uint32_t *numbers, std::size_t size, std::size_t *count) noexcept
     {
         return held.written(numbers, size, count);
+    }
+    [[nodiscard]] status send_next(std::uint32_t *page) const noexcept { return held.send_next(page); }
+    [[nodiscard]] status send_page(std::uint32_t page, const std::array<std::uint8_t, 4096> &bytes) noexcept
+    {
+        return held.send_page(page, bytes);
     }
     [[nodiscard]] status send_left(vmig_left *left) const noexcept { return held.send_left(left); }
     [[nodiscard]] status send_take(std::uint8_t *buf, std::size_t size, std::size_t *got) noexcept

@@ -88,6 +88,9 @@ pub enum Error {
     /// No digest is asked for: the host does not tell it, or the stop was not made, or it was told.
     NotAsked = raw::NOT_ASKED,
 
+    /// Another page is next, or none.
+    NotNext = raw::NOT_NEXT,
+
     /// The stream does not begin with the magic number.
     StreamBadMagic = raw::STREAM_BAD_MAGIC,
 
@@ -170,6 +173,7 @@ const TEXTS: &[(Error, &str)] = &[
     (Error::CallsOut, "calls of disks are out: answer them before"),
     (Error::BadBase, "invalid base: not a multiple of 4,096, or RAM would reach past the last address"),
     (Error::NotAsked, "no digest is asked for"),
+    (Error::NotNext, "another page is next, or none"),
     (Error::StreamBadMagic, "bad magic: not a machine stream"),
     (Error::StreamBadVersion, "unsupported stream version"),
     (Error::StreamBadShape, "invalid machine configuration in the stream"),

@@ -17,9 +17,11 @@ mod Failing
 mod Filling
 mod HandedCalls
 mod Handing
+mod HandingIn
 mod Landings
 mod LatePages
 mod Lent
+mod LentSending
 mod LentSent
 mod ListedCalls
 mod MadeIn

@@ -4,6 +4,7 @@ use Rattle.std.specs.Prelude.{MatchOption, Option, Some, None}
 use Rattle.guestmem.specs.Lent.{raise_each}
 use Rattle.guestmem.specs.Memory.{Memory}
 use Rattle.guestmem.specs.Write.{raised}
+use Rattle.machine.specs.Parked.{ParkedSeen, parked_states}
 use Rattle.machine.specs.Seen.{DeviceSeen, Seen, state_of}
 use Rattle.machine.specs.State.{MachineState}
 use Rattle.region.specs.declared.slot.Slot.{Slot}
@@ -18,16 +19,18 @@ use Rattle.sender.specs.declared.mig_error.MigError.TheVariants as errors
 use Rattle.wire.specs.Stream.{whole}
 use Rattle.wire.specs.Telling.{is_owed}
 use Rattle.c_machine.specs.Named.{named_pages, needs_list}
-use Rattle.c_handle.specs.CallsMet.{AreFew, HasRam, OthersKeepDevices, a_begin, a_begin_as, a_list_of_pages, a_loan, a_mark, a_return, a_save, a_sector_read, a_send, a_stop, a_taking, a_telling, an_abort, an_end_of_round}
+use Rattle.c_handle.specs.CallsMet.{AreFew, HasRam, OthersKeepDevices, a_begin, a_begin_as, a_list_of_pages, a_loan, a_mark, a_page, a_return, a_save, a_sector_read, a_send, a_stop, a_taking, a_telling, an_abort, an_end_of_round}
 use Rattle.c_handle.specs.Digest.{BeginsAs, BeginsIf, TellsIf, TellsKept, TellsMoving, are_known, told_begun}
+use Rattle.c_handle.specs.HandingIn.{HandsKept, page_refusal}
 use Rattle.c_handle.specs.Kept.{KeptSeen, StillLent, MovingLent, State, Still, Moving, Arriving, Lent}
-use Rattle.c_handle.specs.Late.{HasMarked, IsMarked, mark_refusal}
+use Rattle.c_handle.specs.Late.{HasMarked, IsMarked, all_pages, mark_refusal}
 use Rattle.c_handle.specs.Lent.{HasComeBack, IsBack, IsLoan, IsUnlent, LendsIfOver, back_refusal_of, lend_refusal_of, lent_pages}
 use Rattle.c_handle.specs.Migrated.{AbortsKept, BeginsKept, EndsKept, GoesOn, SendsIf, SendsKept, SendsUpTo, StopsKept, StopsUnless, TakesKept, is_none_due, send_refusal, told_aborted}
-use Rattle.c_handle.specs.Mirror.{memory_in}
 use Rattle.c_handle.specs.Moving.{SavesIf, SavesKept}
 use Rattle.c_handle.specs.OnHandle.{Refuses, Unless}
 use Rattle.c_handle.specs.Outside.{devices_of}
+use Rattle.c_handle.proofs.HandingIn.{hands_same}
+use Rattle.c_handle.proofs.LentSending.{IsSameLent, ended_same, some_same}
 use Rattle.c_handle.specs.Sectors.{ReadsOpen, sector_refusal}
 use Rattle.c_handle.proofs.HostSteps.{few_stay}
 
@@ -133,18 +136,34 @@ sends_unless : (o : Option ℕ) (l next : LiveSeen) (most status : ℕ) → Unle
 sends_unless (Some reason) l next most status h = same_read l next h.1
 sends_unless None l next most status h = up_to most l next status h
 
+lent_kept : (p next : LiveParkedSeen) → IsSameLent p next → IsKept (Lent (MovingLent p)) (Lent (MovingLent next))
+lent_kept p next same = (same.states, subst AreFew (sym same.versions))
+
 sends : (k next : State) (most status : ℕ) → SendsKept k most status next → IsKept k next
 sends (Still m) (Still next) most status h = seen_kept m next h.1
 sends (Moving l) (Moving next) most status h = read_kept l next (sends_unless (send_refusal l.phase) l next most status h)
 sends (Arriving r) (Arriving next) most status h = same_kept (Arriving r) (Arriving next) (ap Arriving h.1)
-sends (Lent x) (Lent next) most status h = same_kept (Lent x) (Lent next) (ap Lent h.1)
+sends (Lent (StillLent p)) (Lent (StillLent next)) most status h = same_kept (Lent (StillLent p)) (Lent (StillLent next)) (ap (λ x. Lent (StillLent x)) h.1)
+sends (Lent (MovingLent p)) (Lent (MovingLent next)) most status h = lent_kept p next (some_same (send_refusal p.phase) p next most status h)
 sends _ _ most status h = absurd h
+
+parked_kept : (p next : LiveParkedSeen) → next.parked ≡ p.parked → IsKept (Lent (MovingLent p)) (Lent (MovingLent next))
+parked_kept p next same = (ap parked_states same, subst (λ (q : ParkedSeen). AreFew q.versions) (sym same))
+
+hands : (k next : State) (page status : ℕ) (bytes : List ℕ) → HandsKept k page bytes status next → IsKept k next
+hands (Still m) (Still next) page status bytes h = seen_kept m next h.1
+hands (Moving l) (Moving next) page status bytes h = same_kept (Moving l) (Moving next) (ap Moving h.1)
+hands (Arriving r) (Arriving next) page status bytes h = same_kept (Arriving r) (Arriving next) (ap Arriving h.1)
+hands (Lent (StillLent p)) (Lent (StillLent next)) page status bytes h = same_kept (Lent (StillLent p)) (Lent (StillLent next)) (ap (λ x. Lent (StillLent x)) h.1)
+hands (Lent (MovingLent p)) (Lent (MovingLent next)) page status bytes h = parked_kept p next (hands_same (page_refusal (send_refusal p.phase) (length p.parked.versions) page) p next page status bytes h)
+hands _ _ page status bytes h = absurd h
 
 ends : (k next : State) (status : ℕ) → EndsKept k status next → IsKept k next
 ends (Still m) (Still next) status h = seen_kept m next h.1
 ends (Moving l) (Moving next) status h = read_kept l next (round_same (refusal_for l.phase events.EndRound) l next h.reply h.serves)
 ends (Arriving r) (Arriving next) status h = same_kept (Arriving r) (Arriving next) (ap Arriving h.1)
-ends (Lent x) (Lent next) status h = same_kept (Lent x) (Lent next) (ap Lent h.1)
+ends (Lent (StillLent p)) (Lent (StillLent next)) status h = same_kept (Lent (StillLent p)) (Lent (StillLent next)) (ap (λ x. Lent (StillLent x)) h.1)
+ends (Lent (MovingLent p)) (Lent (MovingLent next)) status h = lent_kept p next (ended_same p next status h)
 ends _ _ status h = absurd h
 
 stops_unless : (out : Bool) (l next : LiveSeen) (status pages old_pages sectors old_sectors : ℕ) → StopsUnless out l status pages old_pages sectors old_sectors next → IsRead l next
@@ -227,6 +246,8 @@ marked_same : (k next : State) (pages : List ℕ) → IsMarked k pages next → 
 marked_same (Still m) (Still next) pages h = (ap (λ (x : Seen). (state_of x).devices) h, λ few. subst (λ (x : Seen). AreFew x.memory.versions) (sym h) (few_raised m.memory.versions pages few))
 marked_same (Moving l) (Moving next) pages h =
     (ap (λ (x : LiveSeen). (state_of x.machine).devices) h, λ few. subst (λ (x : LiveSeen). AreFew x.machine.memory.versions) (sym h) (few_raised l.machine.memory.versions pages few))
+marked_same (Lent (StillLent p)) (Lent (StillLent next)) pages h = same_kept (Lent (StillLent p)) (Lent (StillLent next)) (ap (λ x. Lent (StillLent x)) h)
+marked_same (Lent (MovingLent p)) (Lent (MovingLent next)) pages h = parked_kept p next (ap (λ (q : LiveParkedSeen). q.parked) h)
 marked_same _ _ pages h = absurd h
 
 marks : (o : Option ℕ) (k next : State) (pages : List ℕ) (needs : Bool) (status other : ℕ) → Unless o (λ reason. (status ≡ reason) × (next ≡ k)) (HasMarked k pages status next ⊎ ((needs ≡ true) × ((status ≡ other) × (next ≡ k)))) → IsKept k next
@@ -278,6 +299,7 @@ pub others_keep_devices : OthersKeepDevices
 others_keep_devices k next a_begin ram h = kept_by k next h.1.next ram h.1.is_next (begins k.state h.1.next h.0 h.1.done)
 others_keep_devices k next (a_begin_as flags) ram h = kept_told k next h.1.next (told_begun flags k.told k.state h.1.next) ram h.1.is_next (begins_as flags k.state h.1.next h.0 h.1.done)
 others_keep_devices k next a_send ram h = kept_by k next h.2.next ram h.2.is_next (sends k.state h.2.next h.0 h.1 h.2.done)
+others_keep_devices k next a_page ram h = kept_by k next h.3.next ram h.3.is_next (hands k.state h.3.next h.0 h.2 h.1 h.3.done)
 others_keep_devices k next an_end_of_round ram h = kept_by k next h.1.next ram h.1.is_next (ends k.state h.1.next h.0 h.1.done)
 others_keep_devices k next a_stop ram h = kept_by k next h.5.next ram h.5.is_next (stops _ k.state h.5.next h.0 h.1 h.2 h.3 h.4 h.5.done)
 others_keep_devices k next an_abort ram h = kept_told k next h.1.next (told_aborted k.told k.state h.1.next) ram h.1.is_next (aborts k.state h.1.next h.0 h.1.done)
@@ -287,7 +309,7 @@ others_keep_devices k next a_loan ram h = kept_by k next h.3.next ram h.3.is_nex
 others_keep_devices k next a_return ram h =
     kept_by k next h.4.next ram h.4.is_next (returns (back_refusal_of k.state (length h.0.content) h.1) k.state h.4.next h.0 h.3 (named_pages h.1 (lent_pages k.state)) (needs_list h.1) h.2 _ h.4.done)
 others_keep_devices k next a_mark ram h =
-    kept_by k next h.2.next ram h.2.is_next (marks (mark_refusal k.state h.0) k.state h.2.next (named_pages h.0 (length (memory_in k.state).versions)) (needs_list h.0) h.1 _ h.2.done)
+    kept_by k next h.2.next ram h.2.is_next (marks (mark_refusal k.state h.0) k.state h.2.next (named_pages h.0 (all_pages k.state)) (needs_list h.0) h.1 _ h.2.done)
 others_keep_devices k next a_list_of_pages ram h =
     let is = some_is next (record k { written = h.5.left }) h.5.is_next in
     (ap (λ (x : KeptSeen). devices_of x.state) is, ap (λ (x : KeptSeen). x.calls) is, subst (λ (x : KeptSeen). HasRam x.state) (sym is) ram)

@@ -19,7 +19,7 @@ use Rattle.sender.proofs.Fresh.{same_as_it_is}
 use Rattle.sender.specs.Calls.{Serves}
 use Rattle.sender.specs.LiveState.{LiveSeen, now, refusal_for}
 use Rattle.sender.specs.Marks.{live_marked}
-use Rattle.sender.specs.Parked.{LiveParkedSeen}
+use Rattle.sender.specs.Parked.{LiveParkedSeen, with_pages}
 use Rattle.sender.specs.ParkedCalls.{GuestsParked, ServesParked}
 use Rattle.sender.specs.Unsynced.{FailsLiveFlushIf}
 use Rattle.sender.specs.declared.event.LiveEvent.{LiveEvent}
@@ -32,16 +32,19 @@ use Rattle.c_handle.specs.Arriving.{Ends, has_more}
 use Rattle.c_handle.specs.Awaited.{HasArrived, ram_coming}
 use Rattle.c_handle.specs.DiskCalls.{MeetsParked, asker_lent}
 use Rattle.c_handle.specs.Durable.{FailsSync, FailsUnless}
+use Rattle.c_handle.specs.HandingIn.{HandsPage, page_refusal}
 use Rattle.c_handle.specs.Kept.{FitsLog, LoanSeen, StillLent, MovingLent, State, Still, Moving, Arriving, Lent, parked_in, ram_in}
 use Rattle.c_handle.specs.Lent.{HasComeBack, IsLiveLoan, IsReturnable}
 use Rattle.wire.specs.Telling.{is_owed}
 use Rattle.c_handle.specs.Digest.{BeginsAs, BeginsIf, TellsIf, are_known}
-use Rattle.c_handle.specs.Migrated.{AbortsKept, BeginsKept, GoesOn, HasEnded, StopsUnless, HasTaken, SendsIf, SendsSome, SendsUpTo, TakesLent, is_none_due, send_refusal}
+use Rattle.c_handle.specs.Migrated.{AbortsKept, BeginsKept, GoesOn, HasEnded, HasEndedLent, StopsUnless, HasTaken, SendsIf, SendsSome, SendsSomeLent, SendsUpTo, TakesLent, is_none_due, send_refusal}
 use Rattle.c_handle.specs.Mirror.{is_closed}
 use Rattle.c_handle.specs.Moving.{Saves, SavesIf}
 use Rattle.c_handle.specs.OnHandle.{Unless}
 use Rattle.c_handle.specs.Outside.{MeetsLent, MeetsLiveParked}
 use Rattle.wire.specs.Stream.{whole}
+use Rattle.c_handle.proofs.HandingIn.{hands_same}
+use Rattle.c_handle.proofs.LentSending.{ended_same, some_same}
 
 -- A log that fits so many bytes fits as many.
 fits_as : (log : Option (List Bool)) (bytes size : ℕ) → FitsLog log bytes → size ≡ bytes → FitsLog log size
@@ -167,6 +170,17 @@ taken_size told places (MovingLent l) (StillLent next) status got old_got buf ne
 pub taken_lent : (told : Bool) (log : Option (List Bool)) (places : ℕ) (k : State) (x next : LoanSeen) (status got old_got : ℕ) (buf new_buf : List ℕ) → FitsLog log (ram_in places k) → TakesLent told x status got old_got buf new_buf next → k ≡ Lent x → FitsLog log (ram_in places (Lent next))
 taken_lent told log places k x next status got old_got buf new_buf fits t is = fits_at log places k (Lent x) (Lent next) fits is (taken_size told places x next status got old_got buf new_buf t)
 
+pub handed_in : (log : Option (List Bool)) (places : ℕ) (k : State) (p next : LiveParkedSeen) (page status : ℕ) (bytes : List ℕ) → FitsLog log (ram_in places k) → HandsPage p page bytes status next → k ≡ Lent (MovingLent p) → FitsLog log (4096 * length next.parked.versions)
+handed_in log places k p next page status bytes fits h is =
+    fits_at log places k (Lent (MovingLent p)) (Lent (MovingLent next)) fits is (ap (λ (q : ParkedSeen). 4096 * length q.versions) (hands_same (page_refusal (send_refusal p.phase) (length p.parked.versions) page) p next page status bytes h))
+
+pub sent_lent : (log : Option (List Bool)) (places : ℕ) (k : State) (p next : LiveParkedSeen) (most status : ℕ) → FitsLog log (ram_in places k) → SendsSomeLent p most status next → k ≡ Lent (MovingLent p) → FitsLog log (4096 * length next.parked.versions)
+sent_lent log places k p next most status fits s is =
+    fits_at log places k (Lent (MovingLent p)) (Lent (MovingLent next)) fits is (ap (λ (v : List ℕ). 4096 * length v) (some_same (send_refusal p.phase) p next most status s).versions)
+
+pub ended_lent : (log : Option (List Bool)) (places : ℕ) (k : State) (p next : LiveParkedSeen) (status : ℕ) → FitsLog log (ram_in places k) → HasEndedLent p status next → k ≡ Lent (MovingLent p) → FitsLog log (4096 * length next.parked.versions)
+ended_lent log places k p next status fits h is = fits_at log places k (Lent (MovingLent p)) (Lent (MovingLent next)) fits is (ap (λ (v : List ℕ). 4096 * length v) (ended_same p next status h).versions)
+
 saved_size : (short : Bool) (m next : Seen) (status len old_len : ℕ) (buf new_buf : List ℕ) → SavesIf short m status len old_len buf new_buf next → length next.memory.bytes ≡ length m.memory.bytes
 saved_size true m next status len old_len buf new_buf s = ap (λ (m : Seen). length m.memory.bytes) s.same
 saved_size false m next status len old_len buf new_buf s = ap (λ m. length m.bytes) s.kept.memory
@@ -180,6 +194,12 @@ marked log places k m next pages fits are is = fits_at log places k (Still m) (S
 
 pub marked_moving : (log : Option (List Bool)) (places : ℕ) (k : State) (l next : LiveSeen) (pages : List ℕ) → FitsLog log (ram_in places k) → next ≡ live_marked l pages → k ≡ Moving l → FitsLog log (length next.machine.memory.bytes)
 marked_moving log places k l next pages fits are is = fits_at log places k (Moving l) (Moving next) fits is (ap (λ (l : LiveSeen). length l.machine.memory.bytes) are)
+
+pub marked_still_lent : (log : Option (List Bool)) (places : ℕ) (k : State) (p next : ParkedSeen) → FitsLog log (ram_in places k) → next ≡ p → k ≡ Lent (StillLent p) → FitsLog log (4096 * length next.versions)
+marked_still_lent log places k p next fits same is = fits_at log places k (Lent (StillLent p)) (Lent (StillLent next)) fits is (ap (λ (q : ParkedSeen). 4096 * length q.versions) same)
+
+pub marked_lent : (log : Option (List Bool)) (places : ℕ) (k : State) (p next : LiveParkedSeen) (pages : List ℕ) → FitsLog log (ram_in places k) → next ≡ record p { dirty = with_pages p.dirty pages } → k ≡ Lent (MovingLent p) → FitsLog log (4096 * length next.parked.versions)
+marked_lent log places k p next pages fits are is = fits_at log places k (Lent (MovingLent p)) (Lent (MovingLent next)) fits is (ap (λ (l : LiveParkedSeen). 4096 * length l.parked.versions) are)
 
 -- From one state into another.
 begun_size : (places : ℕ) (k next : State) (status : ℕ) → BeginsKept k status next → ram_in places next ≡ ram_in places k

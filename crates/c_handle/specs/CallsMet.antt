@@ -16,6 +16,7 @@ use Rattle.c_handle.specs.Digest.{BegunAs, HasBeenTold}
 use Rattle.c_handle.specs.Dropping.{WroteReg}
 use Rattle.c_handle.specs.Durable.{Failed}
 use Rattle.c_handle.specs.HandedOut.{HandedOut}
+use Rattle.c_handle.specs.HandingIn.{HandedIn}
 use Rattle.c_handle.specs.Kept.{KeptSeen, State, Still, Moving, Arriving, Lent, parked_in}
 use Rattle.c_handle.specs.Late.{Marked}
 use Rattle.c_handle.specs.Lent.{GivesBack, Lends}
@@ -131,6 +132,8 @@ pub data OtherCall : Type 0 where
   -- or by these flags
   a_begin_as : ℕ → OtherCall
   a_send : OtherCall
+  -- a page is handed in
+  a_page : OtherCall
   an_end_of_round : OtherCall
   a_stop : OtherCall
   an_abort : OtherCall
@@ -147,6 +150,7 @@ abbrev pub DoesOther : KeptSeen → OtherCall → KeptSeen → Type 0
 DoesOther k a_begin next = (status : ℕ) × Begun (Some k) status (Some next)
 DoesOther k (a_begin_as flags) next = (status : ℕ) × BegunAs (Some k) flags status (Some next)
 DoesOther k a_send next = (most : ℕ) × (status : ℕ) × SentSome (Some k) most status (Some next)
+DoesOther k a_page next = (page : ℕ) × (bytes : List ℕ) × (status : ℕ) × HandedIn (Some k) page bytes status (Some next)
 DoesOther k an_end_of_round next = (status : ℕ) × EndedRound (Some k) status (Some next)
 DoesOther k a_stop next = (status : ℕ) × (pages : ℕ) × (old_pages : ℕ) × (sectors : ℕ) × (old_sectors : ℕ) × HasBeenStopped (Some k) status pages old_pages sectors old_sectors (Some next)
 DoesOther k an_abort next = (status : ℕ) × Aborted (Some k) status (Some next)

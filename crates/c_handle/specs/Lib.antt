@@ -16,6 +16,7 @@ pub mod Durable
 pub mod Expected
 pub mod Filled
 pub mod HandedOut
+pub mod HandingIn
 pub mod Headed
 pub mod Kept
 pub mod Landing

@@ -1,5 +1,5 @@
 -- The migration of a machine of a handle, call by call.
-use Rattle.std.specs.Prelude.{Bool, true, false, ◌≡◌, ◌==◌, ◌-◌, ℕ, zero, suc, List, [], ◌++◌, min, length, replicate, take, drop, Option, Some, None}
+use Rattle.std.specs.Prelude.{Bool, true, false, ◌≡◌, ◌==◌, ◌-◌, ℕ, zero, suc, List, [], ◌++◌, min, length, replicate, take, drop, Option, Some, None, Result, Ok, Err}
 use Rattle.dirtylog.specs.Members.{member_count}
 use Rattle.disk_calls.specs.Calls.{is_any_out}
 use Rattle.machine.specs.Layout.{pages_of}
@@ -8,12 +8,18 @@ use Rattle.sender.specs.Calls.{Serves}
 use Rattle.sender.specs.Follows.{Relates}
 use Rattle.sender.specs.History.{nothing}
 use Rattle.sender.specs.LiveState.{HasPlaces, LiveSeen, now}
+use Rattle.sender.specs.HandedIn.{IsNextPage}
 use Rattle.sender.specs.Parked.{LiveParkedSeen}
+use Rattle.sender.specs.ParkedCalls.{EndsLent}
+use Rattle.sender.specs.SectorsLent.{CopiesSector}
 use Rattle.sender.specs.StopBytes.{IsStopBytes, IsStopBytesLent}
 use Rattle.sender.specs.declared.event.Left.{Left}
 use Rattle.sender.specs.declared.event.LiveEvent.TheVariants as events
 use Rattle.sender.specs.declared.event.LiveReply.{LiveReply}
 use Rattle.sender.specs.declared.event.LiveReply.TheVariants as live
+use Rattle.sender.specs.declared.event.SectorAnswer.{SectorAnswer}
+use Rattle.sender.specs.declared.event.SectorAnswer.TheVariants as sent
+use Rattle.sender.specs.declared.mig_error.MigError.{MigError}
 use Rattle.sender.specs.declared.mig_error.MigError.TheVariants.{AlreadyStopped, NotBegun, StreamFailed}
 use Rattle.sender.specs.declared.phase.Phase.{Phase}
 use Rattle.sender.specs.declared.phase.Phase.TheVariants as phases
@@ -23,12 +29,17 @@ use Rattle.c_machine.specs.Status.{calls_out, done, lent, no_machine, no_memory,
 use Rattle.c_handle.specs.SendStatus.{live_status, mig_status}
 use Rattle.c_handle.specs.Kept.{KeptSeen, LoanSeen, StillLent, MovingLent, State, Still, Moving, Arriving, Lent}
 use Rattle.c_handle.specs.Mirror.{is_closed}
-use Rattle.c_handle.specs.OnHandle.{ByState, OfEachState, OfHandle, OnHandle, OnToldHandle, Refuses, RefusesBoth, Unless}
+use Rattle.c_handle.specs.OnHandle.{ByEachState, ByState, OfEachState, OfHandle, OnHandle, OnToldHandle, Refuses, RefusesBoth, Unless}
 use Rattle.c_handle.specs.declared.migrating.SendLeft.{SendLeft}
 
 -- Every call of a migration but its begin is refused for a machine that is not being migrated.
 abbrev pub ByMigration : (ℕ → Type 0) → (LiveSeen → LiveSeen → Type 0) → State → State → Type 0
 ByMigration refused moving k next = ByState refused (λ m after. refused (mig_status NotBegun) × (after ≡ m)) moving k next
+
+-- As above, of a call that is made while RAM is lent too.
+abbrev pub ByAnyMigration : (ℕ → Type 0) → (LiveSeen → LiveSeen → Type 0) → (LiveParkedSeen → LiveParkedSeen → Type 0) → State → State → Type 0
+ByAnyMigration refused moving moving_lent k next =
+    ByEachState refused (λ m after. refused (mig_status NotBegun) × (after ≡ m)) moving (λ p after. refused (mig_status NotBegun) × (after ≡ p)) moving_lent k next
 
 -- A migration of this machine of which nothing was written, and nothing waits to be taken: its history is empty.
 pub record IsFresh (m : Seen) (l : LiveSeen) : Type 0 where
@@ -100,8 +111,39 @@ SendsUpTo (suc n) l status next = SendsIf (is_none_due l) (λ mid. SendsUpTo n m
 abbrev pub SendsSome : LiveSeen → ℕ → ℕ → LiveSeen → Type 0
 SendsSome l most status next = Unless (send_refusal l.phase) (λ reason. (status ≡ reason) × (next ≡ l)) (SendsUpTo most l status next)
 
+-- While RAM is lent sectors are sent so. A sector was sent, and it went on from there; or it ended: a page is next, nothing is due, or it was
+-- refused.
+abbrev pub SectorGoesOn : Result SectorAnswer MigError → (LiveParkedSeen → Type 0) → LiveParkedSeen → ℕ → LiveParkedSeen → Type 0
+SectorGoesOn (Ok (sent.Copied dev n)) rest mid status next = rest mid
+SectorGoesOn (Ok (sent.PageDue page)) rest mid status next = (status ≡ done) × (next ≡ mid)
+SectorGoesOn (Ok sent.RoundDone) rest mid status next = (status ≡ round_done) × (next ≡ mid)
+SectorGoesOn (Err error) rest mid status next = (status ≡ mig_status error) × (next ≡ mid)
+
+pub record SendsSector (rest : LiveParkedSeen → Type 0) (p : LiveParkedSeen) (status : ℕ) (next : LiveParkedSeen) : Type 0 where
+  pub mid : LiveParkedSeen
+  pub result : Result SectorAnswer MigError
+  pub copies : CopiesSector p result mid
+  pub goes_on : SectorGoesOn result rest mid status next
+
+abbrev pub SectorsUpTo : ℕ → LiveParkedSeen → ℕ → LiveParkedSeen → Type 0
+SectorsUpTo zero p status next = (status ≡ end_status (member_count p.due == 0)) × (next ≡ p)
+SectorsUpTo (suc n) p status next = SendsSector (λ mid. SectorsUpTo n mid status next) p status next
+
+-- Where a page is next none is: the call would read RAM.
+abbrev pub SendsBy : Option ℕ → ℕ → LiveParkedSeen → ℕ → LiveParkedSeen → Type 0
+SendsBy (Some page) most p status next = (status ≡ lent) × (next ≡ p)
+SendsBy None most p status next = SectorsUpTo most p status next
+
+pub record SendsSectors (p : LiveParkedSeen) (most status : ℕ) (next : LiveParkedSeen) : Type 0 where
+  pub page : Option ℕ
+  pub is_next : IsNextPage (length p.parked.versions) p.due page
+  pub sends : SendsBy page most p status next
+
+abbrev pub SendsSomeLent : LiveParkedSeen → ℕ → ℕ → LiveParkedSeen → Type 0
+SendsSomeLent p most status next = Unless (send_refusal p.phase) (λ reason. (status ≡ reason) × (next ≡ p)) (SendsSectors p most status next)
+
 abbrev pub SendsKept : State → ℕ → ℕ → State → Type 0
-SendsKept k most status next = ByMigration (λ reason. status ≡ reason) (λ l after. SendsSome l most status after) k next
+SendsKept k most status next = ByAnyMigration (λ reason. status ≡ reason) (λ l after. SendsSome l most status after) (λ p after. SendsSomeLent p most status after) k next
 
 -- A round was ended, or not, as the reply says. A description has the round that is open then.
 pub record HasEnded (l : LiveSeen) (status : ℕ) (next : LiveSeen) : Type 0 where
@@ -110,8 +152,14 @@ pub record HasEnded (l : LiveSeen) (status : ℕ) (next : LiveSeen) : Type 0 whe
   pub serves : Serves l events.EndRound reply next
   pub status_is : status ≡ live_status reply
 
+-- As above, while its RAM is lent: no byte of it is read.
+pub record HasEndedLent (p : LiveParkedSeen) (status : ℕ) (next : LiveParkedSeen) : Type 0 where
+  pub reply : LiveReply
+  pub ends : EndsLent p reply next
+  pub status_is : status ≡ live_status reply
+
 abbrev pub EndsKept : State → ℕ → State → Type 0
-EndsKept k status next = ByMigration (λ reason. status ≡ reason) (λ l after. HasEnded l status after) k next
+EndsKept k status next = ByAnyMigration (λ reason. status ≡ reason) (λ l after. HasEnded l status after) (λ p after. HasEndedLent p status after) k next
 
 -- How many pages and sectors a stop sent.
 abbrev pub stopped_pages : LiveReply → ℕ → ℕ

@@ -1,17 +1,20 @@
 //! Pages that are named later than they were written, without a loan between.
 //!
 //! A host that reads a log of dirty pages once a round gives RAM back many times before, and names nothing then. What is named here is
-//! written whole, with the bytes that lie there: for a machine that is being sent it is dirty, and its version rises.
+//! written whole, with the bytes that lie there: for a machine that is being sent it is dirty, and its version rises. While RAM is lent a mark
+//! makes pages dirty and raises no version: the return does.
 
-ghost use Rattle.std.specs.Prelude.{◌≡◌, false, length, true};
+ghost use Rattle.std.specs.Prelude.{◌≡◌, ◌≤◌, true};
 ghost use Rattle.c_machine.specs.Named.{are_pages};
-ghost use Rattle.c_handle.specs.Late.{IsMarked, MarksKept, mark_refusal};
-ghost use Rattle.c_handle.specs.Mirror.{is_away, memory_in};
+ghost use Rattle.c_handle.specs.HandedOut.{is_here};
+ghost use Rattle.c_handle.specs.Late.{IsMarked, MarksKept, all_pages, mark_refusal};
+ghost use Rattle.guestmem.specs.declared.limits.TheConstants.{PAGES_GREATEST};
 
 use crate::kept::{Kept, by_state};
-use crate::mirror::{is_stopped, page_count, pages_in, ram_of};
+use crate::mirror::{is_stopped, page_count};
+use crate::written::is_here;
 use c_machine::Pages;
-use c_machine::status::{DONE, NO_MEMORY, NOT_KNOWN, STOPPED};
+use c_machine::status::{DONE, NO_MACHINE, NO_MEMORY, NOT_KNOWN, STOPPED};
 use guestmem::NoLog;
 use std::alloc::Global;
 use std::mem;
@@ -29,7 +32,7 @@ pub fn mark(alloc: Global, kept: &mut Kept, pages: &Pages) -> u32
         mark_listed(kept, pages.list);
         return DONE;
     }
-    let count = pages_in(kept);
+    let count = all_pages(kept);
     let mut named = mem::replace(&mut kept.named, Vec::new(alloc));
     let status = match pages.collect(count, &mut named) {
         Ok(()) => {
@@ -43,18 +46,32 @@ pub fn mark(alloc: Global, kept: &mut Kept, pages: &Pages) -> u32
 }
 
 /// Names the pages with these numbers.
-#[tactic(auto, using(crate::proofs::LatePages::pages_below_still, crate::proofs::LatePages::pages_below_moving, crate::proofs::LatePages::marked_still, crate::proofs::LatePages::marked_moving, crate::proofs::SamePages::marked, crate::proofs::SamePages::marked_moving))]
+#[tactic(auto, using(crate::proofs::LatePages::pages_below_still, crate::proofs::LatePages::pages_below_moving, crate::proofs::LatePages::pages_below_lent, crate::proofs::LatePages::marked_still, crate::proofs::LatePages::marked_moving, crate::proofs::LatePages::marked_still_lent, crate::proofs::LatePages::marked_moving_lent, crate::proofs::SamePages::marked, crate::proofs::SamePages::marked_moving, crate::proofs::SamePages::marked_still_lent, crate::proofs::SamePages::marked_lent))]
 fn mark_listed(kept: &mut Kept, pages: &[u32])
-    requires here { is_away kept.old.state ≡ false }
-    requires are { are_pages (length (memory_in kept.old.state).versions) pages.now ≡ true }
+    requires here { is_here kept.old.state ≡ true }
+    requires are { are_pages (all_pages kept.old.state) pages.now ≡ true }
     ensures marked { IsMarked kept.old.state pages.now kept.new.state }
     ensures kind { kept.new ≡ record kept.old { state = kept.new.state } }
 {
     by_state!(&mut kept.held;
         still(machine) => machine.mark(pages, &mut NoLog),
         moving(live) => live.mark(pages),
-        lent(_) => unreachable!(),
+        still_lent(_) => {},
+        moving_lent(live) => live.mark(pages),
         arriving(_) => unreachable!(),
+    )
+}
+
+/// How many pages RAM has, also while it is lent.
+fn all_pages(kept: &Kept) -> usize
+    ensures count { result ≡ all_pages kept.now.state }
+    ensures few { result ≤ PAGES_GREATEST }
+{
+    by_state!(&kept.held;
+        still(machine) => page_count(machine.ram()) as usize,
+        moving(live) => page_count(live.machine().ram()) as usize,
+        lent(loan) => loan.parked().pages(),
+        arriving(_) => 0,
     )
 }
 
@@ -62,15 +79,14 @@ fn mark_listed(kept: &mut Kept, pages: &[u32])
 fn mark_refusal(kept: &Kept, pages: &Pages) -> Option<u32>
     ensures { result ≡ mark_refusal kept.now.state pages.now }
 {
-    let memory = match ram_of(kept) {
-        Ok(memory) => memory,
-        Err(status) => return Some(status),
-    };
+    if !is_here(kept) {
+        return Some(NO_MACHINE);
+    }
     if is_stopped(kept) {
         return Some(STOPPED);
     }
     if !pages.is_known() {
         return Some(NOT_KNOWN);
     }
-    pages.refusal(page_count(memory) as usize)
+    pages.refusal(all_pages(kept))
 }

@@ -15,6 +15,7 @@ ghost use Rattle.c_handle.specs.Kept as states;
 
 use crate::arrival::Arrival;
 use crate::kept::{Contents, Held, Kept, by_state, turned};
+use crate::lent_sending::{round_status_lent, some_status_lent};
 use crate::mirror::has_stopped;
 use crate::status::mig_status;
 use c_machine::TOLD;
@@ -182,7 +183,7 @@ fn begun_again<D: Disk, W: Digesting>(live: LiveOver<D, W>) -> (LiveOver<D, W>, 
 }
 
 /// Sends at most `most` items that are due.
-#[tactic(auto, using(crate::proofs::ByState::by_still, crate::proofs::ByState::by_moving, crate::proofs::SamePages::sent))]
+#[tactic(auto, using(crate::proofs::ByState::each_still, crate::proofs::ByState::each_moving, crate::proofs::ByState::each_still_lent, crate::proofs::ByState::each_moving_lent, crate::proofs::SamePages::sent, crate::proofs::SamePages::sent_lent))]
 pub fn send_some(kept: &mut Kept, most: u32) -> u32
     ensures sends { SendsKept kept.old.state most result kept.new.state }
     ensures kind { kept.new ≡ record kept.old { state = kept.new.state } }
@@ -190,6 +191,8 @@ pub fn send_some(kept: &mut Kept, most: u32) -> u32
     by_state!(&mut kept.held;
         still(_) => NOT_SENDING,
         moving(live) => some_status(live, most),
+        still_lent(_) => NOT_SENDING,
+        moving_lent(live) => some_status_lent(live, most),
     )
 }
 
@@ -226,7 +229,7 @@ fn send_up_to<D: Disk, W: Digesting>(live: &mut LiveOver<D, W>, most: u32) -> u3
 }
 
 /// Why nothing is sent in this phase, if so.
-fn send_refusal(phase: Phase) -> Option<u32>
+pub(crate) fn send_refusal(phase: Phase) -> Option<u32>
     ensures { result ≡ send_refusal phase }
 {
     match phase {
@@ -238,7 +241,7 @@ fn send_refusal(phase: Phase) -> Option<u32>
 }
 
 /// Ends a round.
-#[tactic(auto, using(crate::proofs::ByState::by_still, crate::proofs::ByState::by_moving, crate::proofs::SamePages::ended))]
+#[tactic(auto, using(crate::proofs::ByState::each_still, crate::proofs::ByState::each_moving, crate::proofs::ByState::each_still_lent, crate::proofs::ByState::each_moving_lent, crate::proofs::SamePages::ended, crate::proofs::SamePages::ended_lent))]
 pub fn send_round(kept: &mut Kept) -> u32
     ensures ends { EndsKept kept.old.state result kept.new.state }
     ensures kind { kept.new ≡ record kept.old { state = kept.new.state } }
@@ -246,6 +249,8 @@ pub fn send_round(kept: &mut Kept) -> u32
     by_state!(&mut kept.held;
         still(_) => NOT_SENDING,
         moving(live) => round_status(live),
+        still_lent(_) => NOT_SENDING,
+        moving_lent(live) => round_status_lent(live),
     )
 }
 

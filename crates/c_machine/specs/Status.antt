@@ -12,6 +12,7 @@
 --     28 to 29   no call of a disk outside is out under this number; or one is out that has to be answered before
 --     30         RAM may not begin at its base
 --     31         no digest is asked for
+--     32         another page is sent next, or none
 --     33 to 48   a stream was refused: 32 plus the number of its fault. No more of it is taken: 48 is returned from then on
 --     49         a stream was refused: its machine is larger than the caller allows. As above, 48 is returned from then on
 --     65 to 73   what a step did
@@ -21,6 +22,7 @@
 --     80         a step has something to do, and before it what the guest wrote to the disk has to be durable
 --     81         a call of a disk outside is handed out
 --     82         the stream has ended
+--     84         no page is sent next, but sectors are
 use Rattle.std.specs.Prelude.{ℕ, length}
 use Rattle.machine.specs.Refusal.{code_of}
 use Rattle.machine.specs.declared.reply.Reply.{Reply}
@@ -105,6 +107,10 @@ bad_base = 30
 abbrev pub not_asked : ℕ
 not_asked = 31
 
+-- Another page is sent next, or none.
+abbrev pub not_next : ℕ
+not_next = 32
+
 -- The machine that a stream announces is larger than the caller allows.
 abbrev pub stream_too_large : ℕ
 stream_too_large = 49
@@ -131,6 +137,10 @@ round_done = 76
 -- The stream has ended.
 abbrev pub whole : ℕ
 whole = 82
+
+-- What is sent next is a sector.
+abbrev pub sectors : ℕ
+sectors = 84
 
 -- The status of a reply.
 abbrev pub status_of : Reply → ℕ

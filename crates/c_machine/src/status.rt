@@ -63,6 +63,8 @@ pub const BAD_BASE: u32 = 30;
 
 pub const NOT_ASKED: u32 = 31;
 
+pub const NOT_NEXT: u32 = 32;
+
 pub const STREAM_MISMATCH: u32 = 36;
 
 pub const STREAM_FAILED: u32 = 48;
@@ -100,6 +102,8 @@ pub const SYNC: u32 = 80;
 pub const CALL: u32 = 81;
 
 pub const WHOLE: u32 = 82;
+
+pub const SECTORS: u32 = 84;
 
 /// The status of an event that was refused.
 pub fn refused(refusal: Refusal) -> u32

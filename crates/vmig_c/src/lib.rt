@@ -33,6 +33,7 @@ ghost use Rattle.c_handle.specs.Durable.{Failed};
 ghost use Rattle.c_handle.specs.Expected.{Expects};
 ghost use Rattle.c_handle.specs.Sectors.{SectorRead};
 ghost use Rattle.c_handle.specs.HandedOut.{HandedOut};
+ghost use Rattle.c_handle.specs.HandingIn.{HandedIn, NextTold};
 ghost use Rattle.c_handle.specs.Late.{Marked};
 ghost use Rattle.c_handle.specs.Lent.{GivesBack, Lends};
 ghost use Rattle.c_handle.specs.Listed.{ListsCalls};
@@ -57,7 +58,8 @@ use c_handle::{
     begin_as, describe, drop_input, feed, finish, give_back, hand_call, hand_out, held_of, input,
     left as left_of, lend, lines, list_calls, lose_kept, make, mark, next, pull, push, read_ram,
     read_register, read_sector, release, release_refusal, reset, resize, room as room_in,
-    save_kept, send_round, send_some, step_kept, stop, take, tell, work, write_ram, write_register,
+    save_kept, send_next, send_page, send_round, send_some, step_kept, stop, take, tell, work,
+    write_ram, write_register,
 };
 use c_machine::status::{DONE, NO_MACHINE};
 use c_machine::{Description, Expected, Pages, Setup};
@@ -457,6 +459,25 @@ pub extern "C" fn vmig_send_some(machine: &mut Handle, most: u32) -> u32
     ensures { SentSome machine.old.machine most result machine.new.machine }
 {
     on_kept!(machine; send_some(most))
+}
+
+/// What is sent next: a page, by its number, or sectors. It takes no memory.
+#[unsafe(no_mangle)]
+#[tactic(auto, using(crate::proofs::OnHandle::of_none, crate::proofs::OnHandle::of_some))]
+pub extern "C" fn vmig_send_next(machine: &mut Handle, page: &mut u32) -> u32
+    ensures told { NextTold machine.old.machine result page.new page.old }
+    ensures same { machine.new.machine ≡ machine.old.machine }
+{
+    on_kept!(machine; send_next(page))
+}
+
+/// Sends the page that is next, with bytes that the caller copied out of the RAM that it was lent.
+#[unsafe(no_mangle)]
+#[tactic(auto, using(crate::proofs::OnHandle::on_none, crate::proofs::OnHandle::on_some))]
+pub extern "C" fn vmig_send_page(machine: &mut Handle, page: u32, bytes: &[u8; 4096]) -> u32
+    ensures { HandedIn machine.old.machine page bytes.now result machine.new.machine }
+{
+    on_kept!(machine; send_page(page, bytes))
 }
 
 /// Ends a round: what was touched since becomes due.

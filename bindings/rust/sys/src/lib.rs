@@ -451,6 +451,8 @@ pub const CALLS_OUT: u32 = 29;
 pub const BAD_BASE: u32 = 30;
 /// `send_tell`: no `TOLD`, or before the stop, or told already.
 pub const NOT_ASKED: u32 = 31;
+/// `send_page`: another page is next, or none (`send_next`).
+pub const NOT_NEXT: u32 = 32;
 /// It does not begin with "VMIG".
 pub const STREAM_BAD_MAGIC: u32 = 33;
 /// A stream whose version is neither 1 nor 2.
@@ -515,6 +517,8 @@ pub const SYNC: u32 = 80;
 pub const CALL: u32 = 81;
 /// Feed: the stream has ended, and is right: call `vmig_finish`.
 pub const WHOLE: u32 = 82;
+/// `send_next`: no page is due any more in this round, and sectors are.
+pub const SECTORS: u32 = 84;
 
 unsafe extern "C" {
     /// The version of the library that was linked.
@@ -614,6 +618,12 @@ unsafe extern "C" {
     /// Copies pages and sectors that are due.
     #[must_use]
     pub fn vmig_send_some(machine: *mut Machine, most: u32) -> u32;
+    /// What is sent next: a page, by its number, or sectors.
+    #[must_use]
+    pub fn vmig_send_next(machine: *const Machine, page: *mut u32) -> u32;
+    /// Copies the page that is next, with bytes that the caller copied out of lent RAM.
+    #[must_use]
+    pub fn vmig_send_page(machine: *mut Machine, page: u32, bytes: *const [u8; 4096]) -> u32;
     /// Ends the round, if nothing is due in it.
     #[must_use]
     pub fn vmig_send_round(machine: *mut Machine) -> u32;
