@@ -82,7 +82,7 @@ lent_takings_stay_sent told m h taken pages buf new_buf status got before p next
       goes = is.goes;
     }
 
-not_stopped : (p : Phase) → is_closed p ≡ false → p ≢ phases.Stopped
+pub not_stopped : (p : Phase) → is_closed p ≡ false → p ≢ phases.Stopped
 not_stopped p goes is = true≢false (sym (ap is_closed is) ∙ goes)
 
 pub lent_comes_back_sent : LentComesBackSent
@@ -119,7 +119,7 @@ lent_calls_stay_sent m h taken pages e reply before p next is serves =
       };
     }
 
-still_open : (p : Phase) → p ≢ phases.Stopped → is_closed p ≡ false
+pub still_open : (p : Phase) → p ≢ phases.Stopped → is_closed p ≡ false
 still_open phases.Fresh goes = refl
 still_open (phases.Open k) goes = refl
 still_open phases.Failed goes = refl

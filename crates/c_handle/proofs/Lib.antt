@@ -21,6 +21,7 @@ mod HandingIn
 mod Landings
 mod LatePages
 mod Lent
+mod LentCopies
 mod LentSending
 mod LentSent
 mod ListedCalls

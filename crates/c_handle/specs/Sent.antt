@@ -1,19 +1,24 @@
 -- The migration of a machine out of a handle, from its first call on: its history, and the bytes that C has taken. What C has
 -- taken, followed by what waits, is all that a machine that is being migrated has written. So after a stop it is the whole
 -- stream of the machine, and what is made of it on the other side is the machine.
-use Rattle.std.specs.Prelude.{◌≡◌, ◌≢◌, ◌++◌, ℕ, Bool, List, [], ◌∷◌, Some, false, length, map, take}
+use Rattle.std.specs.Prelude.{◌≡◌, ◌≢◌, ◌+◌, ◌*◌, ◌++◌, ℕ, Bool, List, [], ◌∷◌, Some, false, length, map, slice_get, take}
 use Rattle.region.specs.Address.{address}
 use Rattle.region.specs.Lending.{with_content}
 use Rattle.region.specs.declared.region.Region.{Region}
 use Rattle.guestmem.specs.Lent.{AreBelow, given_back}
 use Rattle.guestmem.specs.Memory.{IsMemory}
+use Rattle.guestmem.specs.Write.{put_at}
 use Rattle.guestmem.specs.Writes.{set_all}
+use Rattle.guestmem.specs.declared.limits.TheConstants.{PAGE_SIZE}
+use Rattle.blk.specs.Sectors.{Sector}
 use Rattle.machine.specs.Effect.{Effect}
+use Rattle.machine.specs.EffectLaws.{sector_on}
+use Rattle.machine.specs.Parked.{parked_sectors}
 use Rattle.machine.specs.Seen.{AreHonest, Seen, state_of}
 use Rattle.machine.specs.Sound.{IsSound}
 use Rattle.machine.specs.State.{MachineState, base_of}
 use Rattle.machine.specs.declared.event.Event.{Event}
-use Rattle.machine.specs.declared.event.Event.TheVariants.{Step}
+use Rattle.machine.specs.declared.event.Event.TheVariants.{MemWrite, Step}
 use Rattle.machine.specs.declared.reply.Reply.{Reply}
 use Rattle.machine.specs.declared.reply.Reply.TheVariants.{DiskFailed}
 use Rattle.sender.specs.Calls.{Serves}
@@ -21,14 +26,19 @@ use Rattle.sender.specs.History.{History, guest_events, has_fault, nothing, phas
 use Rattle.sender.specs.LiveState.{HasPlaces, LiveSeen, now}
 use Rattle.sender.specs.Marks.{AreAmong, IsBehind, MayCall, live_marked, still_behind}
 use Rattle.sender.specs.Parked.{KeepsWord, LiveParkedSeen, live_back, live_base, page_writes}
-use Rattle.sender.specs.ParkedCalls.{ServesParked, StepsBeside}
+use Rattle.sender.specs.HandedIn.{HandingFails, HandsIn, page_text}
+use Rattle.sender.specs.ParkedCalls.{EndsLent, MarksParked, ServesParked, StepsBeside, a_round_end, beside, sent_in, without}
+use Rattle.sender.specs.SectorsLent.{CopiesLent}
 use Rattle.sender.specs.Taking.{untaken}
 use Rattle.sender.specs.Unsynced.{FailsLiveFlush}
+use Rattle.sender.specs.declared.event.Item.TheVariants as items
 use Rattle.sender.specs.declared.event.LiveEvent.{LiveEvent}
 use Rattle.sender.specs.declared.event.LiveEvent.TheVariants.{Guest}
 use Rattle.sender.specs.declared.event.LiveReply.{LiveReply}
 use Rattle.sender.specs.declared.event.LiveReply.TheVariants as r
+use Rattle.sender.specs.declared.mig_error.MigError.{MigError}
 use Rattle.sender.specs.declared.phase.Phase.TheVariants as phases
+use Rattle.wire.specs.Records.{sector, spelled_record}
 use Rattle.wire.specs.Sinks.{Takes, over_writer}
 use Rattle.wire.specs.Stream.{IsStream}
 use Rattle.wire.specs.Telling.{is_owed}
@@ -111,6 +121,10 @@ pub record GoesOnSent (m : MachineState) (h : History) (taken : List ℕ) (event
   pub came : guest_events history ≡ guest_events h ++ events
   pub text_is : text m history ≡ text m h
 
+-- What the end of a round writes, by its reply.
+abbrev pub round_text : LiveReply → List ℕ
+round_text reply = sent_in (a_round_end reply)
+
 -- The address at which RAM begins, while it is lent.
 abbrev pub lent_base : LiveParkedSeen → ℕ
 lent_base p = base_of (map (λ d. d.state) p.parked.devices)
@@ -129,6 +143,41 @@ abbrev pub LentStepsStaySent : Type 0
 LentStepsStaySent = (m : MachineState) (h : History) (taken pages : List ℕ) (wrote seen : List ℕ) (dev pick : ℕ) (reply : Reply) (effect : Effect) (before : Region) (p next : LiveParkedSeen) → IsSentLent m h taken pages before p
     → StepsBeside p seen dev pick reply effect next → KeepsWord before (with_content before seen) (length p.parked.versions) wrote
     → GoesOnLentSent m h taken (page_writes (lent_base p) wrote seen ++ Step dev pick ∷ []) (pages ++ wrote) (with_content before (set_all seen effect.writes)) next
+
+-- As above, and these bytes are written meanwhile.
+pub record SendsOnLent (m : MachineState) (h : History) (taken : List ℕ) (events : List Event) (bytes pages : List ℕ) (before : Region) (next : LiveParkedSeen) : Type 0 where
+  pub history : History
+  pub is_sent : IsSentLent m history taken pages before next
+  pub came : guest_events history ≡ guest_events h ++ events
+  pub text_is : text m history ≡ text m h ++ bytes
+
+-- A page that is handed in adds the guest's write of it with these bytes, and its record. It is to be named no longer, unless RAM has other
+-- bytes there when it is given back.
+abbrev pub HandingsStaySent : Type 0
+HandingsStaySent = (m : MachineState) (h : History) (taken pages bytes : List ℕ) (n : ℕ) (before : Region) (p next : LiveParkedSeen) → IsSentLent m h taken pages before p → HandsIn p n bytes next
+    → SendsOnLent m h taken (MemWrite (lent_base p + PAGE_SIZE * n) bytes ∷ []) (page_text n bytes) (without n pages) (with_content before (put_at before.content (PAGE_SIZE * n) bytes)) next
+
+-- One at which the writer failed adds nothing but the failure.
+abbrev pub FailedHandingsStaySent : Type 0
+FailedHandingsStaySent = (m : MachineState) (h : History) (taken pages : List ℕ) (before : Region) (p next : LiveParkedSeen) → IsSentLent m h taken pages before p → HandingFails p next → SendsOnLent m h taken [] [] pages before next
+
+-- A sector that is sent while RAM is lent adds its record, as it lies on the disk; one that is not adds nothing but its refusal.
+abbrev pub LentSectorsStaySent : Type 0
+LentSectorsStaySent = (m : MachineState) (h : History) (taken pages : List ℕ) (dev n : ℕ) (content : Sector) (before : Region) (p next : LiveParkedSeen) → IsSentLent m h taken pages before p → sector_on (slice_get (parked_sectors p.parked) dev) n ≡ Some content
+    → CopiesLent p (r.Copied (items.Sector dev n)) next → SendsOnLent m h taken [] (spelled_record (sector dev n content)) pages before next
+
+abbrev pub UnsentSectorsStaySent : Type 0
+UnsentSectorsStaySent = (m : MachineState) (h : History) (taken pages : List ℕ) (error : MigError) (before : Region) (p next : LiveParkedSeen) → IsSentLent m h taken pages before p → CopiesLent p (r.Mig error) next → SendsOnLent m h taken [] [] pages before next
+
+-- A round that is ended while RAM is lent adds its end, where no page is to be named: what the guest writes in this loan comes after it.
+abbrev pub LentRoundsStaySent : Type 0
+LentRoundsStaySent = (m : MachineState) (h : History) (taken : List ℕ) (reply : LiveReply) (before : Region) (p next : LiveParkedSeen) → IsSentLent m h taken [] before p → EndsLent p reply next → SendsOnLent m h taken [] (round_text reply) [] before next
+
+-- A mark while RAM is lent adds writes of its pages with the bytes that RAM has there by the history, and these are to be named no longer,
+-- unless RAM has others when it is given back.
+abbrev pub LentMarksStaySent : Type 0
+LentMarksStaySent = (m : MachineState) (h : History) (taken pages marks : List ℕ) (before : Region) (p next : LiveParkedSeen) → IsSentLent m h taken pages before p → MarksParked p marks next
+    → SendsOnLent m h taken (page_writes (lent_base p) marks before.content) [] (beside marks pages) before next
 
 -- RAM that is given back by a caller that wrote into no page but these is as if the guest had written them by calls of the machine: so
 -- these writes are added to the history. What the caller names is still to be named no longer.

@@ -10,7 +10,7 @@ ghost use Rattle.c_handle.specs.Outside.{RefusedAnswersNothing, RefusedHandsNoth
 ghost use Rattle.c_handle.specs.Refused.{RefusedTellsNothing, RefusedWritesNothing};
 ghost use Rattle.c_handle.specs.Stepped.{RefusedStepsNothing};
 ghost use Rattle.c_handle.specs.Turns.{RefusedTurnsNothing, TurnsStaySent};
-ghost use Rattle.c_handle.specs.Sent.{AbortsAfterTakings, ArrivedIsSent, CallsStaySent, FailedFlushesStaySent, FirstIsSent, LentCallsStaySent, LentComesBackSent, LentStepsStaySent, LentTakingsStaySent, MarksStaySent, NoneIsAskedYet, StoppedIsWhole, TakingsChangeNothingElse, TakingsStaySent, TellingsStaySent};
+ghost use Rattle.c_handle.specs.Sent.{AbortsAfterTakings, ArrivedIsSent, CallsStaySent, FailedFlushesStaySent, FailedHandingsStaySent, FirstIsSent, HandingsStaySent, LentCallsStaySent, LentComesBackSent, LentMarksStaySent, LentRoundsStaySent, LentSectorsStaySent, LentStepsStaySent, LentTakingsStaySent, MarksStaySent, NoneIsAskedYet, StoppedIsWhole, TakingsChangeNothingElse, TakingsStaySent, TellingsStaySent, UnsentSectorsStaySent};
 
 /// A machine over disks in memory stays one.
 pub fn plain_stays()
@@ -173,6 +173,28 @@ pub fn lent_steps_stay_sent()
 /// So it is of what is taken while RAM is lent.
 pub fn lent_takings_stay_sent()
     ensures { LentTakingsStaySent }
+{}
+
+/// A page that is handed in while RAM is lent adds a write of the guest with its bytes, and its record, and is to be named no longer.
+pub fn handings_stay_sent()
+    ensures sent { HandingsStaySent }
+    ensures failed { FailedHandingsStaySent }
+{}
+
+/// A sector that is sent while RAM is lent adds its record.
+pub fn lent_sectors_stay_sent()
+    ensures sent { LentSectorsStaySent }
+    ensures unsent { UnsentSectorsStaySent }
+{}
+
+/// The end of a round while RAM is lent adds it, once no page of an earlier loan is still to be named.
+pub fn lent_rounds_stay_sent()
+    ensures { LentRoundsStaySent }
+{}
+
+/// A mark of pages while RAM is lent adds writes of them with the bytes that RAM has by the history.
+pub fn lent_marks_stay_sent()
+    ensures { LentMarksStaySent }
 {}
 
 /// RAM that is given back adds the writes of the pages that were written to the history. Those that it does not name are still to be named.
