@@ -183,6 +183,8 @@ static vmig_status save(vmig_machine *m, int bad) { size_t len; return vmig_save
 static vmig_status send_begin(vmig_machine *m, int bad) { (void)bad; return vmig_send_begin(m); }
 static vmig_status send_begin_as(vmig_machine *m, int bad) { return vmig_send_begin_as(m, bad ? 3 : VMIG_TOLD); }
 static vmig_status send_some(vmig_machine *m, int bad) { return vmig_send_some(m, bad ? 0 : 1); }
+static vmig_status send_next(vmig_machine *m, int bad) { uint32_t page; (void)bad; return vmig_send_next(m, &page); }
+static vmig_status send_page(vmig_machine *m, int bad) { return vmig_send_page(m, bad ? PAGES : 0, bytes); }
 static vmig_status send_round(vmig_machine *m, int bad) { (void)bad; return vmig_send_round(m); }
 static vmig_status send_stop(vmig_machine *m, int bad) { uint64_t pages, sectors; (void)bad; return vmig_send_stop(m, &pages, &sectors); }
 static vmig_status send_abort(vmig_machine *m, int bad) { (void)bad; return vmig_send_abort(m); }
@@ -198,6 +200,8 @@ static vmig_status send_tell(vmig_machine *m, int bad) { (void)bad; return vmig_
 #define OF_LOOK(DONE) {NO_MACHINE_YET, DONE, DONE, DONE, DONE, WHILE_LENT}
 #define OF_IDLE {NO_MACHINE_YET, VMIG_OK, VMIG_SENDING, VMIG_SENDING, VMIG_SENDING, WHILE_LENT}
 #define OF_SENDER(DONE) {NO_MACHINE_YET, VMIG_NOT_SENDING, DONE, VMIG_SEND_FAILED, VMIG_STOPPED, WHILE_LENT}
+#define WHILE_SENT_LENT(DONE) VMIG_NOT_SENDING, DONE, VMIG_SEND_FAILED
+#define OF_COPIER(DONE, LENT_DONE) {NO_MACHINE_YET, VMIG_NOT_SENDING, DONE, VMIG_SEND_FAILED, VMIG_STOPPED, WHILE_SENT_LENT(LENT_DONE)}
 #define OF_SENT(DONE) {NO_MACHINE_YET, VMIG_NOT_SENDING, DONE, DONE, DONE, VMIG_NOT_SENDING, DONE, DONE}
 
 /* A call that makes a machine, or continues one that arrives. */
@@ -229,7 +233,7 @@ static const Row ROWS[] = {
     {"vmig_step", step, OF_RAM(VMIG_IDLE)},
     {"vmig_work", work, OF_RAM(VMIG_IDLE)},
     {"vmig_push", push, OF_RAM(VMIG_OK)},
-    {"vmig_mark", mark, OF_RAM(VMIG_OK)},
+    {"vmig_mark", mark, OF_GUEST(VMIG_OK)},
     {"vmig_sync_failed", sync_failed, OF_GUEST(VMIG_OK)},
     {"vmig_disk_call", disk_call, OF_RAM(VMIG_IDLE)},
     {"vmig_disk_done", disk_done, OF_GUEST(VMIG_NOT_OUT)},
@@ -247,8 +251,11 @@ static const Row ROWS[] = {
     {"vmig_save", save, OF_IDLE},
     {"vmig_send_begin", send_begin, {NO_MACHINE_YET, VMIG_OK, VMIG_SENDING, VMIG_SEND_FAILED, VMIG_STOPPED, WHILE_LENT}},
     {"vmig_send_begin_as", send_begin_as, {NO_MACHINE_YET, VMIG_OK, VMIG_SENDING, VMIG_SEND_FAILED, VMIG_STOPPED, WHILE_LENT}},
-    {"vmig_send_some", send_some, OF_SENDER(VMIG_OK)},
-    {"vmig_send_round", send_round, OF_SENDER(VMIG_ROUND_OPEN)},
+    {"vmig_send_some", send_some, OF_COPIER(VMIG_OK, VMIG_LENT)},
+    {"vmig_send_next", send_next, OF_COPIER(VMIG_OK, VMIG_OK)},
+    {"vmig_send_page", send_page,
+     {NO_MACHINE_YET, VMIG_NOT_SENDING, VMIG_NOT_LENT, VMIG_NOT_LENT, VMIG_STOPPED, WHILE_SENT_LENT(VMIG_OK)}},
+    {"vmig_send_round", send_round, OF_COPIER(VMIG_ROUND_OPEN, VMIG_ROUND_OPEN)},
     {"vmig_send_stop", send_stop, OF_SENDER(VMIG_OK)},
     {"vmig_send_abort", send_abort, {NO_MACHINE_YET, VMIG_NOT_SENDING, VMIG_OK, VMIG_OK, VMIG_OK, WHILE_LENT}},
     {"vmig_send_left", send_left, OF_SENT(VMIG_OK)},
