@@ -245,9 +245,10 @@
  *         do_work(m);                                        and vmig_disk_call until VMIG_IDLE, where a disk is outside
  *     }
  *
- * Every vCPU, a processor of the guest, is outside while RAM is not lent, for the devices write into it then: for steps, copies,
- * the end of a round, the stop and RAM's own calls, and for nothing else. The devices see what was written at once, but a page is
- * sent anew only once it is named: at a return, or by vmig_mark, by a list (vmig_list) or a dirty bitmap as it is (vmig_bitmap).
+ * Every vCPU, a processor of the guest, is outside while RAM is not lent, for the devices write into it then: for steps, the begin
+ * and the stop of a send and RAM's own calls, and for nothing else (pages are sent while it is lent: see below). The devices see
+ * what was written at once, but a page is sent anew only once it is named: at a return, or by vmig_mark, by a list (vmig_list) or a
+ * dirty bitmap as it is (vmig_bitmap).
  * None needs a name before vmig_send_begin, but for vmig_pull; each that was written needs one before vmig_send_round and before
  * vmig_send_stop. A list takes no memory, and time for its pages alone; a bitmap one look for each word and each page that is
  * marked. vmig_send_left counts what was named: so mark, then ask what is left, then decide. Who may touch the bytes, to read or
@@ -276,6 +277,23 @@
  * paused, until vmig_send_abort or vmig_free. vmig_send_abort says when the guest may run here again. The machine that arrives may
  * run once the source has said so, and not before: else two hosts run one guest. A host whose protocol has no such word has let go
  * of the guest with the last byte of the stream.
+ *     RAM of yours is sent while it is lent and the guest runs: you copy each page out of it, and hand the copy in. On a thread of
+ * its own, under the lock of the machine, which is free for registers between two pages:
+ *
+ *     while ((s = vmig_send_next(m, &page)) == VMIG_OK || s == VMIG_SECTORS) {
+ *         if (s == VMIG_SECTORS) s = vmig_send_some(m, 16);                  sectors do not lie in RAM
+ *         else {
+ *             forget(page);                                                 in your log of the pages that were written
+ *             vmig_copy_page((const uint8_t *)ram.at + (size_t)4096 * page, bytes);
+ *             s = vmig_send_page(m, page, bytes);                           a mixture of old and new bytes, where the guest wrote
+ *         }
+ *         if (vmig_refused(s)) break;
+ *     }
+ *
+ * Forget the page's bit in your log, then copy its bytes, then hand them in; a page whose bytes may have changed since you began to
+ * copy is named at the return, or by a mark. Forgetting after the copy loses a page, and nothing sees it. Other writers count as the
+ * guest. `bytes` never points into RAM. So the guest stands for the begin and the stop alone: vmig_mark and vmig_send_round too are
+ * done while RAM is lent.
  *     The library digests the stream, by some 7 ns a byte, within these calls. After vmig_send_begin_as with VMIG_TOLD it does not:
  * you digest what you take (SHA-256), as on a thread of its own, and tell the digest by vmig_send_tell after the stop; the last 33
  * bytes of the stream, which hold it, can be taken only then.
@@ -898,8 +916,8 @@ vmig_status vmig_send_begin_as(vmig_machine *m, uint32_t flags) VMIG_CHECKED_(1)
  * LENT (RAM is lent, and a page is next), SEND_FAILED, and a part may wait. */
 vmig_status vmig_send_some(vmig_machine *m, uint32_t most) VMIG_CHECKED_(1);
 
-/* What is sent next, by vmig_send_some or vmig_send_page: VMIG_OK, and *page becomes the page's number; VMIG_SECTORS: no page is due,
- * and sectors are; or VMIG_ROUND_DONE: nothing is due. Where it is not VMIG_OK *page is as it was. SEND_FAILED. */
+/* What is sent next: VMIG_OK: the page *page, the least that is due; VMIG_SECTORS: no page is due, and sectors are: vmig_send_some
+ * copies them, while RAM is lent too; or VMIG_ROUND_DONE: nothing is due. Unless it is VMIG_OK *page is as it was. */
 vmig_status vmig_send_next(const vmig_machine *m, uint32_t *page) VMIG_CHECKED_(1, 2);
 
 #if defined(__GNUC__)
@@ -908,8 +926,8 @@ typedef uint64_t vmig_word_ __attribute__((may_alias, aligned(1)));
 typedef uint8_t vmig_word_;
 #endif
 
-/* Copies the 4,096 bytes of a page of lent RAM for vmig_send_page, while the guest may write them: each 8 bytes are loaded once, and
- * the compiler assumes nothing about what it reads. */
+/* Copies the 4,096 bytes of a page out of lent RAM, which the guest may write meanwhile: each is loaded once, in loads of 8 bytes
+ * (of one without gcc or clang), and the compiler assumes nothing of what it reads. For vmig_send_page. */
 static inline void vmig_copy_page(const void *page, uint8_t bytes[4096])
 {
     const volatile vmig_word_ *from = VMIG_AS_(const volatile vmig_word_ *, page);
@@ -919,11 +937,11 @@ static inline void vmig_copy_page(const void *page, uint8_t bytes[4096])
     for (size_t i = 0; i < 4096 / sizeof *to; i++) to[i] = from[i];
 }
 
-/* Copies a page while RAM is lent and the guest runs: the 4,096 bytes at `bytes`, which you have copied out of RAM (vmig_copy_page),
- * whatever the guest wrote meanwhile. It has to be the page that vmig_send_next names. The order matters, and nothing checks it:
- * forget the page's bit in your log, then copy its bytes, then hand them in. `bytes` never points into RAM. For vmig_pull name the
- * page all the same.
- * OUT_OF_RAM (no such page), NOT_NEXT, SEND_FAILED, and a part may wait. */
+/* Sends a page while RAM is lent and the guest runs: the 4,096 bytes at `bytes`, which you copied out of RAM after you had forgotten
+ * its bit (A MACHINE IS SENT WHILE IT RUNS, above), whatever the guest wrote meanwhile. It has to be the page that vmig_send_next
+ * names. It is due and dirty no longer; what an earlier loan left to be named of it need not be. Its version does not rise: for
+ * vmig_pull name it at the return all the same.
+ * OUT_OF_RAM (no such page), NOT_NEXT (another page is next, or none), SEND_FAILED, and a part may wait. */
 vmig_status vmig_send_page(vmig_machine *m, uint32_t page, const uint8_t bytes[4096]) VMIG_CHECKED_(1, 3);
 
 /* Ends the round, if nothing is due in it: what the guest and the devices wrote since it was sent is due in the next. VMIG_OK, or

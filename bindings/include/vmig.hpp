@@ -533,10 +533,6 @@ public:
     [[nodiscard]] status send_begin_as(std::uint32_t flags) noexcept { return status{vmig_send_begin_as(&held, flags)}; }
     [[nodiscard]] status send_some(std::uint32_t most) noexcept { return status{vmig_send_some(&held, most)}; }
     [[nodiscard]] status send_next(std::uint32_t *page) const noexcept { return status{vmig_send_next(&held, page)}; }
-    [[nodiscard]] status send_page(std::uint32_t page, const std::array<std::uint8_t, 4096> &bytes) noexcept
-    {
-        return status{vmig_send_page(&held, page, bytes.data())};
-    }
     [[nodiscard]] status send_round() noexcept { return status{vmig_send_round(&held)}; }
     [[nodiscard]] status send_stop(std::uint64_t *copied, std::uint64_t *sectors) noexcept
     {
@@ -666,11 +662,14 @@ public:
     {
         return held.written(numbers, size, count);
     }
+    [[nodiscard]] status mark(const pages &written) noexcept { return held.mark(written); }
+    [[nodiscard]] status send_some(std::uint32_t most) noexcept { return held.send_some(most); }
     [[nodiscard]] status send_next(std::uint32_t *page) const noexcept { return held.send_next(page); }
     [[nodiscard]] status send_page(std::uint32_t page, const std::array<std::uint8_t, 4096> &bytes) noexcept
     {
-        return held.send_page(page, bytes);
+        return status{vmig_send_page(held.get(), page, bytes.data())};
     }
+    [[nodiscard]] status send_round() noexcept { return held.send_round(); }
     [[nodiscard]] status send_left(vmig_left *left) const noexcept { return held.send_left(left); }
     [[nodiscard]] status send_take(std::uint8_t *buf, std::size_t size, std::size_t *got) noexcept
     {

@@ -342,6 +342,46 @@ static void lend_ram(vmig_machine *m)
     expect("requests for memory", requests, before);
 }
 
+/* What is due goes out while RAM is lent: pages as they are handed in, and sectors; then every page is named, and the round ends. Returns whether
+ * the stream failed. */
+static int send_lent(vmig_machine *m, const uint8_t *ram)
+{
+    static const vmig_pages all = VMIG_ALL_PAGES;
+    static uint8_t bytes[PAGE];
+    uint32_t page = 0;
+    uint64_t before = requests;
+
+    while (CALL(vmig_send_next(m, &page)) != VMIG_ROUND_DONE) {
+        expect("what is next takes no memory", requests, before);
+        vmig_copy_page(ram + PAGE * page, bytes);
+        if (answer == VMIG_SECTORS) CALL(vmig_send_some(m, 3));
+        else CALL(vmig_send_page(m, page, bytes));
+        if (answer == VMIG_SEND_FAILED) return 1;
+        expect("it is sent", vmig_refused(answer), 0);
+        before = requests;
+    }
+    CALL_AGAIN("all pages are named", vmig_mark(m, &all), VMIG_OK);
+    if (CALL(vmig_send_round(m)) == VMIG_SEND_FAILED) return 1;
+    expect("the round ends", answer, VMIG_OK);
+    return 0;
+}
+
+/* A machine is sent while its RAM is lent. Where that fails RAM comes back, and it is sent anew. */
+static void send_beside(vmig_machine *m)
+{
+    vmig_ram ram = VMIG_NO_RAM;
+    int has_failed;
+
+    do {
+        CALL_AGAIN("begin", vmig_send_begin(m), VMIG_OK);
+        expect("lend", CALL(vmig_lend(m, &ram)), VMIG_OK);
+        has_failed = send_lent(m, ram.at);
+        told += has_failed;
+        expect("a list", CALL(give_back_list(m, &ram, NULL, 0)), VMIG_OK);
+        expect("abort", CALL(vmig_send_abort(m)), VMIG_OK);
+    } while (has_failed);
+}
+
 /* New machines that are made in each way, the last two over RAM of the host's own. */
 static void make_all(void)
 {
@@ -358,6 +398,7 @@ static void make_all(void)
     expect("the image is back", (uint64_t)(slots[0].at == mapped), 1);
     CALL_AGAIN("over RAM and an image", make_over(&ram, shapes, DEVICES, slots, 1, &on_images), VMIG_OK);
     lend_ram(&on_images);
+    send_beside(&on_images);
     alike("over RAM and an image", &m, &on_images);
     CALL((vmig_free(&on_images), 0));
     CALL_AGAIN("over RAM", make_over(&rest, shapes, DEVICES, NULL, 0, &over), VMIG_OK);

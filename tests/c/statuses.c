@@ -362,18 +362,18 @@ static void no_stream_within(void)
 
 static void names(void)
 {
-    static const uint32_t unknown[] = {6, 13, 14, 16, 19, 32, 46, 50, 63, 64, 74, 75, 83, 255, UINT32_MAX};
+    static const uint32_t unknown[] = {6, 13, 14, 16, 19, 46, 50, 63, 64, 74, 75, 83, 85, 255, UINT32_MAX};
     uint32_t known = 0;
 
     expect("name of a success", (uint64_t)strcmp(vmig_status_name(VMIG_OK), "VMIG_OK"), 0);
     expect("name of a refusal", (uint64_t)strcmp(vmig_status_name(VMIG_NO_DEVICE), "VMIG_NO_DEVICE"), 0);
-    expect("name of the last status", (uint64_t)strcmp(vmig_status_name(VMIG_WHOLE), "VMIG_WHOLE"), 0);
+    expect("name of the last status", (uint64_t)strcmp(vmig_status_name(VMIG_SECTORS), "VMIG_SECTORS"), 0);
     for (uint32_t status = 0; status < 256; status++) {
         if (strncmp(vmig_status_name(status), "VMIG_", 5) == 0) known++;
         expect("refused", (uint64_t)vmig_refused(status), status >= 1 && status <= 63);
     }
     expect("refused", (uint64_t)vmig_refused(UINT32_MAX), 0);
-    expect("statuses that have a name", known, 59);
+    expect("statuses that have a name", known, 61);
     for (size_t i = 0; i < sizeof unknown / sizeof *unknown; i++)
         expect("no name", (uint64_t)strcmp(vmig_status_name(unknown[i]), "unknown status"), 0);
 }

@@ -108,6 +108,7 @@ void none()
     machine m;
     lent loan;
     std::uint64_t copied = 0, sectors = 0;
+    std::uint32_t page = 0;
     std::uint8_t sector[512] = {};
     std::size_t len = 0;
     vmig_left left;
@@ -120,6 +121,7 @@ void none()
     EXPECT(m.send_begin(), status::no_machine);
     EXPECT(m.send_begin_as(VMIG_TOLD), status::no_machine);
     EXPECT(m.send_some(1), status::no_machine);
+    EXPECT(m.send_next(&page), status::no_machine);
     EXPECT(m.send_round(), status::no_machine);
     EXPECT(m.send_stop(&copied, &sectors), status::no_machine);
     EXPECT(m.send_abort(), status::no_machine);
@@ -151,6 +153,7 @@ void idle_and_lent()
     std::vector<std::uint8_t> memory(4 * 4096);
     machine m = made(memory);
     lent loan, other;
+    std::uint32_t page = 0;
     std::uint8_t sector[512] = {};
     std::size_t len = 0;
     vmig_left left;
@@ -166,6 +169,11 @@ void idle_and_lent()
     EXPECT(other.describe().lent == 1);
     without_ram(other, status::ok);
     looks(other, status::ok);
+    EXPECT(other.mark(pages::none()), status::ok);
+    EXPECT(other.send_some(1), status::not_sending);
+    EXPECT(other.send_next(&page), status::not_sending);
+    EXPECT(other.send_page(0, {}), status::not_sending);
+    EXPECT(other.send_round(), status::not_sending);
     EXPECT(other.send_left(&left), status::not_sending);
     EXPECT(other.send_take(sector, 1, &len), status::not_sending);
     EXPECT(std::move(other).give_back(pages::none(), &m), status::ok);
@@ -213,6 +221,50 @@ void moved()
     EXPECT(m.send_abort(), status::ok);
     EXPECT(m.save(nullptr, 0, &got), status::more);
     EXPECT(arrived.describe().pages == 4);
+}
+
+// It is sent while its RAM is lent.
+void handed_in()
+{
+    std::vector<std::uint8_t> memory(4 * 4096, 5);
+    machine m = made(memory), arrived;
+    lent loan;
+    std::array<std::uint8_t, 4096> bytes;
+    std::uint64_t copied = 0, sectors = 0;
+    std::uint8_t piece[4096];
+    std::uint32_t page = 9;
+    std::size_t got = 0;
+    vmig_arrival arrival = VMIG_ARRIVAL;
+    status told = status::ok;
+
+    arrival.most_pages = 4;
+    EXPECT(arrived.arrive(&arrival), status::ok);
+    EXPECT(m.send_begin(), status::ok);
+    EXPECT(m.send_next(&page), status::ok);
+    EXPECT(page == 0);
+    EXPECT(std::move(m).lend(&loan), status::ok);
+    EXPECT(loan.send_some(1), status::lent);
+    EXPECT(loan.send_page(1, bytes), status::not_next);
+    EXPECT(loan.send_page(4, bytes), status::out_of_ram);
+    while (loan.send_next(&page) == status::ok) {
+        vmig_copy_page(loan.data() + 4096 * page, bytes.data());
+        EXPECT(loan.send_page(page, bytes), status::ok);
+    }
+    EXPECT(loan.send_next(&page), status::round_done);
+    EXPECT(page == 3);
+    memory[4096] = 6;
+    EXPECT(loan.mark(pages::list(&page, 1)), status::ok);
+    EXPECT(loan.send_round(), status::ok);
+    EXPECT(loan.send_some(1), status::lent);
+    page = 1;
+    EXPECT(std::move(loan).give_back(pages::list(&page, 1), &m), status::ok);
+    EXPECT(m.send_stop(&copied, &sectors), status::ok);
+    EXPECT(copied == 2 && sectors == 0);
+    while (!vmig::refused(told) && m.send_take(piece, sizeof piece, &got) == status::ok && got != 0) told = arrived.feed(piece, got);
+    EXPECT(told, status::whole);
+    EXPECT(arrived.finish(), status::ok);
+    EXPECT(arrived.ram_read(4096, piece, 4096), status::ok);
+    EXPECT(piece[0] == 6 && piece[1] == 5);
 }
 
 // The host tells the digest of what it sends.
@@ -329,6 +381,7 @@ int main()
     none();
     idle_and_lent();
     moved();
+    handed_in();
     told();
     large();
     long_frames();

@@ -39,6 +39,7 @@ namespace {
     m.send_begin();
     m.send_begin_as(0);
     m.send_some(1);
+    m.send_next(nullptr);
     m.send_round();
     m.send_stop(words, words);
     m.send_abort();
@@ -72,6 +73,11 @@ namespace {
     loan.disk_failed(0);
     loan.calls_out(nullptr, 0, nullptr);
     loan.written(nullptr, 0, nullptr);
+    loan.mark(vmig::pages::none());
+    loan.send_some(1);
+    loan.send_next(nullptr);
+    loan.send_page(0, {});
+    loan.send_round();
     loan.send_left(nullptr);
     loan.send_take(bytes, 1, nullptr);
     std::move(loan).give_back(vmig::pages::none(), back);
