@@ -247,12 +247,11 @@
  *
  * Every vCPU, a processor of the guest, is outside while RAM is not lent, for the devices write into it then: for steps, the begin
  * and the stop of a send and RAM's own calls, and for nothing else (pages are sent while it is lent: see below). The devices see
- * what was written at once, but a page is sent anew only once it is named: at a return, or by vmig_mark, by a list (vmig_list) or a
- * dirty bitmap as it is (vmig_bitmap).
- * None needs a name before vmig_send_begin, but for vmig_pull; each that was written needs one before vmig_send_round and before
- * vmig_send_stop. A list takes no memory, and time for its pages alone; a bitmap one look for each word and each page that is
- * marked. vmig_send_left counts what was named: so mark, then ask what is left, then decide. Who may touch the bytes, to read or
- * to write them:
+ * what was written at once, but a page is sent anew only once it is named: at a return, or by vmig_mark, by a list (vmig_list) or
+ * a dirty bitmap as it is (vmig_bitmap). None needs a name before vmig_send_begin, but for vmig_pull; each that was written in a
+ * loan before needs one before vmig_send_round, and before vmig_send_stop, unless it was handed in since. A list takes no memory,
+ * and time for its pages alone; a bitmap one look for each word and each page that is marked. vmig_send_left counts what was
+ * named: so mark, then ask what is left, then decide. Who may touch the bytes, to read or to write them:
  *
  *                         before make, arrive  idle, sending  lent  stopped  arriving, failed  after free, release
  *     you and the guest   yes                  no             yes   no       no                yes
@@ -292,8 +291,8 @@
  *
  * Forget the page's bit in your log, then copy its bytes, then hand them in; a page whose bytes may have changed since you began to
  * copy is named at the return, or by a mark. Forgetting after the copy loses a page, and nothing sees it. Other writers count as the
- * guest. `bytes` never points into RAM. So the guest stands for the begin and the stop alone: vmig_mark and vmig_send_round too are
- * done while RAM is lent.
+ * guest. `bytes` never points into RAM. Pages are named by vmig_mark, and rounds ended, while RAM is lent too: so a move holds the
+ * guest for its begin and its stop alone.
  *     The library digests the stream, by some 7 ns a byte, within these calls. After vmig_send_begin_as with VMIG_TOLD it does not:
  * you digest what you take (SHA-256), as on a thread of its own, and tell the digest by vmig_send_tell after the stop; the last 33
  * bytes of the stream, which hold it, can be taken only then.
@@ -312,8 +311,8 @@
  * vmig_work, for a chain of more than four descriptors, or a message longer than those before it; vmig_give_back, vmig_mark and
  * vmig_push with a bitmap or with all pages, for 4 bytes for each page that they name, which are kept for the next such call;
  * vmig_send_begin and vmig_send_begin_as, for two bits for each page and sector; and these two, vmig_send_some, vmig_send_page,
- * vmig_send_round and vmig_send_stop for what they write, which waits until it is taken: a stop of a machine of which nothing was copied before writes
- * the whole machine. No other call does. */
+ * vmig_send_round and vmig_send_stop for what they write, which waits until it is taken: a stop of a machine of which nothing was
+ * copied before writes the whole machine. No other call does. */
 #ifndef VMIG_H
 #define VMIG_H
 
@@ -865,17 +864,17 @@ vmig_status vmig_ram_write(vmig_machine *m, uint64_t addr, const uint8_t *bytes,
 vmig_status vmig_lend(vmig_machine *m, vmig_ram *ram) VMIG_CHECKED_(1, 2);
 
 /* Takes RAM back, with all vCPUs outside; *ram is VMIG_NO_RAM then. Its address may be another, if the bytes moved there: RAM lies
- * there from then on. `written` names the pages that the guest or you wrote meanwhile: each counts as written whole, and is sent
- * anew. A page that was written and is named neither here, nor at a later return, nor by vmig_mark, before the next
- * vmig_send_round or vmig_send_stop, is lost at the target: nothing checks it. After a refusal RAM is still lent.
+ * there from then on. `written` names the pages that were written meanwhile, or since they were handed in: each counts as written
+ * whole, and is sent anew. A page that was written and is named neither here, nor at a later return, nor by vmig_mark, before the
+ * next vmig_send_round or vmig_send_stop, is lost at the target: nothing checks it. After a refusal RAM is still lent.
  * NOT_KNOWN, BAD_RAM (another length than what was lent; null), TOO_SMALL, OUT_OF_RAM (no such page), NO_MEMORY (a bitmap, or
  * all). */
 vmig_status vmig_give_back(vmig_machine *m, vmig_ram *ram, const vmig_pages *written) VMIG_CHECKED_(1, 2, 3);
 
 /* Names pages that were written while RAM was lent, and not named when it came back, as vmig_give_back does: each is taken for
- * written whole, with the bytes that lie there. Pages may be named in pieces, and more of them than were written. While RAM is lent
- * they become dirty, and are due after vmig_send_round; a page that may be written after it is named again, by another mark or at
- * the return. It changes nothing for vmig_pull then, nor of a machine that is not being sent: for these the return names them.
+ * written whole, with the bytes that lie there. Pages may be named in pieces, and more of them than were written. While RAM is
+ * lent they become dirty, and so are due after vmig_send_round; the return names them all the same, unless they were handed in
+ * since. Of a machine that is not being sent nothing changes then.
  * NOT_KNOWN, TOO_SMALL, OUT_OF_RAM (no such page), NO_MEMORY (a bitmap, or all). */
 vmig_status vmig_mark(vmig_machine *m, const vmig_pages *written) VMIG_CHECKED_(1, 2);
 
@@ -945,8 +944,8 @@ static inline void vmig_copy_page(const void *page, uint8_t bytes[4096])
 vmig_status vmig_send_page(vmig_machine *m, uint32_t page, const uint8_t bytes[4096]) VMIG_CHECKED_(1, 3);
 
 /* Ends the round, if nothing is due in it: what the guest and the devices wrote since it was sent is due in the next. VMIG_OK, or
- * VMIG_ROUND_OPEN: something is still due, and nothing changed. While RAM is lent what was written in this loan counts as written
- * after it; what was written before has to be named before. NO_ROUND_LEFT, SEND_FAILED. */
+ * VMIG_ROUND_OPEN: something is still due, and nothing changed. While RAM is lent, too: then what was written in this loan
+ * counts as written after it, and what an earlier one left has to be named before. NO_ROUND_LEFT, SEND_FAILED. */
 vmig_status vmig_send_round(vmig_machine *m) VMIG_CHECKED_(1);
 
 /* Copies all that is due or was written since it was sent, then the devices, and closes the stream. *pages and *sectors become the
