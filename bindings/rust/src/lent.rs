@@ -4,10 +4,15 @@ use crate::call::Call;
 use crate::device::Device;
 use crate::error::{Error, Refused, SyncError, done};
 use crate::machine::{Machine, Next, Pick, State};
-use crate::migration::Left;
+use crate::migration::{Due, Left};
 use crate::pages::Pages;
 use crate::raw;
 use std::slice;
+use std::sync::atomic::{AtomicU64, Ordering};
+
+/// The bytes of a page, and of what is loaded of one at once.
+const PAGE_SIZE: usize = 4096;
+const WORD_SIZE: usize = size_of::<AtomicU64>();
 
 /// A machine whose RAM is lent: the caller and its guest read and write the bytes. Until RAM is given back it has the calls that need no byte of
 /// it: registers, what the host puts in, the lines, the next step, and the bytes of a move.
@@ -244,6 +249,55 @@ impl Lent {
     /// As [`Machine::written`].
     pub fn written(&mut self) -> Result<Vec<u32>, Error> {
         self.machine.written()
+    }
+
+    /// As [`Machine::send_next`].
+    pub fn send_next(&self) -> Result<Due, Error> {
+        self.machine.send_next()
+    }
+
+    /// Copies a page out of RAM while the guest may write it: each 8 bytes are loaded once, as an atomic, and no reference to them is made. The
+    /// bytes may be those of two writes of the guest. `OutOfRam`: there is no such page.
+    pub fn copy_page(&self, page: u32, bytes: &mut [u8; PAGE_SIZE]) -> Result<(), Error> {
+        let first = page as usize * PAGE_SIZE;
+        if first >= self.ram.len {
+            return Err(Error::OutOfRam);
+        }
+        let words = self.ram.at.cast::<AtomicU64>();
+        for (n, word) in bytes.chunks_exact_mut(WORD_SIZE).enumerate() {
+            // SAFETY: RAM has this page, begins at a multiple of a page, and is there until it is given back; all that writes it meanwhile is
+            // the guest, and who copies.
+            let at = unsafe { &*words.add(first / WORD_SIZE + n) };
+            word.copy_from_slice(&at.load(Ordering::Relaxed).to_ne_bytes());
+        }
+        Ok(())
+    }
+
+    /// Sends a page while RAM is lent and the guest runs, by the bytes that were copied out of it, as by [`Lent::copy_page`]. It has to be the one
+    /// that [`Lent::send_next`] names, else `NotNext`. **Forget the page's bit in your log, then copy its bytes, then hand them in**: a page whose
+    /// bytes may have changed since the copy began is named when RAM is given back, or by a mark. To forget after the copy loses a page, and
+    /// nothing sees it.
+    ///
+    /// Refusals besides: `OutOfRam` (no such page), `NotSending`, `SendFailed`.
+    pub fn send_page(&mut self, page: u32, bytes: &[u8; PAGE_SIZE]) -> Result<(), Error> {
+        // SAFETY: the handle is of this machine, and the array is no part of RAM and valid for the call.
+        done(unsafe { raw::vmig_send_page(&mut self.machine.held, page, bytes) }).map(drop)
+    }
+
+    /// As [`Machine::send_some`], of sectors: `Lent` where a page is next ([`Lent::send_page`]).
+    pub fn send_some(&mut self, most: u32) -> Result<bool, Error> {
+        self.machine.send_some(most)
+    }
+
+    /// As [`Machine::send_round`]. What was written in this loan counts as written after it; what was written before it has to be named before.
+    pub fn send_round(&mut self) -> Result<bool, Error> {
+        self.machine.send_round()
+    }
+
+    /// As [`Machine::mark`]. A page that may be written after it is named again. It changes nothing for [`Machine::pull`], nor of a machine that is
+    /// not being sent: for these pages are named when RAM is given back.
+    pub fn mark(&mut self, written: Pages<'_>) -> Result<(), Error> {
+        self.machine.mark(written)
     }
 
     /// As [`Machine::send_left`]. What was written and not named is not counted.

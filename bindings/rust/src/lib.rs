@@ -188,7 +188,7 @@ pub use image::Image;
 pub use lent::Lent;
 pub use machine::{Machine, Next, Parts, Pick, State, Step};
 pub use memory::Memory;
-pub use migration::Left;
+pub use migration::{Due, Left};
 pub use pages::Pages;
 pub use turn::{Turn, TurnEnd};
 

@@ -20,6 +20,17 @@ pub struct Left {
     pub stop_bytes: u64,
 }
 
+/// What is sent next.
+#[derive(Clone, Copy, Debug, PartialEq, Eq, Hash)]
+pub enum Due {
+    /// This page.
+    Page(u32),
+    /// No page is due any more in this round, and sectors are.
+    Sectors,
+    /// Nothing is due in this round.
+    Nothing,
+}
+
 /// It is sent while it runs: `send_begin`, then `send_some` and `send_round` as often as the host likes, then `send_stop`.
 impl Machine {
     /// It begins to be sent: every page and sector is due in round 1.
@@ -50,6 +61,17 @@ impl Machine {
         // SAFETY: as above.
         let status = done(unsafe { raw::vmig_send_some(&mut self.held, most) })?;
         Ok(status != raw::ROUND_DONE)
+    }
+
+    /// What is sent next in this round.
+    pub fn send_next(&self) -> Result<Due, Error> {
+        let mut page = 0;
+        // SAFETY: as above.
+        match done(unsafe { raw::vmig_send_next(&self.held, &mut page) })? {
+            raw::ROUND_DONE => Ok(Due::Nothing),
+            raw::SECTORS => Ok(Due::Sectors),
+            _ => Ok(Due::Page(page)),
+        }
     }
 
     /// Ends the round, if nothing is due in it, and tells whether it did.

@@ -2,7 +2,7 @@
 
 mod common;
 use common::{CARD, INTERRUPT_ACK, QUEUE_SEL, Ring, STATUS, bytes, made, ready, work};
-use vmig::{Arrival, Device, Error, Lent, Machine, Memory, Next, Pages, Pick, State};
+use vmig::{Arrival, Device, Due, Error, Lent, Machine, Memory, Next, Pages, Pick, State};
 
 const DEVICES: [Device; 3] = [Device::Entropy, Device::Console, Device::disk(2)];
 
@@ -57,6 +57,41 @@ fn a_lent_machine_refuses_what_it_would_refuse_otherwise() {
     );
     assert_eq!((lent.room(3), lent.sync_failed(0)), (Err(Error::NoDevice), Err(Error::WrongKind)));
     assert_eq!((lent.send_left(), lent.send_take(&mut [0])), (Err(Error::NotSending), Err(Error::NotSending)));
+}
+
+#[test]
+fn a_round_is_sent_while_ram_is_lent() {
+    let mut machine = logged();
+    let mut arrival = Arrival::builder().memory(Memory::zeros(16).unwrap()).devices(&DEVICES).most_sectors(2).begin().unwrap();
+    assert_eq!(machine.send_next(), Err(Error::NotSending));
+    machine.send_begin().unwrap();
+    assert_eq!(machine.send_next(), Ok(Due::Page(0)));
+    let mut lent = machine.lend().unwrap();
+    lent.ram_mut()[0x2ffe..0x3001].copy_from_slice(b"abc");
+    let mut page = [9; 4096];
+    assert_eq!(
+        (lent.send_some(1), lent.send_page(1, &page), lent.send_page(16, &page)),
+        (Err(Error::Lent), Err(Error::NotNext), Err(Error::OutOfRam))
+    );
+    assert_eq!((lent.copy_page(16, &mut page), page), (Err(Error::OutOfRam), [9; 4096]));
+    for number in 0..16 {
+        assert_eq!(lent.send_next(), Ok(Due::Page(number)));
+        lent.copy_page(number, &mut page).unwrap();
+        assert_eq!(lent.send_page(number, &page), Ok(()));
+    }
+    assert_eq!((lent.send_next(), lent.send_round()), (Ok(Due::Sectors), Ok(false)));
+    assert_eq!((lent.send_some(1), lent.send_some(5)), (Ok(true), Ok(false)));
+    lent.ram_mut()[0x2fff] = b'z';
+    assert_eq!((lent.mark(Pages::list(&[2])), lent.send_left().unwrap().dirty_pages), (Ok(()), 1));
+    assert_eq!((lent.send_next(), lent.send_round(), lent.send_next()), (Ok(Due::Nothing), Ok(true), Ok(Due::Page(2))));
+    lent.copy_page(2, &mut page).unwrap();
+    assert_eq!(lent.send_page(2, &page), Ok(()));
+    let mut machine = lent.give_back(Pages::list(&[2])).unwrap();
+    assert_eq!(machine.send_stop(), Ok((1, 0)));
+    let mut stream = vec![0; 1 << 20];
+    let len = machine.send_take(&mut stream).unwrap();
+    assert_eq!(arrival.feed(&stream[..len]), Ok(true));
+    assert_eq!(bytes(&arrival.finish().unwrap(), 0x2ffe, 3), b"azc");
 }
 
 #[test]
