@@ -169,7 +169,7 @@ static void in_order(vmig_machine *m, vmig_ram *ram, int wrong)
     uint64_t seen[PAGES];
 
     expect("no machine", vmig_mark(&none, &pages), VMIG_NO_MACHINE);
-    expect("lent", vmig_mark(m, &pages), VMIG_LENT);
+    expect("a mark while RAM is lent", vmig_mark(m, &pages), VMIG_TOO_SMALL);
     expect("lent", vmig_push(m, &pages, room, sizeof room, seen, PAGES), VMIG_LENT);
     expect("null RAM", vmig_give_back(m, &null, &pages), VMIG_BAD_RAM);
     pages.zero = 1;
