@@ -38,6 +38,9 @@
 //! - `lend` lends RAM that lies in memory of the caller to it, and `give_back` takes it back with the pages that were written
 //!   (`specs/Lent`). Meanwhile the handle has all of the machine but its RAM (`loan`): a call that touches no byte of it is done, with the
 //!   clause that it has of any machine, whatever RAM holds meanwhile, and each other call is refused.
+//! - While RAM is lent a machine is sent too. The caller copies the page that `send_next` names, and hands it in by `send_page`
+//!   (`specs/HandingIn`): in the history the guest wrote it with these bytes, and then it was copied. `send_some` sends sectors, `send_round`
+//!   ends rounds, and `mark` names pages with the bytes that RAM has by the history (`specs/Sent`, `laws`).
 //! - `hand_call` hands out what a disk outside is to do, the next call of crate `disk_calls` over the machine's requests, and `answer_done`
 //!   and `answer_failed` answer one by its number: the machine's event at the request that asked, or nothing where none waits any more
 //!   (`specs/Outside`). An answer that puts no bytes into RAM is taken while it is lent too. Of a disk that is lost no answer says that something is
@@ -45,7 +48,7 @@
 //!   where the struct says that makes the machine or lets it arrive. A register write and a reset that would drop a request whose call is out are
 //!   refused (`specs/Dropping`), and so is a stop while one is. So whatever a host calls, each answer meets the request that its call was handed
 //!   out for, and a call that is out stays so until it is answered (`specs/CallsMet`).
-//! - `mark` names pages later than RAM came back: each is taken for written whole, with the bytes that lie there (`specs/Late`). By which
+//! - `mark` names pages later than they were written: each is taken for written whole, with the bytes that lie there (`specs/Late`). By which
 //!   pages a machine that is being migrated is behind its history the laws say; a round and a stop want none (`specs/Sent`).
 //! - Where its struct asks for a log, a step, a write of RAM and a push are told to it, each page that they wrote into and no other, and
 //!   `hand_out` hands these out from the least on, each once (`specs/HandedOut`). No other call changes it. It has a place for each

@@ -1,7 +1,8 @@
 //! What is left of a machine whose RAM is lent to the caller.
 //!
 //! A lent machine answers what touches no RAM: registers, what the host puts in, its lines and its shape, the next step, what is left to be
-//! sent, and what waits to be taken. All else is refused by one status, also where the answer could be given, such as a sector.
+//! sent, and what waits to be taken; and it is sent, by pages that the caller copies, sectors and ends of rounds. All else is refused by one
+//! status, also where the answer could be given, such as a sector.
 
 ghost use Rattle.std.specs.Prelude.{true};
 ghost use Rattle.c_handle.specs.Migrated.{HasTakenLent};
