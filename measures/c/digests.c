@@ -1,4 +1,4 @@
-/* What the move of RAM takes of a processor, by who digests the stream: `digests MIB` moves so much RAM of the program, once with a
+/* What the move of RAM takes of a processor, by who digests the stream: `digests MIB` moves MIB mebibytes of the program's RAM, once with a
  * digest of the library's own and once with one that is told, and prints the seconds of processor time for a GiB: of a copy by memcpy, of
  * the digest alone, of the calls of the source and of those of the target. With no word it moves 2 MiB by each, and prints nothing. What
  * arrives has to be RAM, byte for byte. With -DWITH_OPENSSL and -lcrypto the digest that is told is made by OpenSSL. */
@@ -104,7 +104,7 @@ static void move(vmig_machine *source, vmig_machine *target, struct digest *d, s
     carry(source, target, NULL, s);
 }
 
-/* A move of so many bytes, from RAM to RAM of the program. */
+/* Moves `len` bytes from RAM to RAM of the program. */
 static void measure(uint8_t *from, uint8_t *to, size_t len, int is_told, int is_long)
 {
     vmig_machine source = VMIG_NONE, target = VMIG_NONE;

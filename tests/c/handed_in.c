@@ -1,6 +1,6 @@
 /* Pages are handed in while RAM is lent and the guest writes. The guest and its log, as a hypervisor keeps one, are here, and what it writes comes
  * between the halves of a copy, so a page that is handed in may be a mixture. Loans have all lengths; sectors are sent, pages named and rounds ended
- * while RAM is lent and while it is not; a send fails for want of memory, a move is given up, and the next one begins anew. What arrives is RAM, byte
+ * while RAM is lent and while it is not; a send fails because memory is refused, a move is given up, and the next one begins anew. What arrives is RAM, byte
  * for byte, and the disk. A host that forgets a page's bit after it has copied the page, and not before, has to be found. */
 #include <stdlib.h>
 #include "driver.h"

@@ -33,14 +33,14 @@ pub record Differ (digest bytes : List ℕ) : Type 0 where
   pub long : 33 ≤ length bytes
   pub never : take 33 bytes ≢ 5 ∷ digest
 
--- They go on behind the record of this one.
+-- They continue after the record of this one.
 pub record GoOn (digest bytes : List ℕ) : Type 0 where
   pub byte : ℕ
   pub more : List ℕ
   pub whole : bytes ≡ 5 ∷ (digest ++ (byte ∷ more))
 
--- What these bytes are, by the digest that was told: its record, or fewer bytes than a record of a digest has; or they begin with another one, or go on
--- behind it.
+-- What these bytes are, by the digest that was told: its record, or fewer bytes than a record of a digest has; or they begin with another one, or
+-- continue after it.
 abbrev pub Compares : List ℕ → List ℕ → Result Bool RecvError → Type 0
 Compares digest bytes (Ok true) = bytes ≡ 5 ∷ digest
 Compares digest bytes (Ok false) = length bytes < 33
@@ -62,7 +62,7 @@ abbrev pub ComesOf : Received → List ℕ → List ℕ → Result (Unit {0}) Re
 ComesOf old digest bytes (Ok x) new = MayEnd old.stage × GoesOrEnds old digest bytes new
 ComesOf old digest bytes (Err e) new = Finds old.stage digest bytes (Err e)
 
--- The next bytes of the record of the digest were taken, or refused, by the digest that was told. No memory is wanted, and no disk is called.
+-- The next bytes of the record of the digest were taken, or refused, by the digest that was told. It asks for no memory, and calls no disk.
 -- Where it is the digest of all bytes that were worked off, this is a piece as any other (`right`). So it is, whatever was told, before the
 -- record's last byte, and where the record comes too early.
 pub record ClosesOnTrust (old : Received) (digest rest : List ℕ) (result : Result (Unit {0}) RecvError) (new : Received) : Type 0 where

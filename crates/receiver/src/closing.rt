@@ -8,7 +8,7 @@ use crate::recv_error::RecvError;
 use wire::{COMMIT_RECORD, COMMIT_TAG};
 
 /// Whether these bytes, first those that are held, are all of the record of this digest. Fewer bytes wait, whatever they are. Another digest
-/// is refused with its last byte, and so is a byte behind the record.
+/// is refused with its last byte, and so is a byte after the record.
 pub fn compare(held: &[u8], rest: &[u8], digest: &[u8; 32]) -> Result<bool, RecvError>
     requires { length held.now ≤ 33 }
     ensures { Compares digest.now (held.now ++ rest.now) result }
@@ -27,7 +27,7 @@ pub fn compare(held: &[u8], rest: &[u8], digest: &[u8; 32]) -> Result<bool, Recv
     Ok(true)
 }
 
-/// Whether these bytes, one behind the other, are the record of this digest.
+/// Whether these bytes, one after the other, are the record of this digest.
 fn is_record(held: &[u8], last: &[u8], digest: &[u8; 32]) -> bool
     requires { length held.now ≤ 33 }
     ensures { IsTrue result ↔ (held.now ++ last.now ≡ 5 ∷ digest.now) }

@@ -35,7 +35,7 @@ disk_text m dev = texts (records_from m (first_sector m dev) (size_on m dev))
 abbrev pub sectors_text : MachineState → List ℕ
 sectors_text m = texts (records_from m (pages_of m) (sectors_before m (length m.disks)))
 
--- This machine has so many pages, and devices of these shapes.
+-- This machine has this many pages, and devices of these shapes.
 pub record AreShapesOf (pages : ℕ) (shapes : List Shape) (m : MachineState) : Type 0 where
   pub sound : IsSound m
   pub pages_are : pages ≡ pages_of m

@@ -56,7 +56,7 @@
 //!   (`laws::live_parked_is_served` and the two after it), and makes nothing dirty. So the history goes on by these events, and then by the
 //!   writes of the pages that are named (`laws::lent_follows_the_history`). Begin, stop, abort, RAM accesses and
 //!   bytes that a disk outside gave want the RAM back; so does a step, unless it is made over a window.
-//! - A round goes on meanwhile. `next_item` says what is sent next. `copy_page` sends a page with bytes that the caller copied out of the RAM: by
+//! - A round continues meanwhile. `next_item` says what is sent next. `copy_page` sends a page with bytes that the caller copied out of the RAM: by
 //!   the history the guest wrote the page with these bytes, and then it was copied (`specs/HandedIn`). `copy_sector` sends a sector, which is in no RAM: it
 //!   is a copy of the machine with whatever RAM, and calls the disk as a copy does; where a page is due before, it sends nothing and names the page
 //!   (`specs/SectorsLent`). `mark` and `end_round` read no byte of RAM either.

@@ -1,6 +1,6 @@
 //! A machine whose RAM is lent, with the window of its host.
 
-use crate::window::BYTES;
+use crate::window::{bytes_in, bytes_of, put};
 use anyhow::{Result, bail, ensure};
 use guestmem::NoLog;
 use machine::{
@@ -35,25 +35,17 @@ impl Host {
 
     /// The bytes of the window.
     pub fn bytes(&self) -> Result<&[u8]> {
-        ensure!(self.window.len() == BYTES, "the length of a window");
-        Ok(self.window.as_slice())
+        bytes_of(&self.window)
     }
 
     /// The window, for all of its bytes to be written.
     pub fn bytes_mut(&mut self) -> Result<&mut [u8]> {
-        ensure!(self.window.len() == BYTES, "the length of a window");
-        Ok(self.window.as_mut_slice())
+        bytes_in(&mut self.window)
     }
 
     /// Copies bytes into the window.
     pub fn put(&mut self, at: usize, bytes: &[u8]) -> Result<()> {
-        let window = self.bytes_mut()?;
-        ensure!(
-            at <= window.len() && bytes.len() <= window.len() - at,
-            "past the end of a window"
-        );
-        window[at..at + bytes.len()].copy_from_slice(bytes);
-        Ok(())
+        put(&mut self.window, at, bytes)
     }
 
     /// The first piece that the step lacks, where these are held.

@@ -4,7 +4,7 @@
 //! writes are named when RAM comes back. So a page that nobody told of arrives as it was.
 
 use crate::host::TestDisk;
-use crate::window::{BYTES, PAGES};
+use crate::window::{BYTES, PAGES, bytes_in, bytes_of, put};
 use anyhow::{Result, bail, ensure};
 use machine::{
     Asking, FaultDisk, Limits, Machine, MemDisk, Parked, Piece, Reply, Shape, Stepped, Work,
@@ -181,25 +181,17 @@ impl Moving {
 
     /// The bytes of the window.
     pub fn bytes(&self) -> Result<&[u8]> {
-        ensure!(self.window.len() == BYTES, "the length of a window");
-        Ok(self.window.as_slice())
+        bytes_of(&self.window)
     }
 
     /// The window, for all of its bytes to be written.
     pub fn bytes_mut(&mut self) -> Result<&mut [u8]> {
-        ensure!(self.window.len() == BYTES, "the length of a window");
-        Ok(self.window.as_mut_slice())
+        bytes_in(&mut self.window)
     }
 
     /// Copies bytes into the window.
     pub fn put(&mut self, at: usize, bytes: &[u8]) -> Result<()> {
-        let window = self.bytes_mut()?;
-        ensure!(
-            at <= window.len() && bytes.len() <= window.len() - at,
-            "past the end of a window"
-        );
-        window[at..at + bytes.len()].copy_from_slice(bytes);
-        Ok(())
+        put(&mut self.window, at, bytes)
     }
 
     /// The guest wrote `count` bytes of RAM from index `at`: no more than a page has.
