@@ -69,7 +69,8 @@
  *
  *     of a handle that is      none        arriving, failed  idle         sending (1)  stopped      lent (2)
  *     make, arrive             .           IN_USE            IN_USE       IN_USE       IN_USE       IN_USE
- *     feed, finish             NO_MACHINE  . (3)             IN_USE       IN_USE       IN_USE       IN_USE
+ *     feed, feed_some,
+ *       feed_tell, finish      NO_MACHINE  . (3)             IN_USE       IN_USE       IN_USE       IN_USE
  *     describe, free           .           .                 .            .            .            .
  *     release                  NO_MACHINE  .                 .            .            .            LENT
  *     reg_read, reg_write,
@@ -300,19 +301,27 @@
  * A MACHINE ARRIVES: vmig_arrive, with the most that you allow, then vmig_feed with the bytes of the stream in any pieces, as they
  * come over the wire, until VMIG_WHOLE, and vmig_finish. Before its guest runs read the lines, do the devices' work, and ask for
  * calls of disks outside: a kick, an interrupt and a request that were not served come with the machine. The digest of the stream
- * is computed as the bytes come, by some 7 ns a byte.
+ * is computed as the bytes come, by some 7 ns a byte. With VMIG_TOLD it is not: you digest what you feed (SHA-256), as on a thread
+ * of its own, vmig_feed_some tells when that digest is due, and vmig_feed_tell hands it in, to be compared with the stream's own:
+ *
+ *     while (len > 0) {
+ *         status = vmig_feed_some(m, bytes, len, &used);
+ *         if (vmig_refused(status)) return status;
+ *         digest_later(bytes, used);                         by your thread; bytes += used, len -= used
+ *         if (status == VMIG_DIGEST) vmig_feed_tell(m, digest_of_all());
+ *     }                                                      until VMIG_WHOLE
  *
  * WHAT TAKES MEMORY from malloc: vmig_make, for devices, for RAM and disks where they are not yours, for a bit for each sector of
  * an image, and for 8 bytes for each page; vmig_arrive, for lists of the images and shapes, and for 8 bytes for each page of RAM
- * that is yours; both for 5 KiB, in which calls of disks outside are kept, and for a log, where VMIG_LOG asks for it; vmig_feed,
- * for the first bytes until the header is whole, fewer than 1,024, for a buffer of 128 KiB, in which the front of a record waits
- * for the rest, and, as soon as the header is whole and within the limits, for what vmig_make takes; vmig_stream_describe, for a
- * list of sixteen shapes, for the time of the call; vmig_save, for the whole stream, for the time of the call; vmig_step and
- * vmig_work, for a chain of more than four descriptors, or a message longer than those before it; vmig_give_back, vmig_mark and
- * vmig_push with a bitmap or with all pages, for 4 bytes for each page that they name, which are kept for the next such call;
- * vmig_send_begin and vmig_send_begin_as, for two bits for each page and sector; and these two, vmig_send_some, vmig_send_page,
- * vmig_send_round and vmig_send_stop for what they write, which waits until it is taken: a stop of a machine of which nothing was
- * copied before writes the whole machine. No other call does. */
+ * that is yours; both for 5 KiB, in which calls of disks outside are kept, and for a log, where VMIG_LOG asks for it; vmig_feed and
+ * vmig_feed_some, for the first bytes until the header is whole, fewer than 1,024, for a buffer of 128 KiB, in which the front of a
+ * record waits for the rest, and, as soon as the header is whole and within the limits, for what vmig_make takes;
+ * vmig_stream_describe, for a list of sixteen shapes, for the time of the call; vmig_save, for the whole stream, for the time of the
+ * call; vmig_step and vmig_work, for a chain of more than four descriptors, or a message longer than those before it;
+ * vmig_give_back, vmig_mark and vmig_push with a bitmap or with all pages, for 4 bytes for each page that they name, which are kept
+ * for the next such call; vmig_send_begin and vmig_send_begin_as, for two bits for each page and sector; and these two,
+ * vmig_send_some, vmig_send_page, vmig_send_round and vmig_send_stop for what they write, which waits until it is taken: a stop of
+ * a machine of which nothing was copied before writes the whole machine. No other call does. */
 #ifndef VMIG_H
 #define VMIG_H
 
@@ -418,7 +427,8 @@ enum {
     VMIG_NOT_OUT = 28,                  /* no call of a disk outside with this number is out */
     VMIG_CALLS_OUT = 29,                /* calls of disks outside are out, and have to be answered before */
     VMIG_BAD_BASE = 30,                 /* not a multiple of 4,096, or RAM would reach past the last address */
-    VMIG_NOT_ASKED = 31,                /* send_tell: no VMIG_TOLD, or before the stop, or told already */
+    VMIG_NOT_ASKED = 31,                /* send_tell: no VMIG_TOLD, or before the stop, or told already; feed_tell: no digest is
+                                         * due (VMIG_DIGEST); feed: of an arrival with VMIG_TOLD, which vmig_feed_some feeds */
     VMIG_NOT_NEXT = 32,                 /* send_page: another page is next, or none (vmig_send_next) */
 
     /* Refused: what arrives. The arrival is over, and the handle waits for vmig_free or vmig_release. */
@@ -460,7 +470,8 @@ enum {
     VMIG_MORE = 79,                     /* stream_describe: the header is not whole; save: the stream is longer than size */
     VMIG_SYNC = 80,                     /* next, work: the step that it names needs its disk durable before */
     VMIG_CALL = 81,                     /* disk_call: there is one; next: no step has anything to do, and there is one */
-    VMIG_WHOLE = 82,                    /* feed: the stream has ended, and is right: call vmig_finish */
+    VMIG_WHOLE = 82,                    /* feed, feed_some: the stream has ended, and is right: call vmig_finish */
+    VMIG_DIGEST = 83,                   /* feed_some: the digest is due: tell it by vmig_feed_tell, and feed the rest */
     VMIG_SECTORS = 84                   /* send_next: no page is due any more in this round, and sectors are */
 };
 
@@ -604,7 +615,8 @@ typedef struct vmig_setup {
  * page that RAM has, or may have where it arrives, and at least 2 KiB. */
 #define VMIG_LOG 2u
 
-/* VMIG_TOLD, of vmig_send_begin_as alone: the library does not digest the stream. You do, and tell the digest by vmig_send_tell. */
+/* VMIG_TOLD, of vmig_send_begin_as and of vmig_arrive: the library does not digest the stream. You do, and tell the digest by
+ * vmig_send_tell, and by vmig_feed_tell. A machine is not made with it. */
 #define VMIG_TOLD 4u
 
 /* A machine that arrives. Begin with VMIG_ARRIVAL: it allows nothing until you say what. VMIG_OK takes RAM and images, as above. */
@@ -626,7 +638,7 @@ typedef struct vmig_arrival {
                                          * the stream does not say. With another one the addresses in it can be out of RAM: then it
                                          * is refused, else the driver finds its rings at other bytes. A multiple of 4,096. RAM of
                                          * the library that would reach past the last address is VMIG_STREAM_MISMATCH */
-    uint32_t flags;                     /* any of VMIG_LARGE and VMIG_LOG, or 0 */
+    uint32_t flags;                     /* any of VMIG_LARGE, VMIG_LOG and VMIG_TOLD, or 0 */
     uint32_t frame;                     /* how many bytes the longest frame of each network device may have: 1,514, or with
                                          * VMIG_LARGE to 65,535, else VMIG_NOT_KNOWN; 0 is 1,514. Where shapes name a longer one as
                                          * many as that; more are VMIG_STREAM_TOO_LARGE */
@@ -650,7 +662,7 @@ typedef struct vmig_description {
     uint32_t pages;                     /* of RAM; of what arrives from its header on, and 0 once it has failed */
     uint32_t count;                     /* of devices; likewise */
     uint64_t base;                      /* of RAM; of a stream 0, which does not say it */
-    uint32_t flags;                     /* those that it was made, or let arrive, with */
+    uint32_t flags;                     /* those that it was made, or let arrive, with; VMIG_TOLD while it arrives */
     uint32_t calls_out;                 /* how many calls of disks outside were handed out and are not answered */
     uint32_t rounds;                    /* sending: the number of the round that is open; arriving: how many have ended */
     uint32_t fault;                     /* failed, send failed: the status that was answered first */
@@ -1005,6 +1017,20 @@ vmig_status vmig_arrive(vmig_arrival *arrival, vmig_machine *m) VMIG_CHECKED_(1,
  * VMIG_STREAM_FAILED, until vmig_free or vmig_release: what a peer sends on is looked at no more. Nothing may follow the stream's
  * last byte (STREAM_TRAILING): a source that waits for your word then needs to send no length. */
 vmig_status vmig_feed(vmig_machine *m, const uint8_t *bytes, size_t len) VMIG_CHECKED_(1) VMIG_READS_(2, 3, bytes, len);
+
+/* As vmig_feed, for an arrival with VMIG_TOLD: the bytes before the record that closes the stream are taken, *used of them.
+ * VMIG_OK and VMIG_WHOLE: all were. VMIG_DIGEST: that record comes next: tell the digest of all bytes that were taken, and feed
+ * the rest; the record may come in pieces then, each of which is taken whole. If other bytes come in its place the digest is to be
+ * told anew. A record of another digest is STREAM_BAD_DIGEST. Unless the piece is refused *used is set, else it is as it was. Of an
+ * arrival without VMIG_TOLD this is vmig_feed, and all is taken. */
+vmig_status vmig_feed_some(vmig_machine *m, const uint8_t *bytes, size_t len, size_t *used)
+    VMIG_CHECKED_(1, 4) VMIG_READS_(2, 3, bytes, len);
+
+/* The digest that is due: the SHA-256 of all bytes that vmig_feed_some has taken, in their order. It is compared with the one in
+ * the stream, which says that all bytes came as they were sent: so never tell what you read in the stream itself, since then
+ * nothing is compared. After another digest the stream is refused; who tells one wrongly and has it accepted gets a machine from
+ * bytes that nothing has checked. NOT_ASKED. */
+vmig_status vmig_feed_tell(vmig_machine *m, const uint8_t digest[32]) VMIG_CHECKED_(1, 2);
 
 /* The handle has the machine, idle. Sync its images (where that fails free it, and the source continues), then tell the source, and
  * wait for its word; then call vmig_sync_failed for each disk outside that is lost, read the lines, do its work, ask for calls of

@@ -9,7 +9,8 @@ use Rattle.c_handle.specs.AdmissionSeen.{AdmissionSeen, Denied}
 use Rattle.c_handle.specs.ArrivalSeen.{ArrivalSeen}
 use Rattle.c_handle.specs.Awaited.{HasArrived, HasSameDisks, IsClosed, IsFed, RefusesUntouched, TellsEnd, TellsOf, TellsWhole, ram_coming, stream_status}
 use Rattle.c_handle.specs.OnHandle.{Refuses, Unless}
-use Rattle.c_machine.specs.Status.{done, in_use, no_machine, stream_too_large, whole}
+use Rattle.c_handle.specs.declared.telling.Telling.{Telling}
+use Rattle.c_machine.specs.Status.{done, in_use, no_machine, not_asked, stream_too_large, whole}
 use Rattle.c_handle.specs.Kept.{KeptSeen, State, Still, Moving, Arriving, Lent}
 
 -- The status of a piece that was taken, by whether the stream has ended with it.
@@ -66,10 +67,25 @@ pub record DoesFed (k : KeptSeen) (piece : List ℕ) (status : ℕ) (after : Opt
   pub is_next : after ≡ Some (record k { state = next; admission = admission; fed = fed_after status k.fed piece })
   pub does : FeedsKept k.admission k.state piece status admission next
 
+-- Why nothing is done for an arrival: its stream was refused before.
+abbrev pub refused_before : Option ℕ → Option ℕ
+refused_before (Some first) = Some (stream_status AlreadyFailed)
+refused_before None = None
+
+-- The first reason, or else the other one.
+abbrev pub or_else : Option ℕ → Option ℕ → Option ℕ
+or_else (Some reason) other = Some reason
+or_else None other = other
+
+-- A host that tells the digest feeds pieces by another call (`specs/Telling`): this one is refused, and nothing changed.
+abbrev pub feed_refusal : Option Telling → AdmissionSeen → Option ℕ
+feed_refusal None admission = None
+feed_refusal (Some telling) admission = or_else (refused_before (first_refusal admission)) (Some not_asked)
+
 -- A piece was fed to the contents of a handle.
 abbrev pub Fed : Option KeptSeen → List ℕ → ℕ → Option KeptSeen → Type 0
 Fed None piece status after = (status ≡ no_machine) × (after ≡ None)
-Fed (Some k) piece status after = DoesFed k piece status after
+Fed (Some k) piece status after = Unless (feed_refusal k.telling k.admission) (λ reason. (status ≡ reason) × (after ≡ Some k)) (DoesFed k piece status after)
 
 -- The machine has arrived.
 pub record HasFinished (r : ArrivalSeen) (status : ℕ) (m : Seen) : Type 0 where
@@ -90,15 +106,15 @@ Ends r status (Arriving next) = HasNotFinished r status next
 Ends r status (Moving l) = ⊥
 Ends r status (Lent x) = ⊥
 
+abbrev pub IsArriving : State → Type 0
+IsArriving (Arriving r) = Unit {0}
+IsArriving _ = ⊥
+
 abbrev pub FinishesState : State → ℕ → State → Type 0
 FinishesState (Arriving r) status next = Ends r status next
 FinishesState _ status next = ⊥
 
 -- Why no arrival is finished: the handle has a machine, or the stream was refused before.
-abbrev pub refused_before : Option ℕ → Option ℕ
-refused_before (Some first) = Some (stream_status AlreadyFailed)
-refused_before None = None
-
 abbrev pub finish_refusal : AdmissionSeen → State → Option ℕ
 finish_refusal admission (Arriving r) = refused_before (first_refusal admission)
 finish_refusal admission _ = Some in_use
@@ -135,10 +151,14 @@ abbrev pub FinishesKept : ℕ → AdmissionSeen → State → ℕ → AdmissionS
 FinishesKept places admission k status after next =
     Unless (finish_refusal admission k) (λ reason. Refuses status next k reason × (after ≡ admission)) (EndsIf (outgrows places k) admission k status after next)
 
+-- A machine that has arrived has no digest to be told.
+abbrev pub telling_finished : ℕ → Option Telling → Option Telling
+telling_finished status telling = if status == done then None else telling
+
 pub record DoesFinish (k : KeptSeen) (status : ℕ) (after : Option KeptSeen) : Type 0 where
   pub next : State
   pub admission : AdmissionSeen
-  pub is_next : after ≡ Some (record k { state = next; admission = admission })
+  pub is_next : after ≡ Some (record k { state = next; admission = admission; telling = telling_finished status k.telling })
   pub does : FinishesKept k.places k.admission k.state status admission next
 
 -- A call to finish the arrival of the machine of a handle.

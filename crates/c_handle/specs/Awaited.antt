@@ -30,7 +30,7 @@ abbrev pub refused_for_good : ArrivalSeen
 refused_for_good = Refused
 
 -- What contracts see.
-abbrev pub awaited_by : Progress → ArrivalSeen
+abbrev pub awaited_by : {S : Type 0} → Progress S → ArrivalSeen
 awaited_by (Head terms ram held) = AtHead (told_by terms ram) (place_aside ram) held.items
 awaited_by (Body r) = AtBody r
 awaited_by (progress.Over r) = Over r
@@ -107,7 +107,7 @@ pub record IsFedTo (ram : RamTerms) (place : Option Ptr) (sizes bytes : List ℕ
   pub steady : AreSteady r
   pub quiet : NoFault ram sizes bytes
 
-abbrev pub IsComing : Progress → Type 0
+abbrev pub IsComing : {S : Type 0} → Progress S → Type 0
 IsComing (Head terms ram held) = HasNoHeader held.items
 IsComing (Body r) = AreSteady r
 IsComing (progress.Over r) = AreSteady r

@@ -18,8 +18,9 @@ use Rattle.c_handle.specs.Kept.{KeptSeen, LoanSeen, StillLent, MovingLent, State
 use Rattle.c_machine.specs.Description.{message_of, nothing_told, with_shapes}
 use Rattle.c_handle.specs.SendStatus.{mig_status}
 use Rattle.c_handle.specs.Unmapping.{images_in}
+use Rattle.c_handle.specs.declared.telling.Telling.{Telling}
 use Rattle.c_machine.specs.declared.description.Description.{Description}
-use Rattle.c_machine.specs.declared.setup.TheConstants.{LARGE, LOG}
+use Rattle.c_machine.specs.declared.setup.TheConstants.{LARGE, LOG, TOLD}
 
 -- The states of a handle that has something. One that has nothing is 0.
 abbrev pub is_arriving : ℕ
@@ -105,6 +106,11 @@ log_flag (Some pages) = LOG
 abbrev pub flags_of : Bool → Option (List Bool) → ℕ
 flags_of large log = if large then LARGE + log_flag log else log_flag log
 
+-- Whether it arrives, and its host tells the digest.
+abbrev pub told_flag : Option Telling → ℕ
+told_flag None = 0
+told_flag (Some telling) = TOLD
+
 -- By its state, without what each has: its images, which disks were lost, how many calls are out, and what was asked for.
 abbrev pub IsToldState : KeptSeen → State → Description → Type 0
 IsToldState k (Still m) d = d ≡ told_still m
@@ -115,7 +121,7 @@ IsToldState k (Lent x) d = d ≡ told_lent x
 pub record IsDescribed (k : KeptSeen) (d : Description) : Type 0 where
   pub told : Description
   pub by_state : IsToldState k k.state told
-  pub is : d ≡ record told { images = min (images_in k) (2 ^ 32 - 1); lost = lost_bits k.lost; flags = flags_of k.large k.written; calls_out = count_out k.calls }
+  pub is : d ≡ record told { images = min (images_in k) (2 ^ 32 - 1); lost = lost_bits k.lost; flags = flags_of k.large k.written + told_flag k.telling; calls_out = count_out k.calls }
 
 -- The description of a handle.
 abbrev pub Describes : Option KeptSeen → Description → Type 0

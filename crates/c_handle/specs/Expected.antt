@@ -11,7 +11,7 @@ use Rattle.receiver.specs.declared.terms.Terms.{Terms}
 use Rattle.region.specs.declared.slot.Slot.{Slot}
 use Rattle.c_handle.specs.AdmissionSeen.{Pending}
 use Rattle.c_handle.specs.Awaited.{nothing_fed}
-use Rattle.c_handle.specs.Kept.{IsNew, KeptSeen, State, Arriving, places_for}
+use Rattle.c_handle.specs.Kept.{IsNew, KeptSeen, State, Arriving, first_telling, places_for}
 use Rattle.c_machine.specs.Expected.{IsUntaken, arrival_refusal_of, frame_allowed, has_images, has_ram, header_limits, outside_allowed}
 use Rattle.c_handle.specs.Landing.{IsAwaitedAt}
 use Rattle.c_machine.specs.Made.{first_place, has_bytes, is_ram, ram_bytes, ram_left}
@@ -71,6 +71,7 @@ pub record IsArrivalOf (e : Expected) (k : KeptSeen) : Type 0 where
   pub new : IsNew (has_images e) e.flags (places_of e) e.block e.calls_from k
   pub stands : StandsExpected (has_images e) e k.state
   pub asked : k.admission ≡ Pending (allowed_of e) (shapes_of e.shapes.now) []
+  pub telling : k.telling ≡ first_telling e.flags
 
 -- It waits for the machine as the struct says, and RAM and images that this names were taken.
 pub record IsAwaitedBy (e next : Expected) (k : KeptSeen) : Type 0 where

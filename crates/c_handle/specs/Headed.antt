@@ -1,5 +1,5 @@
 -- The header at the beginning of bytes, and disks of the sizes that it says.
-use Rattle.std.specs.Prelude.{◌≡◌, ◌⊎◌, ℕ, List}
+use Rattle.std.specs.Prelude.{◌≡◌, ◌⊎◌, ◌++◌, ◌∷◌, [], ℕ, List}
 use Rattle.machine.specs.Limits.{AreWithin}
 use Rattle.machine.specs.Shapes.{disk_sizes}
 use Rattle.machine.specs.declared.limits.Limits.{Limits}
@@ -15,6 +15,13 @@ pub record HasHeader (limits : Limits) (bytes sizes : List ℕ) : Type 0 where
 
 abbrev pub HasNoHeader : List ℕ → Type 0
 HasNoHeader bytes = (opening : Opening) (rest : List ℕ) → ¬ (Begins bytes opening rest)
+
+-- If they begin with one, it ends with their last byte.
+pub record EndsHeader (bytes : List ℕ) : Type 0 where
+  pub front : List ℕ
+  pub last : ℕ
+  pub whole : bytes ≡ front ++ (last ∷ [])
+  pub none : HasNoHeader front
 
 -- They begin with none of a machine within the limits.
 abbrev pub HasNoneWithin : Limits → List ℕ → Type 0

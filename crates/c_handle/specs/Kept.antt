@@ -1,7 +1,7 @@
 -- The contents of a handle, as contracts see them.
 use Rattle.std.specs.Prelude.{◌≡◌, ◌≤◌, ◌*◌, ◌/◌, ℕ, Bool, true, false, List, [], Option, Some, None, if◌then◌else◌, length, max, min, replicate, slice_index_or}
 use Rattle.guestmem.specs.declared.limits.TheConstants.{PAGE_SIZE, PAGES_MAX}
-use Rattle.c_machine.specs.Made.{asks_large, asks_log, block_size, limits_for}
+use Rattle.c_machine.specs.Made.{asks_large, asks_log, asks_told, block_size, limits_for}
 use Rattle.disk_calls.specs.Calls.{AllCalls}
 use Rattle.machine.specs.Parked.{ParkedSeen}
 use Rattle.machine.specs.Seen.{Seen}
@@ -19,6 +19,8 @@ use Rattle.c_handle.specs.declared.kept.Held.{Held}
 use Rattle.c_handle.specs.declared.kept.Held.TheVariants as held
 use Rattle.c_handle.specs.declared.loan.Loan.{Loan}
 use Rattle.c_handle.specs.declared.loan.Loan.TheVariants as loans
+use Rattle.c_handle.specs.declared.telling.Telling.{Telling}
+use Rattle.c_handle.specs.declared.telling.Telling.TheVariants as tellings
 
 -- A machine whose RAM is lent to the caller: one that is not being migrated, or one that is.
 pub data LoanSeen : Type 0 where
@@ -38,7 +40,7 @@ pub data State : Type 0 where
   Lent : LoanSeen → State
 
 -- Whether its disks lie in memory of the caller, in which state it is, whether it is being migrated and its host tells the digest, whether what
--- arrives is let in, how many bytes of it were taken, and for each device whether its disk was lost, which calls of disks outside are out, whether it
+-- arrives is let in, what is known of its digest, if the host tells that, how many bytes of it were taken, and for each device whether its disk was lost, which calls of disks outside are out, whether it
 -- may be as large as can be, for how many pages its log, if it has one, has a place, and for each page whether it is to be handed out as written, if
 -- the caller asks for these.
 pub record KeptSeen : Type 0 where
@@ -46,6 +48,7 @@ pub record KeptSeen : Type 0 where
   pub state : State
   pub told : Bool
   pub admission : AdmissionSeen
+  pub telling : Option Telling
   pub fed : ℕ
   pub lost : List Bool
   pub calls : AllCalls
@@ -125,11 +128,21 @@ abbrev pub held_state : Held → State
 held_state (held.Own c) = state_in c
 held_state (held.Mapped c) = state_in c
 held_state (held.Arriving a) = Arriving a
+held_state (held.ToldArriving a telling) = Arriving a
 
 abbrev pub are_told : Held → Bool
 are_told (held.Own c) = told_in c
 are_told (held.Mapped c) = told_in c
 are_told (held.Arriving a) = false
+are_told (held.ToldArriving a telling) = false
+
+abbrev pub telling_of : Held → Option Telling
+telling_of (held.ToldArriving a telling) = Some telling
+telling_of _ = None
+
+-- Of what arrives with these flags, before its first piece.
+abbrev pub first_telling : ℕ → Option Telling
+first_telling flags = if asks_told flags then Some tellings.NotDue else None
 
 -- The bytes of RAM that its log has to have places for. Of what arrives that is what is allowed.
 abbrev pub ram_in : ℕ → State → ℕ
@@ -142,9 +155,10 @@ abbrev pub are_mapped : Held → Bool
 are_mapped (held.Own c) = false
 are_mapped (held.Mapped c) = true
 are_mapped (held.Arriving a) = is_over a
+are_mapped (held.ToldArriving a telling) = is_over a
 
 abbrev pub kept_with : Held → AdmissionSeen → ℕ → List Bool → KeptSeen
-kept_with held admission fed lost = record { is_mapped = are_mapped held; state = held_state held; told = are_told held; admission = admission; fed = fed; lost = lost; calls = first_calls 1 0; large = false; places = 0; written = None }
+kept_with held admission fed lost = record { is_mapped = are_mapped held; state = held_state held; told = are_told held; admission = admission; telling = telling_of held; fed = fed; lost = lost; calls = first_calls 1 0; large = false; places = 0; written = None }
 
 -- Where no stream arrives none was asked for.
 abbrev pub unasked : AdmissionSeen

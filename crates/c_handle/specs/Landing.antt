@@ -24,6 +24,10 @@ abbrev pub IsAwaitedAt : RamTerms → Option Ptr → List (List (List ℕ)) → 
 IsAwaitedAt ram place sectors (Over r) = IsFreshOver ram place sectors r
 IsAwaitedAt ram place sectors _ = ⊥
 
+abbrev pub IsAwaitedIn : RamTerms → Option Ptr → List (List (List ℕ)) → State → Type 0
+IsAwaitedIn ram place sectors (Arriving a) = IsAwaitedAt ram place sectors a
+IsAwaitedIn ram place sectors _ = ⊥
+
 -- The disks of an arrival hold these sectors.
 abbrev pub AreDisksOf : ArrivalSeen → List (List (List ℕ)) → Type 0
 AreDisksOf (Over r) sectors = map (λ d. d.sectors) r.disks ≡ sectors

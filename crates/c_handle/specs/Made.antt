@@ -1,5 +1,5 @@
 -- The machine that a setup asks for, in a handle.
-use Rattle.std.specs.Prelude.{◌≡◌, ℕ, Option, length}
+use Rattle.std.specs.Prelude.{◌≡◌, ℕ, None, Option, length}
 use Rattle.machine.specs.Seen.{Seen}
 use Rattle.c_handle.specs.Kept.{IsNew, KeptSeen, Still, places_for}
 use Rattle.c_machine.specs.Made.{IsFirstOf, IsUntaken, has_images, has_ram, ram_bytes, ram_left, setup_refusal_of}
@@ -16,6 +16,7 @@ pub record IsMachineOf (s : Setup) (k : KeptSeen) : Type 0 where
   pub machine : Seen
   pub new : IsNew (has_images s) s.flags (places_of s) s.block s.calls_from k
   pub is_idle : k.state ≡ Still machine
+  pub not_arriving : k.telling ≡ None
   pub is_first : IsFirstOf s machine
 
 -- It was made as the struct says, and RAM and images that this names were taken.

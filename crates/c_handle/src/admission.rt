@@ -58,7 +58,7 @@ pub enum Admission {
 }
 
 impl Admission {
-    ghost use Rattle.std.specs.Prelude.{◌≡◌};
+    ghost use Rattle.std.specs.Prelude.{◌≡◌, ◌↔◌, IsTrue};
     ghost use Rattle.c_handle.specs.Admission.{Admits, IsPending, first_refusal};
     ghost use Rattle.c_handle.specs.AdmissionSeen as seen;
     ghost use Rattle.c_handle.specs.Kept.{admission_of};
@@ -70,6 +70,16 @@ impl Admission {
         match self {
             Admission::Denied(status) => Some(*status),
             _ => None,
+        }
+    }
+
+    /// Whether the header is not whole.
+    pub(crate) fn is_pending(&self) -> bool
+        ensures { IsTrue result ↔ IsPending (admission_of self.now) }
+    {
+        match self {
+            Admission::Pending(..) => true,
+            _ => false,
         }
     }
 

@@ -19,7 +19,7 @@ use c_machine::zero_disks;
 use guestmem::Ram;
 use machine::{DEVICES_MAX, Machine, MemDisk, Shape};
 use mapped_disk::MappedDisk;
-use receiver::{Receiver, RecvError, Terms, read_heading_within};
+use receiver::{Own, Receiver, RecvError, Summing, Terms, read_heading_within};
 use std::alloc::Global;
 use std::marker::Model;
 use std::mem;
@@ -33,15 +33,15 @@ const HEADER_MAX: usize = FRONT_LEN + DEVICES_MAX * SHAPE_MAX;
 
 /// How far a machine that arrives has come.
 #[derive(Drop)]
-pub enum Progress {
+pub enum Progress<S: Summing = Own> {
     /// The header is incomplete: where RAM will begin and how large the machine may be, the RAM that was handed in, and the bytes so far.
     Head(Terms, Option<Ram>, Vec<u8>),
 
     /// The header was read, and the disks are of its sizes.
-    Body(Receiver<MemDisk>),
+    Body(Receiver<MemDisk, S>),
 
     /// The disks are images of the caller, in each stage, also after a refusal.
-    Over(Receiver<MappedDisk>),
+    Over(Receiver<MappedDisk, S>),
 
     /// The stream was refused.
     Failed,
@@ -56,13 +56,13 @@ pub enum Arrived {
     Mapped(Machine<MappedDisk>),
 }
 
-/// A machine whose stream arrives in pieces.
+/// A machine whose stream arrives in pieces, and who digests it.
 #[derive(Drop)]
-pub struct Arrival {
-    progress: Progress,
+pub struct Arrival<S: Summing = Own> {
+    pub(crate) progress: Progress<S>,
 }
 
-impl Model for Arrival {
+impl<S: Summing> Model for Arrival<S> {
     ghost use Rattle.c_handle.specs.ArrivalSeen.{ArrivalSeen};
 
     ghost Value = { ArrivalSeen };
@@ -75,25 +75,14 @@ impl Model for Arrival {
 }
 
 impl Arrival {
-    ghost use Rattle.std.specs.Prelude.{◌≡◌, IfErr, IfOk, MatchOption, false, length, true};
-    ghost use Rattle.c_handle.specs.Awaited.{CountsRounds, HasArrived, HasSameDisks, IsAtHead, IsClosed, IsFed, RefusesUntouched, TellsEnd, TellsOf, TellsWhole, arrived_by, are_images, awaited_base, awaited_sizes, is_over, nothing_fed, ram_coming, refused_for_good};
+    ghost use Rattle.std.specs.Prelude.{◌≡◌, IfErr, IfOk, false, true};
+    ghost use Rattle.c_handle.specs.Awaited.{IsAtHead, IsClosed, IsFed, RefusesUntouched, TellsOf, is_over};
     ghost use Rattle.receiver.specs.Opened.{told_by};
     ghost use Rattle.receiver.specs.Receiving.{place_aside};
-    ghost use Rattle.c_handle.specs.Landing.{AreDisksOf, IsAwaitedAt};
+    ghost use Rattle.c_handle.specs.Landing.{IsAwaitedAt};
     ghost use Rattle.c_machine.specs.Mapping.{contents};
 
-    /// An arrival over disks of the library that was fed nothing yet, of a machine as these terms say, with this RAM, or one in memory of
-    /// the library. It takes no memory.
-    #[tactic(auto, using(crate::proofs::Awaited::empty_head))]
-    pub(crate) fn new(alloc: Global, terms: Terms, ram: Option<Ram>) -> Arrival
-        ensures { result ≡ nothing_fed (told_by terms ram) (place_aside ram) }
-    {
-        Arrival {
-            progress: Progress::Head(terms, ram, Vec::new(alloc)),
-        }
-    }
-
-    /// As above, over these images.
+    /// As `new`, over these images.
     pub(crate) fn over(
         alloc: Global,
         terms: Terms,
@@ -105,15 +94,6 @@ impl Arrival {
     {
         Arrival {
             progress: Progress::Over(Receiver::with_terms(alloc, disks, ram, terms)),
-        }
-    }
-
-    /// The arrival of a stream that was refused. It takes no memory.
-    pub(crate) fn failed() -> Arrival
-        ensures { result ≡ refused_for_good }
-    {
-        Arrival {
-            progress: Progress::Failed,
         }
     }
 
@@ -157,6 +137,45 @@ impl Arrival {
                 Ok(())
             }
             Err(error) => Err(error),
+        }
+    }
+}
+
+impl<S: Summing> Arrival<S> {
+    ghost use Rattle.std.specs.Prelude.{◌≡◌, ◌↔◌, IfErr, IfOk, IsTrue, MatchOption, false, length, true};
+    ghost use Rattle.c_handle.specs.Awaited.{CountsRounds, HasArrived, HasSameDisks, IsAtHead, IsClosed, TellsEnd, TellsWhole, arrived_by, are_images, awaited_base, awaited_sizes, is_over, nothing_fed, ram_coming, refused_for_good};
+    ghost use Rattle.receiver.specs.Opened.{told_by};
+    ghost use Rattle.receiver.specs.Receiving.{place_aside};
+    ghost use Rattle.c_handle.specs.Landing.{AreDisksOf};
+    ghost use Rattle.c_machine.specs.Mapping.{contents};
+
+    /// An arrival over disks of the library that was fed nothing yet, of a machine as these terms say, with this RAM, or one in memory of
+    /// the library. It takes no memory.
+    #[tactic(auto, using(crate::proofs::Awaited::empty_head))]
+    pub(crate) fn new(alloc: Global, terms: Terms, ram: Option<Ram>) -> Arrival<S>
+        ensures { result ≡ nothing_fed (told_by terms ram) (place_aside ram) }
+    {
+        Arrival {
+            progress: Progress::Head(terms, ram, Vec::new(alloc)),
+        }
+    }
+
+    /// The arrival of a stream that was refused. It takes no memory.
+    pub(crate) fn failed() -> Arrival<S>
+        ensures { result ≡ refused_for_good }
+    {
+        Arrival {
+            progress: Progress::Failed,
+        }
+    }
+
+    /// Whether the header is incomplete, and the bytes so far wait for it.
+    pub(crate) fn is_at_head(&self) -> bool
+        ensures { IsTrue result ↔ IsAtHead self.now }
+    {
+        match &self.progress {
+            Progress::Head(..) => true,
+            _ => false,
         }
     }
 
@@ -208,7 +227,7 @@ impl Arrival {
     }
 
     /// The machine whose stream was fed. A refusal gives back what holds the images, which are as they were.
-    pub(crate) fn finish(self) -> Result<Arrived, (RecvError, Arrival)>
+    pub(crate) fn finish(self) -> Result<Arrived, (RecvError, Arrival<S>)>
         ensures arrived { IfOk result (λ m. HasArrived self (arrived_by m)) }
         ensures home { IfOk result (λ m. are_images m ≡ is_over self) }
         ensures refused { IfErr result (λ x. TellsEnd self x.0 × IsClosed self x.1) }

@@ -5,15 +5,15 @@
 
 ghost use Rattle.std.specs.Prelude.{◌≡◌, ◌≤◌, length};
 ghost use Rattle.machine.specs.declared.machine.TheConstants.{DEVICES_MAX};
-ghost use Rattle.c_handle.specs.Described.{IsDescribed, IsToldState, flags_of, lost_bits, number_of, sent_as, told_arriving, told_coming, told_failed, told_head, told_lent, told_machine, told_still};
-ghost use Rattle.c_handle.specs.Kept.{admission_of, loan_of};
+ghost use Rattle.c_handle.specs.Described.{IsDescribed, IsToldState, flags_of, lost_bits, told_flag, number_of, sent_as, told_arriving, told_coming, told_failed, told_head, told_lent, told_machine, told_still};
+ghost use Rattle.c_handle.specs.Kept.{admission_of, loan_of, telling_of};
 
 use crate::admission::Admission;
-use crate::kept::{Kept, by_state};
+use crate::kept::{Held, Kept, by_state};
 use crate::loan::Loan;
 use crate::unmapping::image_count;
 use c_machine::status::SEND_FAILED;
-use c_machine::{Description, LARGE, LOG, message_of};
+use c_machine::{Description, LARGE, LOG, TOLD, message_of};
 use guestmem::PAGE_SIZE;
 use machine::{DEVICES_MAX, Disk, Machine, PageLog, Shape};
 use sender::Phase;
@@ -37,7 +37,7 @@ pub fn describe(kept: &Kept) -> Description
     let mut told = told(kept);
     told.images = image_count(&kept.held).min(u32::MAX as usize) as u32;
     told.lost = lost_bits(kept.lost());
-    told.flags = flags_of(kept.asked.large, &kept.output.written);
+    told.flags = flags_of(kept.asked.large, &kept.output.written) + told_flag(&kept.held);
     told.calls_out = kept.calls.count();
     told
 }
@@ -190,6 +190,16 @@ fn flags_of(large: bool, written: &Option<PageLog>) -> u32
         None => 0,
     };
     if large { LARGE + log } else { log }
+}
+
+/// Whether its host tells the digest of the stream that arrives.
+fn told_flag(held: &Held) -> u32
+    ensures { result ≡ told_flag (telling_of held.now) }
+{
+    match held {
+        Held::ToldArriving(..) => TOLD,
+        _ => 0,
+    }
 }
 
 fn number_of(whole: bool) -> u32

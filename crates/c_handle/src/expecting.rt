@@ -4,11 +4,16 @@
 //! arrival, and the call of a piece has no slots: images have one way in and one way out, `vmig_release`, in each state, also on the way and
 //! after a refusal. Without images the disks are made in memory of the library, as soon as the header says their sizes.
 
-ghost use Rattle.std.specs.Prelude.{◌≡◌, IfErr, IfOk, None};
+ghost use Rattle.std.specs.Prelude.{◌≡◌, IfErr, IfOk, None, false, true};
 ghost use Rattle.c_handle.specs.Expected.{Expects, IsArrivalOf, IsGiven, IsNoneOrRam, allowed_of, limits_in, terms_in};
 ghost use Rattle.c_machine.specs.Expected.{IsUntaken, arrival_refusal_of, has_ram};
 ghost use Rattle.c_machine.specs.Made.{has_bytes, ram_left};
-ghost use Rattle.c_machine.specs.Mapping.{AreTaken};
+ghost use Rattle.c_machine.specs.Mapping.{AreTaken, contents};
+ghost use Rattle.c_handle.specs.Awaited.{nothing_fed};
+ghost use Rattle.c_handle.specs.Kept.{Arriving, are_mapped, are_told, first_telling, held_state, telling_of};
+ghost use Rattle.c_handle.specs.Landing.{IsAwaitedIn};
+ghost use Rattle.receiver.specs.Opened.{told_by};
+ghost use Rattle.receiver.specs.Receiving.{place_aside};
 
 use crate::admission::{Admission, Allowed};
 use crate::arrival::Arrival;
@@ -16,13 +21,15 @@ use crate::creating::{filled, stand_in};
 use crate::handle::Handle;
 use crate::kept::{Asked, Held, Kept};
 use crate::logging::log_for;
+use crate::telling::Telling;
 use c_machine::status::{DONE, IN_USE, NO_MEMORY};
 use c_machine::{
-    Expected, arrival_refusal, frame_allowed, give_back, header_limits, is_none, mapped_disks,
+    Expected, arrival_refusal, asks_told, frame_allowed, give_back, header_limits, is_none, mapped_disks,
     outside_allowed, put_back, ram_bytes, shapes_of, taken_ram,
 };
 use guestmem::{NoMemory, PAGES_GREATEST, Ram};
 use machine::Limits;
+use mapped_disk::MappedDisk;
 use receiver::Terms;
 use region::Slot;
 use std::alloc::Global;
@@ -68,13 +75,13 @@ pub(crate) fn awaited(alloc: Global, expected: &mut Expected) -> Result<Box<Kept
     let terms = terms(expected);
     if is_none(expected.images) {
         let ram = ram_from(alloc, &mut expected.ram)?;
-        let arrival = Held::Arriving(Arrival::new(alloc, terms, ram));
+        let arrival = awaited_in(alloc, expected.flags, terms, ram);
         return Ok(filled(boxed, arrival, admission, log, asked));
     }
     let disks = mapped_disks(alloc, expected.images)?;
     match ram_from(alloc, &mut expected.ram) {
         Ok(ram) => {
-            let arrival = Held::Arriving(Arrival::over(alloc, terms, disks, ram));
+            let arrival = awaited_over(alloc, expected.flags, terms, disks, ram);
             Ok(filled(boxed, arrival, admission, log, asked))
         }
         Err(_) => {
@@ -82,6 +89,41 @@ pub(crate) fn awaited(alloc: Global, expected: &mut Expected) -> Result<Box<Kept
             Err(NoMemory)
         }
     }
+}
+
+/// An arrival over disks of the library, by whether the host tells the digest.
+fn awaited_in(alloc: Global, flags: u32, terms: Terms, ram: Option<Ram>) -> Held
+    ensures state { held_state result ≡ Arriving (nothing_fed (told_by terms ram) (place_aside ram)) }
+    ensures kind { are_mapped result ≡ false }
+    ensures telling { telling_of result ≡ first_telling flags }
+    ensures told { are_told result ≡ false }
+{
+    if asks_told(flags) {
+        return Held::ToldArriving(Arrival::new(alloc, terms, ram), Telling::NotDue);
+    }
+    Held::Arriving(Arrival::new(alloc, terms, ram))
+}
+
+/// As above, over these images.
+fn awaited_over(
+    alloc: Global,
+    flags: u32,
+    terms: Terms,
+    disks: Vec<MappedDisk>,
+    ram: Option<Ram>,
+) -> Held
+    ensures state { IsAwaitedIn (told_by terms ram) (place_aside ram) (contents disks.items) (held_state result) }
+    ensures kind { are_mapped result ≡ true }
+    ensures telling { telling_of result ≡ first_telling flags }
+    ensures told { are_told result ≡ false }
+{
+    if asks_told(flags) {
+        return Held::ToldArriving(
+            Arrival::told_over(alloc, terms, disks, ram),
+            Telling::NotDue,
+        );
+    }
+    Held::Arriving(Arrival::over(alloc, terms, disks, ram))
 }
 
 /// The RAM of a machine that will arrive: in the memory of the slot, which is taken; or none, where there is none. Its only error is out of

@@ -20,10 +20,12 @@ use crate::arrival::Arrival;
 use crate::calls_out::CallsOut;
 use crate::loan::Loan;
 use crate::logging::Output;
+use crate::telling::Telling;
 use c_machine::{asks_large, limits_for};
 use guestmem::{PAGE_SIZE, PAGES_MAX};
 use machine::{DEVICES_MAX, Disk, Machine, MemDisk, PageLog};
 use mapped_disk::MappedDisk;
+use receiver::Told;
 use sender::{LiveTold, LiveWaiting};
 use std::alloc::Global;
 use std::marker::Model;
@@ -56,13 +58,25 @@ pub enum Held {
 
     /// It arrives, or was refused: it is no machine yet.
     Arriving(Arrival),
+
+    /// It arrives too, and its host tells the digest of the stream, of which this is known.
+    ToldArriving(Arrival<Told>, Telling),
 }
 
 /// The same for a machine over any disks; and what is done where one arrives. The arm of most calls is the last here and below, since LLVM
 /// tests for it first then: it saves five instructions a step.
 macro_rules! on_disks {
     ($held:expr; $contents:ident => $call:expr, arriving($arrival:pat) => $arriving:expr $(,)?) => {
+        $crate::kept::on_disks!($held; $contents => $call, arriving($arrival) => $arriving, told_arriving($arrival, _) => $arriving)
+    };
+    (
+        $held:expr;
+        $contents:ident => $call:expr,
+        arriving($arrival:pat) => $arriving:expr,
+        told_arriving($told:pat, $telling:pat) => $told_arriving:expr $(,)?
+    ) => {
         match $held {
+            $crate::kept::Held::ToldArriving($told, $telling) => $told_arriving,
             $crate::kept::Held::Arriving($arrival) => $arriving,
             $crate::kept::Held::Mapped($contents) => $call,
             $crate::kept::Held::Own($contents) => $call,
@@ -137,6 +151,41 @@ macro_rules! by_state {
         lent($loan:pat) => $lent:expr,
         arriving($arrival:pat) => $arriving:expr $(,)?
     ) => {
+        $crate::kept::by_state!($held;
+            still($machine) => $still,
+            moving($live) => $moving,
+            told($live_told) => $told,
+            lent($loan) => $lent,
+            arriving($arrival) => $arriving,
+            told_arriving($arrival, _) => $arriving,
+        )
+    };
+    (
+        $held:expr;
+        still($machine:pat) => $still:expr,
+        moving($live:pat) => $moving:expr,
+        lent($loan:pat) => $lent:expr,
+        arriving($arrival:pat) => $arriving:expr,
+        told_arriving($told_arrival:pat, $telling:pat) => $told_arriving:expr $(,)?
+    ) => {
+        $crate::kept::by_state!($held;
+            still($machine) => $still,
+            moving($live) => $moving,
+            told($live) => $moving,
+            lent($loan) => $lent,
+            arriving($arrival) => $arriving,
+            told_arriving($told_arrival, $telling) => $told_arriving,
+        )
+    };
+    (
+        $held:expr;
+        still($machine:pat) => $still:expr,
+        moving($live:pat) => $moving:expr,
+        told($live_told:pat) => $told:expr,
+        lent($loan:pat) => $lent:expr,
+        arriving($arrival:pat) => $arriving:expr,
+        told_arriving($told_arrival:pat, $telling:pat) => $told_arriving:expr $(,)?
+    ) => {
         $crate::kept::on_disks!($held;
             contents => match contents {
                 $crate::kept::Contents::Lent($loan) => $lent,
@@ -145,6 +194,7 @@ macro_rules! by_state {
                 $crate::kept::Contents::Still($machine) => $still,
             },
             arriving($arrival) => $arriving,
+            told_arriving($told_arrival, $telling) => $told_arriving,
         )
     };
 }
@@ -163,6 +213,9 @@ macro_rules! turned {
             }
             $crate::kept::Held::Arriving(arrival) => {
                 ($crate::kept::Held::Arriving(arrival), c_machine::status::NO_MACHINE)
+            }
+            $crate::kept::Held::ToldArriving(arrival, telling) => {
+                ($crate::kept::Held::ToldArriving(arrival, telling), c_machine::status::NO_MACHINE)
             }
         }
     };

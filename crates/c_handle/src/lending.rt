@@ -12,7 +12,7 @@ ghost use Rattle.guestmem.specs.Memory.{IsMemory};
 ghost use Rattle.machine.specs.Parked.{IsParked};
 ghost use Rattle.guestmem.specs.declared.limits.TheConstants.{PAGE_SIZE, PAGES_GREATEST};
 ghost use Rattle.region.specs.Slot.{region_of};
-ghost use Rattle.c_handle.specs.Kept.{are_mapped, are_told, held_state, loan_of, loan_told, parked_in, ram_in, state_in, told_in};
+ghost use Rattle.c_handle.specs.Kept.{are_mapped, are_told, held_state, loan_of, loan_told, parked_in, ram_in, state_in, telling_of, told_in};
 ghost use Rattle.c_handle.specs.declared.kept.Contents.TheVariants as contents;
 ghost use Rattle.c_handle.specs.Lent.{ComesBack, HasComeBack, IsBackWith, IsLiveLoan, IsReturnable, LendsIfOver, LendsKept, back_refusal_of, lend_refusal_in, lend_refusal_of, lent_pages, return_refusal_of};
 ghost use Rattle.c_machine.specs.Named.{are_pages};
@@ -80,6 +80,7 @@ fn lent(old: Held, ram: &mut Slot) -> (Held, u32)
     ensures ram { (places : ℕ) → ram_in places (held_state result.0) ≡ ram_in places (held_state old) }
     ensures kind { are_mapped result.0 ≡ are_mapped old }
     ensures told { are_told result.0 ≡ are_told old }
+    ensures telling { telling_of result.0 ≡ telling_of old }
 {
     turned!(old; contents => lent_in(contents, ram))
 }
@@ -226,11 +227,12 @@ fn back(old: Held, ram: &mut Slot, pages: &[u32]) -> Held
     ensures back { HasComeBack (held_state old) ram.old pages.now 0 ram.new (held_state result) }
     ensures kind { are_mapped result ≡ are_mapped old }
     ensures told { are_told result ≡ are_told old }
+    ensures telling { telling_of result ≡ telling_of old }
 {
     match old {
         Held::Own(contents) => Held::Own(back_in(contents, ram, pages)),
         Held::Mapped(contents) => Held::Mapped(back_in(contents, ram, pages)),
-        Held::Arriving(_) => unreachable!(),
+        Held::Arriving(_) | Held::ToldArriving(..) => unreachable!(),
     }
 }
 

@@ -10,7 +10,7 @@ ghost use Rattle.wire.specs.Telling.{is_owed};
 ghost use Rattle.c_handle.specs.Digest.{BeginsAs, TellsIf, TellsKept, told_begun};
 ghost use Rattle.c_handle.specs.Mirror.{is_closed};
 ghost use Rattle.c_handle.specs.Migrated.{AbortsKept, AreTold, BeginsKept, EndsKept, HasBegun, HasEnded, HasStopped, HasTaken, IsAnswered, IsLeft, IsLeftLent, IsMostByStop, LeavesKept, SendsKept, SendsSome, SendsUpTo, StopsKept, StopsUnless, TakesKept, send_refusal, told_aborted};
-ghost use Rattle.c_handle.specs.Kept.{are_mapped, are_told, held_state, state_in, told_in};
+ghost use Rattle.c_handle.specs.Kept.{are_mapped, are_told, held_state, state_in, telling_of, told_in};
 ghost use Rattle.c_handle.specs.Kept as states;
 
 use crate::arrival::Arrival;
@@ -84,6 +84,7 @@ fn begun(alloc: Global, flags: u32, old: Held) -> (Held, u32)
     ensures begins { BeginsAs flags (held_state old) result.1 (held_state result.0) }
     ensures kind { are_mapped result.0 ≡ are_mapped old }
     ensures told { are_told result.0 ≡ told_begun flags (are_told old) (held_state old) (held_state result.0) }
+    ensures telling { telling_of result.0 ≡ telling_of old }
 {
     turned!(old; contents => begun_in(alloc, flags, contents))
 }
@@ -333,6 +334,7 @@ fn aborted(old: Held) -> (Held, u32)
     ensures aborts { AbortsKept (held_state old) result.1 (held_state result.0) }
     ensures kind { are_mapped result.0 ≡ are_mapped old }
     ensures told { are_told result.0 ≡ told_aborted (are_told old) (held_state old) (held_state result.0) }
+    ensures telling { telling_of result.0 ≡ telling_of old }
 {
     turned!(old; contents => aborted_in(contents))
 }

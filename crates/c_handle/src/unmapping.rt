@@ -18,6 +18,7 @@ use c_machine::give_back;
 use c_machine::status::{BAD_IMAGES, LENT, TOO_SMALL};
 use machine::{Device, Disk, Machine, Shape};
 use mapped_disk::{Image, MappedDisk};
+use receiver::Summing;
 
 /// Why `vmig_release` is refused, if it is.
 pub fn release_refusal(kept: &Kept, images: &mut [Image]) -> Option<u32>
@@ -42,6 +43,7 @@ pub(crate) fn image_count(held: &Held) -> usize
         Held::Own(_) => 0,
         Held::Mapped(contents) => disk_count(contents),
         Held::Arriving(arrival) => arrival.image_count(),
+        Held::ToldArriving(arrival, _) => arrival.image_count(),
     }
 }
 
@@ -116,6 +118,7 @@ pub fn release(held: Held, images: &mut [Image])
         Held::Own(contents) => drop(contents),
         Held::Mapped(contents) => release_mapped(contents, images),
         Held::Arriving(arrival) => give_up(arrival, images),
+        Held::ToldArriving(arrival, _) => give_up(arrival, images),
     }
 }
 
@@ -147,7 +150,7 @@ fn hand_back(machine: Machine<MappedDisk>, images: &mut [Image])
 
 /// Ends an arrival, and puts its images into the slots, if it has any.
 #[tactic(auto, using(crate::proofs::Landings::none_given_up))]
-fn give_up(arrival: Arrival, images: &mut [Image])
+fn give_up<S: Summing>(arrival: Arrival<S>, images: &mut [Image])
     requires { slots_refusal (images_of (is_over arrival) (states.Arriving arrival)) images.old ≡ None }
     ensures { HasReleasedFrom (is_over arrival) (states.Arriving arrival) images.old images.new }
 {

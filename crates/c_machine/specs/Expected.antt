@@ -6,7 +6,7 @@ use Rattle.machine.specs.Shapes.{disk_sizes}
 use Rattle.machine.specs.declared.limits.Limits.{Limits}
 use Rattle.machine.specs.declared.machine.TheConstants.{DEVICES_MAX}
 use Rattle.c_machine.specs.Frames.{longest_frame}
-use Rattle.c_machine.specs.Made.{are_known, arrival_limits, asks_large, has_bytes, is_known_frame, is_ram, limits_for}
+use Rattle.c_machine.specs.Made.{are_known_arriving, arrival_limits, asks_large, has_bytes, is_known_frame, is_ram, limits_for}
 use Rattle.c_machine.specs.Making.{are_plain, is_usual_frame, shapes_of}
 use Rattle.c_machine.specs.Mapping.{counts}
 use Rattle.c_machine.specs.Named.{are_zeros}
@@ -24,7 +24,7 @@ has_images e = not (length e.images.now == 0)
 
 -- The version is 1, and what no version gives a meaning yet is 0.
 abbrev pub is_known_arrival : Expected → Bool
-is_known_arrival e = e.version == 1 && (are_known e.flags && (is_known_frame e.flags e.frame && (e.zero == 0 && are_zeros e.reserved)))
+is_known_arrival e = e.version == 1 && (are_known_arriving e.flags && (is_known_frame e.flags e.frame && (e.zero == 0 && are_zeros e.reserved)))
 
 -- How many sectors a disk outside may have at most: as many as the arrival allows, or one of the devices has that it names.
 abbrev pub outside_allowed : Expected → ℕ

@@ -37,15 +37,22 @@ has_contents s = not (length s.contents.now == 0)
 abbrev pub has_images : Setup → Bool
 has_images s = not (length s.images.now == 0)
 
--- Bit 0: a machine as large as its stream can tell is asked for. Bit 1: a log of the pages that calls write. No other bit is known.
+-- Bit 0: a machine as large as its stream can tell is asked for. Bit 1: a log of the pages that calls write. Bit 2, of a machine that arrives: its
+-- host tells the digest. No other bit is known.
 abbrev pub asks_large : ℕ → Bool
 asks_large flags = flags % 2 == 1
 
 abbrev pub asks_log : ℕ → Bool
 asks_log flags = flags / 2 % 2 == 1
 
+abbrev pub asks_told : ℕ → Bool
+asks_told flags = flags / 4 % 2 == 1
+
 abbrev pub are_known : ℕ → Bool
 are_known flags = not (nat_lt 3 flags)
+
+abbrev pub are_known_arriving : ℕ → Bool
+are_known_arriving flags = not (nat_lt 7 flags)
 
 -- How large a machine may be that is made, or let arrive, with these flags. A disk outside is as large as can be: it takes no memory.
 abbrev pub small : Limits

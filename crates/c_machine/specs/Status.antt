@@ -22,6 +22,7 @@
 --     80         a step has something to do, and before it what the guest wrote to the disk has to be durable
 --     81         a call of a disk outside is handed out
 --     82         the stream has ended
+--     83         the digest of a stream is due
 --     84         no page is sent next, but sectors are
 use Rattle.std.specs.Prelude.{ℕ, length}
 use Rattle.machine.specs.Refusal.{code_of}
@@ -137,6 +138,10 @@ round_done = 76
 -- The stream has ended.
 abbrev pub whole : ℕ
 whole = 82
+
+-- The digest of a stream that arrives is due, and its host tells it.
+abbrev pub digest_due : ℕ
+digest_due = 83
 
 -- What is sent next is a sector.
 abbrev pub sectors : ℕ

@@ -32,7 +32,7 @@ pub struct Description {
     /// The guest-physical address at which RAM begins.
     pub base: u64,
 
-    /// What it was made, or let arrive, with: any of `LARGE` and `LOG`.
+    /// What it was made, or let arrive, with: any of `LARGE` and `LOG`; and `TOLD` while it arrives, where its host tells the digest.
     pub flags: u32,
 
     /// How many calls of disks outside were handed out and are not answered.

@@ -16,7 +16,7 @@
 
 ghost use Rattle.std.specs.Prelude.{◌≡◌, ◌≤◌, ◌==◌, length};
 ghost use Rattle.c_machine.specs.Expected.{are_other_images, are_unfit_shapes, arrival_refusal_of, frame_allowed, header_limits, is_known_arrival, is_unfit_ram, outside_allowed};
-ghost use Rattle.c_machine.specs.Made.{are_known, are_other_disks, arrival_limits, asks_large, asks_log, block_size, is_bad_ram, is_known_frame, is_known_setup, limits_for, ram_bytes, setup_refusal_of};
+ghost use Rattle.c_machine.specs.Made.{are_known, are_known_arriving, are_other_disks, arrival_limits, asks_large, asks_log, asks_told, block_size, is_bad_ram, is_known_frame, is_known_setup, limits_for, ram_bytes, setup_refusal_of};
 
 use crate::description::FRAME_MAX;
 use crate::device_shape::{DeviceShape, FRAME_END, are_zeros, is_usual_frame};
@@ -106,7 +106,7 @@ pub struct Expected<'a, 'i> {
     /// The guest-physical address at which RAM begins.
     pub base: u64,
 
-    /// What else is asked for: any of `LARGE` and `LOG`.
+    /// What else is asked for: any of `LARGE`, `LOG` and `TOLD`.
     pub flags: u32,
 
     /// The most bytes that a frame of its network devices may have, 1,514 to 65,535, more than 1,514 with `LARGE`. 0 are 1,514, and those that
@@ -169,6 +169,13 @@ fn are_known(flags: u32) -> bool
     flags <= LARGE + LOG
 }
 
+/// As above, of a machine that arrives.
+fn are_known_arriving(flags: u32) -> bool
+    ensures { result ≡ are_known_arriving flags }
+{
+    flags <= LARGE + LOG + TOLD
+}
+
 /// Whether the flags ask for a machine as large as can be.
 pub fn asks_large(flags: u32) -> bool
     ensures { result ≡ asks_large flags }
@@ -181,6 +188,13 @@ pub fn asks_log(flags: u32) -> bool
     ensures { result ≡ asks_log flags }
 {
     flags / LOG % 2 == 1
+}
+
+/// Whether the flags ask that the host tells the digest of the stream that arrives.
+pub fn asks_told(flags: u32) -> bool
+    ensures { result ≡ asks_told flags }
+{
+    flags / TOLD % 2 == 1
 }
 
 /// The limits of a machine that is made, or let arrive, with these flags. A disk outside is as large as can be: it takes no memory.
@@ -325,7 +339,7 @@ fn is_known_arrival(expected: &mut Expected) -> bool
     ensures known { result ≡ is_known_arrival expected.old }
 {
     expected.version == KNOWN
-        && are_known(expected.flags)
+        && are_known_arriving(expected.flags)
         && is_known_frame(expected.flags, expected.frame)
         && expected.zero == 0
         && are_zeros(&expected.reserved)

@@ -103,6 +103,8 @@ pub const CALL: u32 = 81;
 
 pub const WHOLE: u32 = 82;
 
+pub const DIGEST_DUE: u32 = 83;
+
 pub const SECTORS: u32 = 84;
 
 /// The status of an event that was refused.

@@ -62,9 +62,9 @@ pub record IsDue (r : Received) (rest : List ℕ) : Type 0 where
   pub begins : r.held ++ rest ≡ 5 ∷ more
 
 -- A piece was fed as far as the record of the digest: its first bytes were taken, and the others, if there are some, begin or go on with that
--- record; or it was refused.
+-- record; or it was refused. Where none was taken nothing changed.
 abbrev pub FeedsSome : Received → List ℕ → Result Fed RecvError → Received → Type 0
-FeedsSome old piece (Ok fed) new = (fed.used ≤ length piece) × Feeds old (take fed.used piece) (Ok tt) new × (fed.is_due ≡ false → fed.used ≡ length piece) × (fed.is_due ≡ true → IsDue new (drop fed.used piece))
+FeedsSome old piece (Ok fed) new = (fed.used ≤ length piece) × Feeds old (take fed.used piece) (Ok tt) new × (fed.is_due ≡ false → fed.used ≡ length piece) × (fed.is_due ≡ true → IsDue new (drop fed.used piece)) × (fed.used ≡ 0 → new ≡ old)
 FeedsSome old piece (Err e) new = Feeds old piece (Err e) new
 
 -- The result is a refusal for this reason. `why` reads it off what the refusal gives.

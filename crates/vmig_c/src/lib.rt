@@ -26,6 +26,7 @@ ghost use Rattle.c_digest.specs.Holding.{Holds};
 ghost use Rattle.machine.specs.declared.event.Event.TheVariants as events;
 ghost use Rattle.c_handle.specs.Announced.{Announces};
 ghost use Rattle.c_handle.specs.Arriving.{Fed, Finished};
+ghost use Rattle.c_handle.specs.Telling.{FedDigest, FedSome};
 ghost use Rattle.c_handle.specs.Described.{Describes};
 ghost use Rattle.c_handle.specs.Digest.{BegunAs, HasBeenTold};
 ghost use Rattle.c_handle.specs.Dropping.{WroteReg};
@@ -55,7 +56,7 @@ ghost use Rattle.sha2.specs.Sha256.{sha256};
 use c_digest::Digest;
 use c_handle::{
     Call, Handle, SendLeft, Turn, abort, announced, answer_done, answer_failed, arrive, begin,
-    begin_as, describe, drop_input, feed, finish, give_back, hand_call, hand_out, held_of, input,
+    begin_as, describe, drop_input, feed, feed_some, feed_tell, finish, give_back, hand_call, hand_out, held_of, input,
     left as left_of, lend, lines, list_calls, lose_kept, make, mark, next, pull, push, read_ram,
     read_register, read_sector, release, release_refusal, reset, resize, room as room_in,
     save_kept, send_next, send_page, send_round, send_some, step_kept, stop, take, tell, work,
@@ -567,6 +568,29 @@ pub extern "C" fn vmig_feed(alloc: Global, machine: &mut Handle, bytes: &[u8]) -
     ensures { Fed machine.old.machine bytes.now result machine.new.machine }
 {
     on_kept!(machine; alloc, feed(bytes))
+}
+
+/// Feeds the next piece of a stream, where the host tells its digest as far as the record that closes it.
+#[unsafe(no_mangle)]
+#[tactic(auto, using(crate::proofs::ArrivalCalls::some_fed_none, crate::proofs::ArrivalCalls::some_fed))]
+pub extern "C" fn vmig_feed_some(
+    alloc: Global,
+    machine: &mut Handle,
+    bytes: &[u8],
+    used: &mut usize,
+) -> u32
+    ensures { FedSome machine.old.machine bytes.now result used.new used.old machine.new.machine }
+{
+    on_kept!(machine; alloc, feed_some(bytes, used))
+}
+
+/// The host tells the digest of the bytes that it fed, which is due.
+#[unsafe(no_mangle)]
+#[tactic(auto, using(crate::proofs::ArrivalCalls::digest_fed_none, crate::proofs::ArrivalCalls::digest_fed))]
+pub extern "C" fn vmig_feed_tell(machine: &mut Handle, digest: &[u8; 32]) -> u32
+    ensures { FedDigest machine.old.machine digest.now result machine.new.machine }
+{
+    on_kept!(machine; feed_tell(digest))
 }
 
 /// Ends an arrival after its last piece: the handle has the machine, or its stream is refused.

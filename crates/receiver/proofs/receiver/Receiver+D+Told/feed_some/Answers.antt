@@ -1,4 +1,4 @@
-use Rattle.std.proofs.Common.{rules, arith, ◌≡◌, ◌+◌, ◌≤◌, ◌<◌, ◌++◌, ℕ, List, length, take, drop, sym, ap, subst, ◌∙◌, append_assoc}
+use Rattle.std.proofs.Common.{rules, arith, ◌≡◌, ◌+◌, ◌≤◌, ◌<◌, ◌++◌, ℕ, List, length, take, drop, sym, ap, subst, ◌∙◌, append_assoc, refl}
 use Rattle.std.specs.Prelude.{Ok, Err}
 use Rattle.std.proofs.Math.Seq.{take-add}
 use Rattle.std.proofs.lemmas.List.{length-drop, length-take, take-append-drop}
@@ -12,6 +12,7 @@ loop-used-init g c = record {
   within = omega arith;
   shorter = omega arith;
   so_far = rw (← c.self.view_is) (feeds_nothing c.self.inside.reader c.self.inside.held.items (sym c.has_failed.ensures ∙ c.if-has_failed.false));
+  same = λ none. refl;
 }
 
 pub returns-then-has_ended : goal.returns-then-has_ended
@@ -63,4 +64,5 @@ loop-used-preserved g c =
           let one = rw bytes at c.in_default.ensures.feeds in
           let P : List ℕ → Type 0 = λ x. Feeds c.args.self.now x (Ok tt) c.feed_clear.new.self in
           subst P (sym (take-add used count piece)) (feeds_then c.args.self.now c.loop-used.self c.feed_clear.new.self (take used piece) (take count rest) tt (Ok tt) i.so_far low one);
+      same = λ none. absurd (c.if-count-eq-0.false (omega (arith, none)));
     }
