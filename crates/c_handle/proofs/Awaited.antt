@@ -105,19 +105,19 @@ pub cut_piece : (held all piece front rest : List ℕ) (few : ℕ) → all ≡ h
 cut_piece held all piece front rest few is first last =
     ap (λ (b : List ℕ). b ++ rest) is ∙ append_assoc held front rest ∙ ap (λ (b : List ℕ). held ++ (b ++ rest)) first ∙ ap (λ (b : List ℕ). held ++ (take few piece ++ b)) last ∙ ap (λ (b : List ℕ). held ++ b) (take-append-drop few piece)
 
-pub rest_taken : (result : Result Progress RecvError) (r : Received) (front rest bytes : List ℕ) → GoesOnWith front (AtBody r) → front ++ rest ≡ bytes → IfOk result (λ next. IsFed (AtBody r) rest (awaited_by next)) → IfOk result (λ next. GoesOnWith bytes (awaited_by next))
+pub rest_taken : {S : Type 0} → (result : Result (Progress S) RecvError) (r : Received) (front rest bytes : List ℕ) → GoesOnWith front (AtBody r) → front ++ rest ≡ bytes → IfOk result (λ next. IsFed (AtBody r) rest (awaited_by next)) → IfOk result (λ next. GoesOnWith bytes (awaited_by next))
 rest_taken (Ok next) r front rest bytes begun all h = subst (λ (b : List ℕ). GoesOnWith b (awaited_by next)) all (h.goes_on front begun.come)
 rest_taken (Err e) r front rest bytes begun all h = tt
 
-pub rest_refused : (result : Result Progress RecvError) (ram : RamTerms) (r : Received) (front rest bytes : List ℕ) → r.ram ≡ ram → GoesOnWith front (AtBody r) → front ++ rest ≡ bytes → IfErr result (λ e. TellsOf (AtBody r) rest e) → IfErr result (λ e. TellsWhy ram bytes e)
+pub rest_refused : {S : Type 0} → (result : Result (Progress S) RecvError) (ram : RamTerms) (r : Received) (front rest bytes : List ℕ) → r.ram ≡ ram → GoesOnWith front (AtBody r) → front ++ rest ≡ bytes → IfErr result (λ e. TellsOf (AtBody r) rest e) → IfErr result (λ e. TellsWhy ram bytes e)
 rest_refused (Ok next) ram r front rest bytes is begun all h = tt
 rest_refused (Err e) ram r front rest bytes is begun all h = subst (λ (n : RamTerms). TellsWhy n bytes e) is (subst (λ (b : List ℕ). TellsWhy r.ram b e) all (h.why front begun.come))
 
-pub rest_placed : (result : Result Progress RecvError) (place : Option Ptr) (r : Received) (rest : List ℕ) → r.place ≡ place → IfOk result (λ next. IsFed (AtBody r) rest (awaited_by next)) → IfOk result (λ next. awaited_place (awaited_by next) ≡ place)
+pub rest_placed : {S : Type 0} → (result : Result (Progress S) RecvError) (place : Option Ptr) (r : Received) (rest : List ℕ) → r.place ≡ place → IfOk result (λ next. IsFed (AtBody r) rest (awaited_by next)) → IfOk result (λ next. awaited_place (awaited_by next) ≡ place)
 rest_placed (Ok next) place r rest is h = h.place ∙ is
 rest_placed (Err e) place r rest is h = tt
 
-pub rest_based : (result : Result Progress RecvError) (ram : RamTerms) (r : Received) (rest : List ℕ) → r.ram ≡ ram → IfOk result (λ next. IsFed (AtBody r) rest (awaited_by next)) → IfOk result (λ next. awaited_ram (awaited_by next) ≡ ram)
+pub rest_based : {S : Type 0} → (result : Result (Progress S) RecvError) (ram : RamTerms) (r : Received) (rest : List ℕ) → r.ram ≡ ram → IfOk result (λ next. IsFed (AtBody r) rest (awaited_by next)) → IfOk result (λ next. awaited_ram (awaited_by next) ≡ ram)
 rest_based (Ok next) ram r rest is h = h.ram ∙ is
 rest_based (Err e) ram r rest is h = tt
 
@@ -208,13 +208,13 @@ over_whole r whole is lacks failed = (failed, λ b h. whole_if whole r.ram r.siz
 pub head_whole : (ram : RamTerms) (place : Option Ptr) (held : List ℕ) → HasNoHeader held → TellsWhole (AtHead ram place held) false
 head_whole ram place held none = λ b is whole. subst HasNoHeader (sym is) none (said_by whole.opening) _ whole.front.begins
 
-pub not_whole : (p : Progress) (a : ArrivalSeen) → IsComing p → awaited_by p ≡ a → IsAtHead (awaited_by p) → TellsWhole a false
+pub not_whole : {S : Type 0} → (p : Progress S) (a : ArrivalSeen) → IsComing p → awaited_by p ≡ a → IsAtHead (awaited_by p) → TellsWhole a false
 not_whole (Head terms ram held) a coming view at = subst (λ (x : ArrivalSeen). TellsWhole x false) view (head_whole (told_by terms ram) (place_aside ram) held.items coming)
 not_whole (Body r) a coming view at = absurd at
 not_whole (progress.Over r) a coming view at = absurd at
 not_whole Failed a coming view at = absurd at
 
-pub not_counted : (p : Progress) (a : ArrivalSeen) → IsComing p → awaited_by p ≡ a → IsAtHead (awaited_by p) → CountsRounds a 0
+pub not_counted : {S : Type 0} → (p : Progress S) (a : ArrivalSeen) → IsComing p → awaited_by p ≡ a → IsAtHead (awaited_by p) → CountsRounds a 0
 not_counted (Head terms ram held) a coming view at = subst (λ (x : ArrivalSeen). CountsRounds x 0) view (head_counts (told_by terms ram) (place_aside ram) held.items coming)
 not_counted (Body r) a coming view at = absurd at
 not_counted (progress.Over r) a coming view at = absurd at

@@ -47,6 +47,8 @@ mod Sent
 mod ServedPages
 mod Streams
 mod Telling
+mod ToldArrival
+mod ToldFeeding
 mod ToldSent
 mod ToldStates
 mod TurnSteps

@@ -28,7 +28,7 @@ use Rattle.sender.specs.declared.event.LiveReply.{LiveReply}
 use Rattle.sender.specs.declared.event.LiveReply.TheVariants as live
 use Rattle.sender.specs.declared.mig_error.MigError.{MigError}
 use Rattle.c_handle.specs.ArrivalSeen.{ArrivalSeen}
-use Rattle.c_handle.specs.Arriving.{Ends, has_more}
+use Rattle.c_handle.specs.Arriving.{Ends, FinishesState, has_more, outgrows}
 use Rattle.c_handle.specs.Awaited.{HasArrived, ram_coming}
 use Rattle.c_handle.specs.DiskCalls.{MeetsParked, asker_lent}
 use Rattle.c_handle.specs.Durable.{FailsSync, FailsUnless}
@@ -301,3 +301,9 @@ arrived_fits log places k (Still m) r status fits is fine ends = has_arrived log
 arrived_fits log places k (Arriving next) r status fits is fine ends = coming log places k r fits is
 arrived_fits log places k (Moving l) r status fits is fine ends = absurd ends
 arrived_fits log places k (Lent x) r status fits is fine ends = absurd ends
+
+pub ended_fits : (log : Option (List Bool)) (places : ℕ) (k next : State) (status : ℕ) → FitsLog log (ram_in places k) → outgrows places k ≡ false → FinishesState k status next → FitsLog log (ram_in places next)
+ended_fits log places (Arriving r) next status fits fine ends = arrived_fits log places (Arriving r) next r status fits refl fine ends
+ended_fits log places (Still m) next status fits fine ends = absurd ends
+ended_fits log places (Moving l) next status fits fine ends = absurd ends
+ended_fits log places (Lent x) next status fits fine ends = absurd ends

@@ -9,7 +9,7 @@ use Rattle.c_handle.specs.AdmissionSeen.{AdmissionSeen, Denied}
 use Rattle.c_handle.specs.ArrivalSeen.{ArrivalSeen}
 use Rattle.c_handle.specs.Awaited.{HasArrived, HasSameDisks, IsClosed, IsFed, RefusesUntouched, TellsEnd, TellsOf, TellsWhole, ram_coming, stream_status}
 use Rattle.c_handle.specs.OnHandle.{Refuses, Unless}
-use Rattle.c_handle.specs.declared.telling.Telling.{Telling}
+use Rattle.c_handle.specs.declared.told_feeding.Telling.{Telling}
 use Rattle.c_machine.specs.Status.{done, in_use, no_machine, not_asked, stream_too_large, whole}
 use Rattle.c_handle.specs.Kept.{KeptSeen, State, Still, Moving, Arriving, Lent}
 
@@ -77,7 +77,7 @@ abbrev pub or_else : Option ℕ → Option ℕ → Option ℕ
 or_else (Some reason) other = Some reason
 or_else None other = other
 
--- A host that tells the digest feeds pieces by another call (`specs/Telling`): this one is refused, and nothing changed.
+-- A host that tells the digest feeds pieces by another call (`specs/ToldFeeding`): this one is refused, and nothing changed.
 abbrev pub feed_refusal : Option Telling → AdmissionSeen → Option ℕ
 feed_refusal None admission = None
 feed_refusal (Some telling) admission = or_else (refused_before (first_refusal admission)) (Some not_asked)

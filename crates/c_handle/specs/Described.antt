@@ -18,7 +18,7 @@ use Rattle.c_handle.specs.Kept.{KeptSeen, LoanSeen, StillLent, MovingLent, State
 use Rattle.c_machine.specs.Description.{message_of, nothing_told, with_shapes}
 use Rattle.c_handle.specs.SendStatus.{mig_status}
 use Rattle.c_handle.specs.Unmapping.{images_in}
-use Rattle.c_handle.specs.declared.telling.Telling.{Telling}
+use Rattle.c_handle.specs.declared.told_feeding.Telling.{Telling}
 use Rattle.c_machine.specs.declared.description.Description.{Description}
 use Rattle.c_machine.specs.declared.setup.TheConstants.{LARGE, LOG, TOLD}
 

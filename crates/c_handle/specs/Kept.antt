@@ -19,8 +19,8 @@ use Rattle.c_handle.specs.declared.kept.Held.{Held}
 use Rattle.c_handle.specs.declared.kept.Held.TheVariants as held
 use Rattle.c_handle.specs.declared.loan.Loan.{Loan}
 use Rattle.c_handle.specs.declared.loan.Loan.TheVariants as loans
-use Rattle.c_handle.specs.declared.telling.Telling.{Telling}
-use Rattle.c_handle.specs.declared.telling.Telling.TheVariants as tellings
+use Rattle.c_handle.specs.declared.told_feeding.Telling.{Telling}
+use Rattle.c_handle.specs.declared.told_feeding.Telling.TheVariants as tellings
 
 -- A machine whose RAM is lent to the caller: one that is not being migrated, or one that is.
 pub data LoanSeen : Type 0 where

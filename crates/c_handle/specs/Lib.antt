@@ -40,6 +40,8 @@ pub mod SendStatus
 pub mod Sent
 pub mod Stepped
 pub mod Told
+pub mod ToldArrival
+pub mod ToldFeeding
 pub mod Turns
 pub mod Unmapping
 pub mod Version

@@ -21,7 +21,7 @@ use crate::creating::{filled, stand_in};
 use crate::handle::Handle;
 use crate::kept::{Asked, Held, Kept};
 use crate::logging::log_for;
-use crate::telling::Telling;
+use crate::told_feeding::Telling;
 use c_machine::status::{DONE, IN_USE, NO_MEMORY};
 use c_machine::{
     Expected, arrival_refusal, asks_told, frame_allowed, give_back, header_limits, is_none, mapped_disks,

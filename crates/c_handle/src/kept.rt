@@ -20,7 +20,7 @@ use crate::arrival::Arrival;
 use crate::calls_out::CallsOut;
 use crate::loan::Loan;
 use crate::logging::Output;
-use crate::telling::Telling;
+use crate::told_feeding::Telling;
 use c_machine::{asks_large, limits_for};
 use guestmem::{PAGE_SIZE, PAGES_MAX};
 use machine::{DEVICES_MAX, Disk, Machine, MemDisk, PageLog};

@@ -9,6 +9,7 @@ ghost use Rattle.c_machine.specs.Plain.{PlainStays, RefusedChangesNothing};
 ghost use Rattle.c_handle.specs.Outside.{RefusedAnswersNothing, RefusedHandsNothing};
 ghost use Rattle.c_handle.specs.Refused.{RefusedTellsNothing, RefusedWritesNothing};
 ghost use Rattle.c_handle.specs.Stepped.{RefusedStepsNothing};
+ghost use Rattle.c_handle.specs.ToldFeeding.{NoneIsBefore, TakingsCome};
 ghost use Rattle.c_handle.specs.Turns.{RefusedTurnsNothing, TurnsStaySent};
 ghost use Rattle.c_handle.specs.Sent.{AbortsAfterTakings, ArrivedIsSent, CallsStaySent, FailedFlushesStaySent, FailedHandingsStaySent, FirstIsSent, HandingsStaySent, LentCallsStaySent, LentComesBackSent, LentMarksStaySent, LentRoundsStaySent, LentSectorsStaySent, LentStepsStaySent, LentTakingsStaySent, MarksStaySent, NoneIsAskedYet, StoppedIsWhole, TakingsChangeNothingElse, TakingsStaySent, TellingsStaySent, UnsentSectorsStaySent};
 
@@ -215,6 +216,13 @@ pub fn stopped_is_whole()
 /// The machine that arrives from these bytes, fed in any pieces, is the one that was stopped.
 pub fn arrived_is_sent()
     ensures { ArrivedIsSent }
+{}
+
+/// What is taken of a stream whose host tells its digest comes after what was fed before, and no byte of the record that closes the stream is
+/// among it: so who digests what was taken has the digest that is asked for (`specs/ToldFeeding`).
+pub fn told_takings_come()
+    ensures come { TakingsCome }
+    ensures first { NoneIsBefore }
 {}
 
 /// No machine that was let in is refused at its end for want of places in its log.

@@ -92,8 +92,8 @@ mod serving;
 mod status;
 mod stepping;
 mod syncing;
-mod telling;
 mod told_arrival;
+mod told_feeding;
 mod turning;
 mod unmapping;
 mod working;
@@ -124,7 +124,7 @@ pub use serving::{
 };
 pub use stepping::step_kept;
 pub use syncing::lose_kept;
-pub use telling::{feed_some, feed_tell};
+pub use told_feeding::{feed_some, feed_tell};
 pub use turning::{Turn, work};
 pub use unmapping::{held_of, release, release_refusal};
 pub use working::next;

@@ -2,12 +2,14 @@
 //!
 //! While the header is incomplete they come one by one, so that no byte after it is taken with it.
 
-ghost use Rattle.std.specs.Prelude.{◌≡◌, ◌++◌, ◌∷◌, [], IfErr, IfOk, false, length};
+ghost use Rattle.std.specs.Prelude.{◌≡◌, ◌++◌, [], IfErr, IfOk, false, length};
 ghost use Rattle.machine.specs.Shapes.{disk_sizes};
 ghost use Rattle.receiver.specs.Opened.{told_by};
 ghost use Rattle.receiver.specs.Receiving.{place_aside};
 ghost use Rattle.c_handle.specs.Awaited.{GoesOnWith, IsComing, IsFedTo, TellsWhy, awaited_by, awaited_place, awaited_ram, is_over};
 ghost use Rattle.c_handle.specs.Headed.{AreFitting, EndsHeader, HasNoHeader};
+ghost use Rattle.c_handle.specs.ToldArrival.{IsBefore};
+ghost use Rattle.receiver.specs.Calls.{IsDue};
 
 use crate::arrival::{Arrival, Progress};
 use c_machine::zero_disks;
@@ -19,10 +21,10 @@ use std::alloc::Global;
 use std::mem;
 
 impl Arrival<Told> {
-    ghost use Rattle.std.specs.Prelude.{◌≡◌, ◌↔◌, IfErr, IfOk, IsTrue, false, length, true};
+    ghost use Rattle.std.specs.Prelude.{◌≡◌, ◌↔◌, ℕ, List, IfErr, IfOk, IsTrue, false, length, true};
     ghost use Rattle.sha2.specs.Sha256.{sha256};
-    ghost use Rattle.c_handle.specs.Awaited.{IsAtHead, IsClosed, IsFed, RefusesUntouched, TellsOf, is_over};
-    ghost use Rattle.c_handle.specs.Digesting.{ClosesRight, DueAfter, IsDueAt, digested};
+    ghost use Rattle.c_handle.specs.Awaited.{HasCome, IsAtHead, IsClosed, IsFed, RefusesUntouched, TellsOf, is_over};
+    ghost use Rattle.c_handle.specs.ToldArrival.{ClosesRight, DueAfter, IsBefore, IsDueAt, digested};
     ghost use Rattle.receiver.specs.Opened.{told_by};
     ghost use Rattle.receiver.specs.Receiving.{place_aside};
     ghost use Rattle.c_handle.specs.Landing.{IsAwaitedAt};
@@ -45,11 +47,18 @@ impl Arrival<Told> {
 
     /// Whether the record that closes the stream has begun, or begins with these bytes.
     pub(crate) fn is_due(&self, rest: &[u8]) -> bool
-        ensures { IsTrue result ↔ IsDueAt self.now rest.now }
+        ensures due { IsTrue result ↔ IsDueAt self.now rest.now }
+        ensures digests { IsDueAt self.now rest.now → (b : List ℕ) → HasCome self.now b → IsBefore self.now → digested self.now ≡ b }
     {
         match &self.progress {
-            Progress::Body(receiver) => receiver.is_due(rest),
-            Progress::Over(receiver) => receiver.is_due(rest),
+            Progress::Body(receiver) => {
+                receiver.recall_bytes();
+                receiver.is_due(rest)
+            }
+            Progress::Over(receiver) => {
+                receiver.recall_bytes();
+                receiver.is_due(rest)
+            }
             Progress::Head(..) | Progress::Failed => false,
         }
     }
@@ -61,6 +70,7 @@ impl Arrival<Told> {
         ensures fed { IfOk result (λ x. IsFed self.old byte.now self.new) }
         ensures refused { IfErr result (λ e. TellsOf self.old byte.now e × IsClosed self.old self.new) }
         ensures untouched { IfErr result (λ e. RefusesUntouched self.old byte.now e self.new) }
+        ensures before { IfOk result (λ x. (b : List ℕ) → HasCome self.old b → IsBefore self.old → IsBefore self.new) }
         ensures disks { is_over self.new ≡ is_over self.old }
     {
         match &mut self.progress {
@@ -78,6 +88,7 @@ impl Arrival<Told> {
         ensures fed { IfOk result (λ x. IsFed self.old byte.now self.new) }
         ensures refused { IfErr result (λ e. TellsOf self.old byte.now e × IsClosed self.old self.new) }
         ensures untouched { IfErr result (λ e. RefusesUntouched self.old byte.now e self.new) }
+        ensures before { IfOk result (λ x. IsBefore self.new) }
         ensures disks { is_over self.new ≡ false }
     {
         let Progress::Head(terms, ram, held) = mem::replace(&mut self.progress, Progress::Failed)
@@ -103,13 +114,20 @@ impl Arrival<Told> {
     {
         match &mut self.progress {
             Progress::Body(receiver) => match receiver.feed_some(piece) {
-                Ok(fed) => Ok(fed),
+                Ok(fed) => {
+                    receiver.recall_bytes();
+                    Ok(fed)
+                }
                 Err(error) => {
                     drop(mem::replace(&mut self.progress, Progress::Failed));
                     Err(error)
                 }
             },
-            Progress::Over(receiver) => receiver.feed_some(piece),
+            Progress::Over(receiver) => {
+                let fed = receiver.feed_some(piece);
+                receiver.recall_bytes();
+                fed
+            }
             Progress::Head(..) => unreachable!(),
             Progress::Failed => Err(RecvError::AlreadyFailed),
         }
@@ -120,6 +138,7 @@ impl Arrival<Told> {
         requires due { IsDueAt self.old rest.now }
         ensures right { digest.now ≡ sha256 (digested self.old) → ClosesRight self.old rest.now result self.new }
         ensures closed { IfErr result (λ e. IsClosed self.old self.new) }
+        ensures digests { IfOk result (λ x. digested self.new ≡ digested self.old) }
         ensures disks { is_over self.new ≡ is_over self.old }
     {
         match &mut self.progress {
@@ -151,6 +170,7 @@ fn take_byte(
     ensures ram { IfOk result (λ next. awaited_ram (awaited_by next) ≡ told_by terms ram) }
     ensures place { IfOk result (λ next. awaited_place (awaited_by next) ≡ place_aside ram) }
     ensures goes_on { IfOk result (λ next. GoesOnWith (held.items ++ byte.now) (awaited_by next)) }
+    ensures before { IfOk result (λ next. IsBefore (awaited_by next)) }
     ensures refused { IfErr result (λ e. TellsWhy (told_by terms ram) (held.items ++ byte.now) e) }
 {
     let mut held = held;
@@ -176,6 +196,7 @@ fn begun(
     header: &[u8],
 ) -> Result<Receiver<MemDisk, Told>, RecvError>
     requires { EndsHeader header.now }
+    ensures before { IfOk result (λ r. ¬ (IsDue r [])) }
     ensures begun { IfOk result (λ r. IsFedTo (told_by terms ram) (place_aside ram) (disk_sizes shapes.now) header.now r) }
     ensures refused { AreFitting terms.limits header.now (disk_sizes shapes.now) → IfErr result (λ e. TellsWhy (told_by terms ram) header.now e) }
 {

@@ -1,5 +1,5 @@
 -- What the calls of a receiver promise, each in one record. What is said of bytes is said of each list that may have been fed.
-use Rattle.std.specs.Prelude.{◌≡◌, ◌≤◌, ℕ, ◌+◌, List, [], ◌∷◌, ◌++◌, take, drop, length, map, true, false, Result, Ok, Err, IfOk, IfErr, OnOk, OnErr, Option, Some}
+use Rattle.std.specs.Prelude.{◌≡◌, ◌<◌, ◌≤◌, ℕ, ◌+◌, List, [], ◌∷◌, ◌++◌, take, drop, length, map, true, false, Result, Ok, Err, IfOk, IfErr, OnOk, OnErr, Option, Some}
 use Rattle.blk.specs.Disk.{DiskState}
 use Rattle.guestmem.specs.Memory.{Memory}
 use Rattle.machine.specs.First.{dealt_marks}
@@ -61,10 +61,19 @@ pub record IsDue (r : Received) (rest : List ℕ) : Type 0 where
   pub more : List ℕ
   pub begins : r.held ++ rest ≡ 5 ∷ more
 
--- A piece was fed as far as the record of the digest: its first bytes were taken, and the others, if there are some, begin or go on with that
--- record; or it was refused. Where none was taken nothing changed.
+-- The first bytes of a piece were taken, as far as the record of the digest: the others, if there are some, begin or go on with that record.
+-- Where none was taken nothing changed, and else no byte of the record was.
+pub record TakesSome (old : Received) (piece : List ℕ) (fed : Fed) (new : Received) : Type 0 where
+  pub within : fed.used ≤ length piece
+  pub feeds : Feeds old (take fed.used piece) (Ok tt) new
+  pub all : fed.is_due ≡ false → fed.used ≡ length piece
+  pub due : fed.is_due ≡ true → IsDue new (drop fed.used piece)
+  pub same : fed.used ≡ 0 → new ≡ old
+  pub before : 0 < fed.used → (b : List ℕ) → HasBeenFed old b → ¬ (IsDue new [])
+
+-- A piece was fed as far as that record, or refused.
 abbrev pub FeedsSome : Received → List ℕ → Result Fed RecvError → Received → Type 0
-FeedsSome old piece (Ok fed) new = (fed.used ≤ length piece) × Feeds old (take fed.used piece) (Ok tt) new × (fed.is_due ≡ false → fed.used ≡ length piece) × (fed.is_due ≡ true → IsDue new (drop fed.used piece)) × (fed.used ≡ 0 → new ≡ old)
+FeedsSome old piece (Ok fed) new = TakesSome old piece fed new
 FeedsSome old piece (Err e) new = Feeds old piece (Err e) new
 
 -- The result is a refusal for this reason. `why` reads it off what the refusal gives.

@@ -428,6 +428,7 @@ impl<D: Disk + Drop> Receiver<D, Told> {
             }
             let count = self.clear_len(rest);
             if count == 0 {
+                self.reader.recall_told();
                 return Ok(Fed { used, is_due: true });
             }
             let (bytes, _) = rest.split_at(count);
@@ -436,6 +437,7 @@ impl<D: Disk + Drop> Receiver<D, Told> {
             }
             used += count;
         }
+        self.reader.recall_told();
         Ok(Fed {
             used,
             is_due: false,

@@ -26,7 +26,7 @@ ghost use Rattle.c_digest.specs.Holding.{Holds};
 ghost use Rattle.machine.specs.declared.event.Event.TheVariants as events;
 ghost use Rattle.c_handle.specs.Announced.{Announces};
 ghost use Rattle.c_handle.specs.Arriving.{Fed, Finished};
-ghost use Rattle.c_handle.specs.Telling.{FedDigest, FedSome};
+ghost use Rattle.c_handle.specs.ToldFeeding.{FedDigest, FedSome};
 ghost use Rattle.c_handle.specs.Described.{Describes};
 ghost use Rattle.c_handle.specs.Digest.{BegunAs, HasBeenTold};
 ghost use Rattle.c_handle.specs.Dropping.{WroteReg};

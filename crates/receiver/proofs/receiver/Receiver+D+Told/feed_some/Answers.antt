@@ -4,6 +4,8 @@ use Rattle.std.proofs.Math.Seq.{take-add}
 use Rattle.std.proofs.lemmas.List.{length-drop, length-take, take-append-drop}
 use Rattle.receiver.specs.Calls.{Feeds}
 use Rattle.receiver.specs.declared.recv_error.RecvError.TheVariants as errors
+use Rattle.receiver.specs.Receiving.{HasBeenFed}
+use Rattle.receiver.proofs.Before.{clear_next, not_due, positive}
 use Rattle.receiver.proofs.Composing.{feeds_more, feeds_nothing, feeds_then, feeds_trailing}
 use Rattle.receiver.proofs.receiver.Receiver+D+Told.feed_some.Goals as goal
 
@@ -13,6 +15,7 @@ loop-used-init g c = record {
   shorter = omega arith;
   so_far = rw (← c.self.view_is) (feeds_nothing c.self.inside.reader c.self.inside.held.items (sym c.has_failed.ensures ∙ c.if-has_failed.false));
   same = λ none. refl;
+  clear = λ some. absurd (omega (arith, some));
 }
 
 pub returns-then-has_ended : goal.returns-then-has_ended
@@ -65,4 +68,40 @@ loop-used-preserved g c =
           let P : List ℕ → Type 0 = λ x. Feeds c.args.self.now x (Ok tt) c.feed_clear.new.self in
           subst P (sym (take-add used count piece)) (feeds_then c.args.self.now c.loop-used.self c.feed_clear.new.self (take used piece) (take count rest) tt (Ok tt) i.so_far low one);
       same = λ none. absurd (c.if-count-eq-0.false (omega (arith, none)));
+      clear = λ some b h.
+          let some_bytes : 0 < count = positive count c.if-count-eq-0.false in
+          let here : HasBeenFed c.loop-used.self (b ++ take used piece) = i.so_far.fed b h in
+          let one = rw there at c.clear_len-count.ensures.clear some_bytes (b ++ take used piece) here.taken in
+          clear_next c.loop-used.self c.feed_clear.new.self b used count piece (rw bytes at c.in_default.ensures.feeds).ram (rw bytes at c.in_default.ensures.feeds).sizes c.in_default.ensures.says one;
+    }
+
+pub returns-then-count-eq-0 : goal.returns-then-count-eq-0
+returns-then-count-eq-0 g c =
+    let i = c.loop-used.invariant in
+    let s = c.self-in-loop-used in
+    let piece = c.args.piece.now in
+    let used = c.loop-used.used in
+    let there : c.split_at.result.1.now ≡ drop used piece = search rules in
+    record {
+      within = i.within;
+      feeds = i.so_far;
+      all = λ no. cc;
+      due = λ yes. rw there at (c.clear_len-count.ensures.due c.if-count-eq-0.true);
+      same = i.same;
+      before = λ some b h. rw (← s.view_is) (not_due s.inside.reader.digest s.inside.reader s.inside.held.items (b ++ take used piece) (rw (← s.view_is) at c.recall_told.ensures) (rw (← s.view_is) at (i.clear some b h)) (rw (← s.view_is) at (i.so_far.fed b h)));
+    }
+
+pub returns : goal.returns
+returns g c =
+    let i = c.loop-used.invariant in
+    let s = c.self-in-loop-used in
+    let piece = c.args.piece.now in
+    let used = c.loop-used.used in
+    record {
+      within = i.within;
+      feeds = i.so_far;
+      all = λ no. omega (arith, i.within, c.loop-used-test.false);
+      due = λ yes. cc;
+      same = i.same;
+      before = λ some b h. rw (← s.view_is) (not_due s.inside.reader.digest s.inside.reader s.inside.held.items (b ++ take used piece) (rw (← s.view_is) at c.recall_told.ensures) (rw (← s.view_is) at (i.clear some b h)) (rw (← s.view_is) at (i.so_far.fed b h)));
     }

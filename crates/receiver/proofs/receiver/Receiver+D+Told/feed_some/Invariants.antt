@@ -1,6 +1,8 @@
-use Rattle.std.proofs.Common.{◌≡◌, ◌+◌, ◌-◌, ◌≤◌, length, take}
+use Rattle.std.proofs.Common.{◌≡◌, ◌+◌, ◌-◌, ◌≤◌, ◌<◌, ◌++◌, ℕ, List, length, take}
 use Rattle.std.specs.Prelude.{Ok}
 use Rattle.receiver.specs.Calls.{Feeds}
+use Rattle.receiver.specs.Receiving.{HasBeenFed}
+use Rattle.receiver.specs.Sums.{IsClear}
 use Rattle.receiver.proofs.receiver.Receiver+D+Told.feed_some.Given as goal
 
 abbrev pub invariant-loop-used : goal.invariant-loop-used
@@ -9,6 +11,7 @@ invariant-loop-used g l = record {
   shorter : length l.self.held ≤ length l.fn.self.held + l.used;
   so_far : Feeds l.fn.self (take l.used l.piece) (Ok tt) l.self;
   same : l.used ≡ 0 → l.self ≡ l.fn.self;
+  clear : 0 < l.used → (b : List ℕ) → HasBeenFed l.fn.self b → IsClear l.self.digest l.self.ram l.self.sizes (b ++ take l.used l.piece);
 }
 
 abbrev pub decreases-loop-used : goal.decreases-loop-used

@@ -6,18 +6,19 @@ use Rattle.c_handle.specs.Admission.{Admits, IsPending, first_refusal}
 use Rattle.c_handle.specs.AdmissionSeen.{AdmissionSeen, Denied}
 use Rattle.c_handle.specs.ArrivalSeen.{ArrivalSeen}
 use Rattle.c_handle.specs.Arriving.{FeedsKept, FeedsWithin, HasDenied, HasNotFed, is_taken, or_else, refused_before, taken_status}
-use Rattle.c_handle.specs.Awaited.{IsAtHead, IsClosed, IsFed, TellsWhole, stream_status}
-use Rattle.c_handle.specs.Digesting.{IsDueAt, digested}
+use Rattle.c_handle.specs.Awaited.{HasCome, IsAtHead, IsClosed, IsFed, TellsWhole, stream_status}
+use Rattle.c_handle.specs.ToldArrival.{IsBefore, IsDueAt, digested}
 use Rattle.c_handle.specs.Kept.{KeptSeen, State, Still, Moving, Arriving, Lent}
 use Rattle.c_handle.specs.OnHandle.{Unless}
-use Rattle.c_handle.specs.declared.telling.Telling.{Telling}
-use Rattle.c_handle.specs.declared.telling.Telling.TheVariants.{NotDue, Due, InHand}
+use Rattle.c_handle.specs.declared.told_feeding.Telling.{Telling}
+use Rattle.c_handle.specs.declared.told_feeding.Telling.TheVariants.{NotDue, Due, InHand}
 use Rattle.c_machine.specs.Status.{digest_due, done, in_use, no_machine, not_asked}
 
 -- A part of a piece was let in and taken.
 pub record TakesPart (admission : AdmissionSeen) (r : ArrivalSeen) (part : List ℕ) (after : AdmissionSeen) (next : ArrivalSeen) : Type 0 where
   pub admitted : Admits admission part None after
   pub fed : IsFed r part next
+  pub before : (b : List ℕ) → HasCome r b → IsBefore r → IsBefore next
 
 pub record TakesThen (rest : AdmissionSeen → ArrivalSeen → Type 0) (admission : AdmissionSeen) (r : ArrivalSeen) (part : List ℕ) : Type 0 where
   pub let_in : AdmissionSeen
@@ -41,6 +42,14 @@ pub record TakesFirst (used : ℕ) (admission : AdmissionSeen) (r : ArrivalSeen)
   pub bytes : joined parts ≡ take used piece
   pub takes : TakesParts parts admission r after next
 
+-- They come after what came before, and no byte of the record that closes the stream is among them.
+abbrev pub TakingsCome : Type 0
+TakingsCome = (used : ℕ) (admission after : AdmissionSeen) (r next : ArrivalSeen) (piece b : List ℕ) → TakesFirst used admission r piece after next → HasCome r b → IsBefore r → HasCome next (b ++ take used piece) × IsBefore next
+
+-- No byte of it is among those of an arrival that was fed nothing.
+abbrev pub NoneIsBefore : Type 0
+NoneIsBefore = (r : ArrivalSeen) → HasCome r [] → IsBefore r
+
 -- All of it was.
 pub record TakesAll (admission : AdmissionSeen) (r : ArrivalSeen) (piece : List ℕ) (status used : ℕ) (after : AdmissionSeen) (next : ArrivalSeen) : Type 0 where
   pub takes : TakesFirst used admission r piece after next
@@ -49,10 +58,11 @@ pub record TakesAll (admission : AdmissionSeen) (r : ArrivalSeen) (piece : List 
   pub tells : TellsWhole next ended
   pub status_is : status ≡ taken_status ended
 
--- It was taken up to the record that closes the stream.
+-- It was taken up to the record that closes the stream: the digest to be told is that of all bytes that were fed.
 pub record ComesToDigest (admission : AdmissionSeen) (r : ArrivalSeen) (piece : List ℕ) (status used : ℕ) (after : AdmissionSeen) (next : ArrivalSeen) : Type 0 where
   pub takes : TakesFirst used admission r piece after next
   pub due : IsDueAt next (drop used piece)
+  pub digests : (b : List ℕ) → HasCome r b → IsBefore r → digested next ≡ b ++ take used piece
   pub status_is : status ≡ digest_due
 
 -- A part was refused, and the stream with it, for good.
@@ -81,7 +91,8 @@ pub record IsPast (admission : AdmissionSeen) (r : ArrivalSeen) (rest : List ℕ
   pub past : IsAtHead r → rest ≡ []
 
 -- The record was compared with what was told: it was taken, or refused.
-pub record IsClosedWell (let_in : AdmissionSeen) (status : ℕ) (after : AdmissionSeen) (next : ArrivalSeen) : Type 0 where
+pub record IsClosedWell (let_in : AdmissionSeen) (r : ArrivalSeen) (status : ℕ) (after : AdmissionSeen) (next : ArrivalSeen) : Type 0 where
+  pub digests : digested next ≡ digested r
   pub ended : Bool
   pub tells : TellsWhole next ended
   pub status_is : status ≡ taken_status ended
@@ -96,7 +107,7 @@ pub record IsClosedBadly (r : ArrivalSeen) (status : ℕ) (after : AdmissionSeen
 pub record IsCompared (admission : AdmissionSeen) (r : ArrivalSeen) (piece : List ℕ) (status : ℕ) (after : AdmissionSeen) (next : ArrivalSeen) : Type 0 where
   pub let_in : AdmissionSeen
   pub admitted : Admits admission piece None let_in
-  pub compared : IsClosedWell let_in status after next ⊎ IsClosedBadly r status after next
+  pub compared : IsClosedWell let_in r status after next ⊎ IsClosedBadly r status after next
 
 -- The next bytes of that record. Where the digest is that of all bytes before it, they are a piece as any other; whatever was told, the handle has an
 -- arrival after it.

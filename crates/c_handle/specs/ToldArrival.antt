@@ -1,11 +1,11 @@
 -- The digest of a stream that arrives, where its host tells it.
-use Rattle.std.specs.Prelude.{◌≡◌, ◌≤◌, ℕ, List, [], length, take, drop, Result, IfErr, IfOk, true, false}
+use Rattle.std.specs.Prelude.{◌≡◌, ◌≤◌, ◌++◌, ℕ, List, [], length, take, drop, Result, IfErr, IfOk, true, false}
 use Rattle.receiver.specs.Calls.{IsDue}
 use Rattle.receiver.specs.Sums.{past_of}
 use Rattle.receiver.specs.declared.receiver.Fed.{Fed}
 use Rattle.receiver.specs.declared.recv_error.RecvError.{RecvError}
 use Rattle.c_handle.specs.ArrivalSeen.{ArrivalSeen, AtHead, AtBody, Refused, Over}
-use Rattle.c_handle.specs.Awaited.{IsClosed, IsFed, RefusesUntouched, TellsOf}
+use Rattle.c_handle.specs.Awaited.{HasCome, IsClosed, IsFed, RefusesUntouched, TellsOf}
 
 -- The record that closes the stream has begun, or begins with these bytes.
 abbrev pub IsDueAt : ArrivalSeen → List ℕ → Type 0
@@ -13,6 +13,10 @@ IsDueAt (AtHead ram place held) rest = ⊥
 IsDueAt (AtBody r) rest = IsDue r rest
 IsDueAt Refused rest = ⊥
 IsDueAt (Over r) rest = IsDue r rest
+
+-- No byte of it is held.
+abbrev pub IsBefore : ArrivalSeen → Type 0
+IsBefore a = ¬ (IsDueAt a [])
 
 -- The bytes whose digest is to be told: all before that record, once the header is whole.
 abbrev pub digested : ArrivalSeen → List ℕ
@@ -27,6 +31,9 @@ pub record DueAfter (a : ArrivalSeen) (piece : List ℕ) (fed : Fed) (next : Arr
   pub is_fed : IsFed a (take fed.used piece) next
   pub all : fed.is_due ≡ false → fed.used ≡ length piece
   pub due : fed.is_due ≡ true → IsDueAt next (drop fed.used piece)
+  pub same : fed.used ≡ 0 → next ≡ a
+  pub before : (b : List ℕ) → HasCome a b → IsBefore a → IsBefore next
+  pub digests : fed.is_due ≡ true → (b : List ℕ) → HasCome a b → IsBefore a → digested next ≡ b ++ take fed.used piece
 
 -- With the right digest its bytes are taken, or refused, as those of any piece.
 pub record ClosesRight (a : ArrivalSeen) (piece : List ℕ) (result : Result (Unit {0}) RecvError) (next : ArrivalSeen) : Type 0 where

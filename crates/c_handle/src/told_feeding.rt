@@ -8,9 +8,9 @@ ghost use Rattle.c_handle.specs.Admission.{first_refusal};
 ghost use Rattle.c_handle.specs.AdmissionSeen.{Denied};
 ghost use Rattle.c_handle.specs.Arriving.{or_else, refused_before};
 ghost use Rattle.c_handle.specs.Awaited.{is_over, stream_status};
-ghost use Rattle.c_handle.specs.Digesting.{IsDueAt};
+ghost use Rattle.c_handle.specs.ToldArrival.{IsDueAt};
 ghost use Rattle.c_handle.specs.Kept.{admission_of};
-ghost use Rattle.c_handle.specs.Telling.{ClosesTold, DoesFeedSome, DoesTell, FeedsFront, FeedsSomeKept, FeedsTold, IsPast, RefusesPart, TakesPart, TellsDigest, not_due, telling_at};
+ghost use Rattle.c_handle.specs.ToldFeeding.{ClosesTold, DoesFeedSome, DoesTell, FeedsFront, FeedsSomeKept, FeedsTold, IsPast, RefusesPart, TakesPart, TellsDigest, not_due, telling_at};
 
 use crate::admission::Admission;
 use crate::arrival::Arrival;
