@@ -173,7 +173,7 @@ fn are_known(flags: u32) -> bool
 fn are_known_arriving(flags: u32) -> bool
     ensures { result ≡ are_known_arriving flags }
 {
-    flags <= LARGE + LOG + TOLD
+    flags < 2 * TOLD
 }
 
 /// Whether the flags ask for a machine as large as can be.
