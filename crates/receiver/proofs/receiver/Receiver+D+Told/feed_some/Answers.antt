@@ -67,16 +67,16 @@ loop-used-preserved g c =
           let one = rw bytes at c.in_default.ensures.feeds in
           let P : List ℕ → Type 0 = λ x. Feeds c.args.self.now x (Ok tt) c.feed_clear.new.self in
           subst P (sym (take-add used count piece)) (feeds_then c.args.self.now c.loop-used.self c.feed_clear.new.self (take used piece) (take count rest) tt (Ok tt) i.so_far low one);
-      same = λ none. absurd (c.if-count-eq-0.false (omega (arith, none)));
+      same = λ none. absurd (c.if-count-eq0.false (omega (arith, none)));
       clear = λ some b h.
-          let some_bytes : 0 < count = positive count c.if-count-eq-0.false in
+          let some_bytes : 0 < count = positive count c.if-count-eq0.false in
           let here : HasBeenFed c.loop-used.self (b ++ take used piece) = i.so_far.fed b h in
           let one = rw there at c.clear_len-count.ensures.clear some_bytes (b ++ take used piece) here.taken in
           clear_next c.loop-used.self c.feed_clear.new.self b used count piece (rw bytes at c.in_default.ensures.feeds).ram (rw bytes at c.in_default.ensures.feeds).sizes c.in_default.ensures.says one;
     }
 
-pub returns-then-count-eq-0 : goal.returns-then-count-eq-0
-returns-then-count-eq-0 g c =
+pub returns-then-count-eq0 : goal.returns-then-count-eq0
+returns-then-count-eq0 g c =
     let i = c.loop-used.invariant in
     let s = c.self-in-loop-used in
     let piece = c.args.piece.now in
@@ -86,15 +86,15 @@ returns-then-count-eq-0 g c =
       within = i.within;
       feeds = i.so_far;
       all = λ no. cc;
-      due = λ yes. rw there at (c.clear_len-count.ensures.due c.if-count-eq-0.true);
+      due = λ yes. rw there at (c.clear_len-count.ensures.due c.if-count-eq0.true);
       same = i.same;
-      before = λ some b h. rw (← s.view_is) (not_due s.inside.reader.digest s.inside.reader s.inside.held.items (b ++ take used piece) (rw (← s.view_is) at c.recall_told.ensures) (rw (← s.view_is) at (i.clear some b h)) (rw (← s.view_is) at (i.so_far.fed b h)));
+      before = λ some b h. rw (← s.view_is) (not_due s.inside.reader.digest s.inside.reader s.inside.held.items (b ++ take used piece) c.recall_told.ensures (rw (← s.view_is) at (i.clear some b h)) (rw (← s.view_is) at (i.so_far.fed b h)));
     }
 
 pub returns : goal.returns
 returns g c =
     let i = c.loop-used.invariant in
-    let s = c.self-in-loop-used in
+    let s = c.self-2 in
     let piece = c.args.piece.now in
     let used = c.loop-used.used in
     record {
@@ -103,5 +103,5 @@ returns g c =
       all = λ no. omega (arith, i.within, c.loop-used-test.false);
       due = λ yes. cc;
       same = i.same;
-      before = λ some b h. rw (← s.view_is) (not_due s.inside.reader.digest s.inside.reader s.inside.held.items (b ++ take used piece) (rw (← s.view_is) at c.recall_told.ensures) (rw (← s.view_is) at (i.clear some b h)) (rw (← s.view_is) at (i.so_far.fed b h)));
+      before = λ some b h. rw (← s.view_is) (not_due s.inside.reader.digest s.inside.reader s.inside.held.items (b ++ take used piece) c.recall_told-2.ensures (rw (← s.view_is) at (i.clear some b h)) (rw (← s.view_is) at (i.so_far.fed b h)));
     }
