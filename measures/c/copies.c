@@ -26,7 +26,7 @@ static double now(void)
     return (double)t.tv_sec + (double)t.tv_nsec / 1e9;
 }
 
-/* The copies alone, of each page of RAM in its turn. A byte of each is summed up, so that no compiler leaves them out. */
+/* The copies alone, of each page of RAM in its turn. A byte of each is added up, so that no compiler leaves one out. */
 static void copy_alone(const uint8_t *from, size_t len, struct seconds *s)
 {
     uint64_t sums[2] = {0, 0};
