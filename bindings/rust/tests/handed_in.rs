@@ -4,7 +4,7 @@
 //! in each move. `VMIG_MOVES` names another number of moves. It is alone in its program, as it is the malloc of all of it.
 
 mod common;
-use common::{Ring, bytes, ready, request, work};
+use common::{Random, Ring, bytes, ready, request, work};
 use std::cell::Cell;
 use std::ffi::c_void;
 use std::ptr;
@@ -46,18 +46,6 @@ extern "C" fn malloc(size: usize) -> *mut c_void {
 unsafe extern "C" fn realloc(at: *mut c_void, size: usize) -> *mut c_void {
     // SAFETY: likewise, and the block is one of `malloc`.
     if IS_REFUSED.get() { ptr::null_mut() } else { unsafe { __libc_realloc(at, size) } }
-}
-
-struct Random(u32);
-
-impl Random {
-    /// A number below this one.
-    fn below(&mut self, limit: u32) -> u32 {
-        self.0 ^= self.0 << 13;
-        self.0 ^= self.0 >> 17;
-        self.0 ^= self.0 << 5;
-        self.0 % limit
-    }
 }
 
 /// What the host tells the guest: to rest, or to run, which is to write at random; or to write a word of a page, or its first half, and then the
