@@ -1,23 +1,31 @@
-/* A machine is sent whose digest its host tells. A twin makes the same calls without the flag. What both write is the same but for the digest of the
- * last record, which the host of the first makes of what it took, in pieces of random sizes, also while RAM is lent: the whole stream is that of the
- * twin, byte for byte. Until it is told all but the last 33 bytes can be taken. Some moves are given up after the stop, before the digest is told or
- * after it, and the next one begins anew, with the flag or without it. A wrong digest is refused where the stream arrives. */
+/* A machine is sent whose digest its host tells. A twin makes the same calls without the flag. What both write is the
+ * same but for the digest of the last record, which the host of the first makes of what it took, in pieces of random
+ * sizes, also while RAM is lent: the whole stream is that of the twin, byte for byte. Until it is told all but the last
+ * 33 bytes can be taken. Some moves are given up after the stop, before the digest is told or after it, and the next
+ * one begins anew, with the flag or without it. A wrong digest is refused where the stream arrives.
+ *     So is a small machine moved, often: `told CUTTINGS` cuts this number of its streams at random. */
+#include <stdlib.h>
 #include "driver.h"
 
-enum { PAGES = 60, PAGE = 4096, RAM = PAGES * PAGE, SECTORS = 40, MOVES = 60, RECORD = 33, STREAM_MAX = 4 << 20, ALL = STREAM_MAX };
+enum { PAGE = 4096, PAGES_MAX = 60, MOVES = 60, CUTTINGS = 500, RECORD = 33, STREAM_MAX = 4 << 20, ALL = STREAM_MAX };
 
-/* The devices, of which each has one queue, and the guest's own pages, from this one on. */
-enum { BLOCK, ENTROPY, DEVICES, HEAP = 16, LENGTH = 200 };
+/* The devices, of which each has one queue, and the most bytes that the guest writes at once. */
+enum { BLOCK, ENTROPY, DEVICES, LENGTH = 200 };
 
 /* A header of a request, its outcome and its bytes. */
 enum { HEADER = 0x7000, OUTCOME = 0x7100, BYTES = 0x8000, WRITE = 1 };
 
-static const vmig_shape SHAPES[DEVICES] = {{.kind = VMIG_BLOCK, .sectors = SECTORS}, {.kind = VMIG_ENTROPY}};
+/* A machine: its RAM, the guest's own pages, from this one on, and its disk. A small one has no driver. */
+struct extent {
+    uint32_t pages, heap, sectors;
+};
+static const struct extent LARGE = {PAGES_MAX, 16, 40}, SMALL = {3, 0, 2};
+static struct extent extent;
 
 struct host {
     vmig_machine machine;
     vmig_ram ram;       /* while it is lent */
-    uint8_t room[RAM], stream[STREAM_MAX];
+    uint8_t room[PAGES_MAX * PAGE], stream[STREAM_MAX];
     size_t len;         /* of the stream, as far as it was taken */
 };
 
@@ -56,14 +64,21 @@ static void expect_not_asked(const char *what)
     expect("of one that digests", vmig_send_tell(&TWIN->machine, any), VMIG_NOT_ASKED);
 }
 
+/* How many bytes are taken at once: within a record, about one, or all. */
+static size_t any_size(void)
+{
+    static const uint32_t below[] = {1, 2, RECORD, 600, 2 * PAGE};
+    uint32_t kind = draw(6);
+
+    return kind == 5 ? ALL : draw(below[kind]);
+}
+
 /* A call of both, which they answer alike; then some of what waits is taken, now and then. */
 static void take_some(void)
 {
-    static const size_t sizes[] = {0, 1, 4100, ALL};
-
     if (!is_sent) return;
     for (struct host *h = hosts; h < END; h++)
-        if (draw(3) == 0) take(h, sizes[draw(4)]);
+        if (draw(3) == 0) take(h, any_size());
 }
 
 #define BOTH(what, call, wanted) \
@@ -72,7 +87,33 @@ static void take_some(void)
         take_some(); \
     } while (0)
 
-/* The guest writes into RAM that is lent to it; registers are read, and bytes taken, while it is. */
+/* The guest writes the same into the RAM of both, or makes a page one of zeros. */
+static uint32_t write_page(void)
+{
+    uint32_t page = extent.heap + draw(extent.pages - extent.heap);
+    uint32_t at = page * PAGE + draw(PAGE - LENGTH), len = 1 + draw(LENGTH);
+
+    for (uint32_t i = 0; i < len; i++) MINE->room[at + i] = TWIN->room[at + i] = (uint8_t)draw(256);
+    if (draw(3) > 0) return page;
+    for (struct host *h = hosts; h < END; h++) memset(h->room + page * PAGE, 0, PAGE);
+    return page;
+}
+
+/* Copies the page that is next out of lent RAM, if one is, and hands it in: of both the same. */
+static void hand_in(void)
+{
+    static uint8_t bytes[PAGE];
+    uint32_t pages[2] = {77, 77};
+    vmig_status status = vmig_send_next(&MINE->machine, &pages[0]);
+
+    expect("the same is next", vmig_send_next(&TWIN->machine, &pages[1]), status);
+    expect("the same page", pages[0], pages[1]);
+    if (status != VMIG_OK) return;
+    vmig_copy_page(MINE->room + pages[0] * PAGE, bytes);
+    BOTH("a page", vmig_send_page(&h->machine, pages[0], bytes), VMIG_OK);
+}
+
+/* The guest writes into RAM that is lent to it; registers are read, pages handed in and bytes taken, while it is. */
 static void run_lent(void)
 {
     uint32_t list[8], value;
@@ -81,9 +122,8 @@ static void run_lent(void)
 
     BOTH("lend", vmig_lend(&h->machine, &h->ram), VMIG_OK);
     for (uint32_t acts = draw(8); count < acts; take_some()) {
-        uint32_t page = HEAP + draw(PAGES - HEAP), at = page * PAGE + draw(PAGE - LENGTH), len = 1 + draw(LENGTH);
-        for (uint32_t i = 0; i < len; i++) MINE->room[at + i] = TWIN->room[at + i] = (uint8_t)draw(256);
-        list[count++] = page;
+        list[count++] = write_page();
+        if (is_sent && draw(2) == 0) hand_in();
     }
     pages = vmig_list(list, count);
     BOTH("register while it is lent", vmig_reg_read(&h->machine, BLOCK, 0x060, 4, &value), VMIG_OK);
@@ -97,7 +137,7 @@ static void run_lent(void)
 /* The guest writes a sector. */
 static void work(void)
 {
-    uint64_t sector = draw(SECTORS), bytes = draw(UINT32_MAX);
+    uint64_t sector = draw(extent.sectors), bytes = draw(UINT32_MAX);
 
     made++;
     for (struct host *h = hosts; h < END; h++) {
@@ -124,7 +164,7 @@ static void send_round(void)
     do {
         uint32_t most = draw(60);
         if (draw(2) == 0) run_lent();
-        if (draw(2) == 0) work();
+        if (draw(2) == 0 && extent.heap > 0) work();
         if (is_sent) expect_not_asked("tell before the stop");
         status = vmig_send_some(&MINE->machine, most);
         expect("copied alike", vmig_send_some(&TWIN->machine, most), status);
@@ -152,7 +192,7 @@ static vmig_status fed(const uint8_t *bytes, size_t len)
 /* What was taken is one stream, that of the twin, and what arrives of it is the machine. */
 static void arrives(void)
 {
-    static uint8_t saved[2][PAGES * 4101 + 65536];
+    static uint8_t saved[2][PAGES_MAX * 4101 + 65536];
     vmig_machine target = VMIG_NONE;
     size_t len = 0, other = 0;
     uint32_t rounds;
@@ -173,7 +213,7 @@ static void tell(int is_wrong)
     uint8_t out[32];
     size_t front;
 
-    while (take(MINE, 1 + draw(PAGE)) > 0) continue;
+    while (take(MINE, 1 + any_size()) > 0) continue;
     while (take(TWIN, ALL) > 0) continue;
     front = MINE->len;
     expect("all but the record", front, TWIN->len - RECORD);
@@ -201,7 +241,8 @@ static void move(uint32_t manner)
     vmig_digest_begin(&digest);
     is_sent = 1;
     expect("begin", vmig_send_begin_as(&MINE->machine, VMIG_TOLD), VMIG_OK);
-    expect("begin without it", draw(2) == 0 ? vmig_send_begin(&TWIN->machine) : vmig_send_begin_as(&TWIN->machine, 0), VMIG_OK);
+    if (draw(2) == 0) expect("begin without it", vmig_send_begin(&TWIN->machine), VMIG_OK);
+    else expect("begin with no flag", vmig_send_begin_as(&TWIN->machine, 0), VMIG_OK);
     BOTH("begin again", vmig_send_begin_as(&h->machine, VMIG_TOLD), VMIG_SENDING);
     BOTH("begin again, and badly", vmig_send_begin_as(&h->machine, 3), VMIG_SENDING);
     BOTH("begin again as ever", vmig_send_begin(&h->machine), VMIG_SENDING);
@@ -259,20 +300,44 @@ static void refuse(void)
     vmig_free(&target);
 }
 
-int main(void)
+/* Both machines anew, of this size. */
+static void make_both(const struct extent *wanted)
 {
+    vmig_shape shapes[DEVICES] = {{.kind = VMIG_BLOCK, .sectors = wanted->sectors}, {.kind = VMIG_ENTROPY}};
+
+    extent = *wanted, made = 0;
     for (struct host *h = hosts; h < END; h++) {
-        vmig_ram ram = {h->room, RAM};
-        memset(h->room, 0x5a, RAM);
-        memset(h->room, 0, HEAP * PAGE);
-        expect("make", make_over(&ram, SHAPES, DEVICES, NULL, 0, &h->machine), VMIG_OK);
-        set_up_device(&h->machine, BLOCK, BLOCK, 1, 0);
+        vmig_ram ram = {h->room, (size_t)extent.pages * PAGE};
+        memset(h->room, extent.heap > 0 ? 0x5a : 0, ram.len);
+        memset(h->room, 0, extent.heap * PAGE);
+        expect("make", make_over(&ram, shapes, DEVICES, NULL, 0, &h->machine), VMIG_OK);
+        if (extent.heap > 0) set_up_device(&h->machine, BLOCK, BLOCK, 1, 0);
     }
+}
+
+static void free_both(void)
+{
+    for (struct host *h = hosts; h < END; h++) vmig_free(&h->machine);
+}
+
+int main(int argc, char **argv)
+{
+    uint32_t cuttings = argc > 1 ? (uint32_t)strtoul(argv[1], NULL, 10) : CUTTINGS;
+
+    make_both(&LARGE);
     refuse();
     for (int moves = 0; moves < MOVES && failures == 0; moves++) {
         move(draw(MANNERS));
         if (draw(4) == 0) move_as_ever();
     }
-    for (struct host *h = hosts; h < END; h++) vmig_free(&h->machine);
+    free_both();
+    make_both(&SMALL);
+    while (cuttings > 0 && failures == 0) {
+        uint32_t manner = draw(2) == 0 ? WHOLE : draw(MANNERS);
+        move(manner);
+        cuttings -= manner == WHOLE;
+        if (draw(16) == 0) move_as_ever();
+    }
+    free_both();
     return ended("told");
 }

@@ -1,8 +1,9 @@
-//! Moves whose digest the host tells.
+//! Moves whose digest the host tells. `VMIG_CUTTINGS` names another number of streams that are cut at random.
 
 mod common;
-use common::{bytes, made};
-use vmig::{Arrival, Device, Digest, Error, Machine};
+use common::{Random, bytes, made};
+use std::fmt::Debug;
+use vmig::{Arrival, Device, Digest, Due, Error, Machine, Memory, Pages};
 
 /// All that can be taken, in pieces of this length.
 fn taken(machine: &mut Machine, length: usize) -> Vec<u8> {
@@ -79,4 +80,126 @@ fn a_digest_that_the_library_makes_is_not_told() {
     assert_eq!((machine.send_tell(&[0; 32]), machine.send_begin_told()), (Err(Error::NotAsked), Err(Error::Sending)));
     machine.send_stop().unwrap();
     assert_eq!(machine.send_tell(&[0; 32]), Err(Error::NotAsked));
+}
+
+const PAGES: u32 = 3;
+const CUTTINGS: u32 = 300;
+const RECORD: usize = 33;
+
+/// Two machines that make the same calls, and what was taken of each. The digest of the first is told, and is made of what was taken.
+struct Twins {
+    machines: Vec<Machine>,
+    taken: [Vec<u8>; 2],
+    digest: Digest,
+    random: Random,
+}
+
+impl Twins {
+    fn new() -> Twins {
+        let made = |_| {
+            let builder = Machine::builder().memory(Memory::zeros(PAGES).unwrap());
+            builder.devices(&[Device::Console, Device::disk(2)]).build().unwrap()
+        };
+        Twins { machines: (0..2).map(made).collect(), taken: Default::default(), digest: Digest::new(), random: Random(2_463_534_242) }
+    }
+
+    /// Takes of one of them, up to a number of bytes at random, or all. How many bytes came.
+    fn take(&mut self, which: usize) -> usize {
+        let limit = [2, 34, 600, 9000, 1 << 16][self.random.below(5) as usize];
+        let mut piece = vec![0; 1 + self.random.below(limit) as usize];
+        let got = self.machines[which].send_take(&mut piece).unwrap();
+        self.taken[which].extend_from_slice(&piece[..got]);
+        if which == 0 {
+            self.digest.add(&piece[..got]);
+        }
+        got
+    }
+
+    /// A call of both, which they answer alike; then some of what waits is taken, now and then.
+    fn both<T: PartialEq + Debug>(&mut self, call: impl Fn(&mut Machine) -> T) -> T {
+        let answers: Vec<T> = self.machines.iter_mut().map(call).collect();
+        assert_eq!(answers[0], answers[1]);
+        for which in 0..2 {
+            if self.random.below(3) == 0 {
+                self.take(which);
+            }
+        }
+        answers.into_iter().next().expect("two")
+    }
+
+    /// The guest writes while RAM is lent, and the page that is next is handed in, if one is.
+    fn loan(&mut self) {
+        let (page, at, value) = (self.random.below(PAGES), self.random.below(4096), self.random.below(256));
+        let mut lents: Vec<_> = self.machines.drain(..).map(|machine| machine.lend().unwrap()).collect();
+        let mut copy = [0; 4096];
+        for lent in &mut lents {
+            lent.ram_mut()[(page * 4096 + at) as usize] = value.to_le_bytes()[0];
+            if let Due::Page(next) = lent.send_next().unwrap() {
+                lent.copy_page(next, &mut copy).unwrap();
+                lent.send_page(next, &copy).unwrap();
+            }
+        }
+        assert_eq!(lents[0].send_left(), lents[1].send_left());
+        self.machines.extend(lents.into_iter().map(|lent| lent.give_back(Pages::list(&[page])).unwrap()));
+    }
+
+    /// Sends both up to the stop, and takes all that can be taken.
+    fn send(&mut self) {
+        self.taken.iter_mut().for_each(Vec::clear);
+        self.digest = Digest::new();
+        self.machines[0].send_begin_told().unwrap();
+        self.machines[1].send_begin().unwrap();
+        for _ in 0..self.random.below(8) {
+            let (addr, byte, most) = (self.random.below(PAGES * 4096), self.random.below(256), self.random.below(4));
+            self.both(|machine| machine.write_ram(addr.into(), &byte.to_le_bytes()[..1])).unwrap();
+            if self.random.below(2) == 0 {
+                self.loan();
+            }
+            if !self.both(|machine| machine.send_some(most)).unwrap() {
+                assert_eq!(self.both(Machine::send_round), Ok(true));
+            }
+            assert_eq!(self.machines[0].send_tell(&[0; 32]), Err(Error::NotAsked));
+        }
+        self.both(Machine::send_stop).unwrap();
+        for which in 0..2 {
+            while self.take(which) > 0 {}
+        }
+        let [text, whole] = &self.taken;
+        assert_eq!((text.len() + RECORD, text[..] == whole[..text.len()]), (whole.len(), true));
+    }
+
+    fn abort(&mut self) {
+        self.machines.iter_mut().for_each(|machine| machine.send_abort().unwrap());
+    }
+
+    /// The digest is told, and the record comes in pieces. What both took is one stream, and the machine that arrives is this one.
+    fn tell(&mut self) {
+        let digest = self.digest.end();
+        assert_eq!(self.machines[0].send_tell(&digest), Ok(()));
+        assert_eq!(self.machines[0].send_tell(&digest), Err(Error::NotAsked));
+        while self.take(0) > 0 {}
+        assert!(self.taken[0] == self.taken[1]);
+        let mut arrival = Arrival::builder().most_pages(PAGES).most_sectors(2).begin().unwrap();
+        for piece in self.taken[0].chunks(1 + self.random.below(5000) as usize) {
+            arrival.feed(piece).unwrap();
+        }
+        let arrived = arrival.finish().unwrap().save().unwrap();
+        self.abort();
+        assert!(self.machines.iter().all(|machine| machine.save().unwrap() == arrived));
+    }
+}
+
+/// Some moves are given up after the stop, before the digest is told.
+#[test]
+fn streams_that_are_cut_at_random_are_those_of_a_twin() {
+    let cuttings: u32 = std::env::var("VMIG_CUTTINGS").map_or(CUTTINGS, |cuttings| cuttings.parse().expect("a number"));
+    let mut twins = Twins::new();
+    for _ in 0..cuttings {
+        while twins.random.below(4) == 0 {
+            twins.send();
+            twins.abort();
+        }
+        twins.send();
+        twins.tell();
+    }
 }

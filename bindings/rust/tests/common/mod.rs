@@ -142,3 +142,16 @@ pub fn bytes(machine: &Machine, at: u64, len: usize) -> Vec<u8> {
 pub fn made(devices: &[Device]) -> Machine {
     Machine::builder().pages(16).devices(devices).build().expect("a machine within the limits")
 }
+
+/// Numbers at random, the same in each run.
+pub struct Random(pub u32);
+
+impl Random {
+    /// A number below this one.
+    pub fn below(&mut self, limit: u32) -> u32 {
+        self.0 ^= self.0 << 13;
+        self.0 ^= self.0 >> 17;
+        self.0 ^= self.0 << 5;
+        self.0 % limit
+    }
+}
