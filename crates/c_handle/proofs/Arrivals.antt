@@ -1,5 +1,5 @@
 -- The arrival of what lies behind a handle.
-use Rattle.std.proofs.Common.{◌≡◌, ◌∙◌, ◌==◌, ℕ, Bool, true, false, List, refl, sym, subst, inl, inr}
+use Rattle.std.proofs.Common.{◌≡◌, ◌∙◌, ◌==◌, ℕ, Bool, true, false, List, refl, ap, sym, subst, inl, inr}
 use Rattle.std.specs.Prelude.{Option, None, Some, if◌then◌else◌}
 use Rattle.receiver.specs.declared.recv_error.RecvError.{RecvError}
 use Rattle.c_handle.specs.Admission.{Admits, first_refusal}

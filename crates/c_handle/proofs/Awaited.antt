@@ -251,6 +251,12 @@ head_waits terms ram held all piece few is size short waits =
     let here : WaitsHead (told_by terms ram).limits all = subst (λ (l : Limits). WaitsHead l all) (sym (limits_at terms ram)) waits in
     subst (λ (l : List ℕ). GoesOnWith l (AtHead (told_by terms ram) (place_aside ram) all)) (none_cut held all piece few is size short) (head_goes_on (told_by terms ram) (place_aside ram) all here)
 
+-- All of a byte after which the header is not whole was copied.
+pub waits_on : (terms : Terms) (ram : Option Memory) (all bytes : List ℕ) → all ≡ bytes → WaitsHead terms.limits all → GoesOnWith bytes (AtHead (told_by terms ram) (place_aside ram) all)
+waits_on terms ram all bytes is waits =
+    let here : WaitsHead (told_by terms ram).limits all = subst (λ (l : Limits). WaitsHead l all) (sym (limits_at terms ram)) waits in
+    subst (λ (l : List ℕ). GoesOnWith l (AtHead (told_by terms ram) (place_aside ram) all)) is (head_goes_on (told_by terms ram) (place_aside ram) all here)
+
 pub head_fed : (ram : RamTerms) (place : Option Ptr) (held piece : List ℕ) (next : ArrivalSeen) → awaited_ram next ≡ ram → awaited_place next ≡ place → GoesOnWith (held ++ piece) next → IsFed (AtHead ram place held) piece next
 head_fed ram place held piece next based there h = record { went_on = tt; goes_on = λ b is. subst (λ (x : List ℕ). GoesOnWith (x ++ piece) next) (sym is) h; waits = tt; ram = based; place = there }
 

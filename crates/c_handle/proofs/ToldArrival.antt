@@ -66,6 +66,16 @@ header_fed r next header fed e first h =
     let all : take fed.used header ≡ header = take_all fed.used header (omega (arith, used)) in
     subst (λ (x : List ℕ). Feeds r x (Ok tt) next) all h.feeds
 
+one_byte : (l : List ℕ) → length l ≡ 1 → (x : ℕ) × (l ≡ x ∷ [])
+one_byte [] one = cc
+one_byte (x ∷ []) one = (x, refl)
+one_byte (x ∷ (y ∷ more)) one = absurd (omega (arith, one))
+
+pub ends_header : (held all byte : List ℕ) → all ≡ held ++ byte → length byte ≡ 1 → HasNoHeader held → EndsHeader all
+ends_header held all byte is one none =
+    let last = one_byte byte one in
+    record { front = held; last = last.0; whole = is ∙ ap (λ (l : List ℕ). held ++ l) last.1; none = none }
+
 -- No byte of the record of the digest is held after the header.
 filled : (header : List ℕ) → EndsHeader header → 0 < length header
 filled header e = omega (arith, ap (λ (x : List ℕ). length x) e.whole, length-append e.front (e.last ∷ []))

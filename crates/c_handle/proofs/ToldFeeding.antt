@@ -152,3 +152,14 @@ pub to_refusal : (admission after : AdmissionSeen) (r next : ArrivalSeen) (rest 
 to_refusal admission after r next rest error status count past some why untouched is denied =
     refused_after 0 status count admission admission after r r next rest rest [] (none_first admission r rest) (sym (append-nil rest))
     (inl (record { let_in = admission; admitted = granted admission rest rest past.fine past.granted some; error = error; why = why.0; untouched = untouched; status_is = is; failed = why.1; denied = denied }))
+
+pub some_left : (l : List ℕ) → ¬ (length l ≡ 0) → ¬ (l ≡ [])
+some_left l some none = some (ap (λ (x : List ℕ). length x) none)
+
+-- What was let in was not refused.
+pub admitted_fine : (admission after : AdmissionSeen) (part : List ℕ) → Admits admission part None after → first_refusal after ≡ None
+admitted_fine (Granted pages shapes) after part h = ap first_refusal h.1
+admitted_fine (Denied first) after part h = cc
+admitted_fine (Pending allowed expected held) (Granted pages shapes) part h = refl
+admitted_fine (Pending allowed expected held) (Pending kept shapes bytes) part h = refl
+admitted_fine (Pending allowed expected held) (Denied first) part h = absurd h

@@ -6,6 +6,7 @@ use Rattle.receiver.specs.declared.ram_terms.RamTerms.{RamTerms}
 use Rattle.receiver.specs.Receiving.{HasBeenFed, Received}
 use Rattle.mapped_disk.specs.declared.image.Image.{Image}
 use Rattle.c_handle.specs.ArrivalSeen.{ArrivalSeen, Over}
+use Rattle.c_handle.specs.Kept.{State, Arriving}
 use Rattle.c_machine.specs.Plain.{mem_state}
 
 -- What a disk over an image means.

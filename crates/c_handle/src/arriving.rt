@@ -47,7 +47,7 @@ fn feed_refusal(kept: &Kept) -> Option<u32>
 }
 
 #[tactic(auto, using(crate::proofs::Arrivals::fed, crate::proofs::SamePages::coming))]
-fn fed(alloc: Global, kept: &mut Kept, piece: &[u8]) -> u32
+pub(crate) fn fed(alloc: Global, kept: &mut Kept, piece: &[u8]) -> u32
     requires { kept.old.telling ≡ None }
     ensures feeds { FeedsKept kept.old.admission kept.old.state piece.now result kept.new.admission kept.new.state }
     ensures kind { kept.new ≡ record kept.old { state = kept.new.state; admission = kept.new.admission } }
@@ -67,7 +67,7 @@ fn fed(alloc: Global, kept: &mut Kept, piece: &[u8]) -> u32
 }
 
 #[tactic(auto, using(crate::proofs::Arrivals::was_denied, crate::proofs::Arrivals::was_fed, crate::proofs::Arrivals::was_not_fed))]
-pub(crate) fn feed_arrival(
+fn feed_arrival(
     alloc: Global,
     admission: &mut Admission,
     arrival: &mut Arrival,

@@ -3,7 +3,7 @@
 //! It is taken in parts, each as `feed` takes a piece: byte by byte until the header is whole, and then as far as the record that closes the
 //! stream. That record is taken with the digest in hand, and compared with it.
 
-ghost use Rattle.std.specs.Prelude.{◌≡◌, IfSome, None, Some, length};
+ghost use Rattle.std.specs.Prelude.{◌≡◌, ◌≤◌, IfSome, None, Some, length};
 ghost use Rattle.c_handle.specs.Admission.{first_refusal};
 ghost use Rattle.c_handle.specs.AdmissionSeen.{Denied};
 ghost use Rattle.c_handle.specs.Arriving.{or_else, refused_before};
@@ -14,8 +14,8 @@ ghost use Rattle.c_handle.specs.ToldFeeding.{ClosesTold, DoesFeedSome, DoesTell,
 
 use crate::admission::Admission;
 use crate::arrival::Arrival;
-use crate::arriving::{end_refusal, feed_arrival, taken_status};
-use crate::kept::{Kept, by_state};
+use crate::arriving::{end_refusal, fed, taken_status};
+use crate::kept::{Held, Kept, by_state};
 use crate::status::stream_status;
 use c_machine::status::{DIGEST_DUE, DONE, IN_USE, NOT_ASKED, WHOLE};
 use receiver::{RecvError, Told};
@@ -57,25 +57,18 @@ fn fed_some(alloc: Global, kept: &mut Kept, piece: &[u8]) -> SomeFed
     ensures feeds { FeedsSomeKept kept.old.telling kept.old.admission kept.old.state piece.now result.status result.used kept.new.admission kept.new.state kept.new.telling }
     ensures kind { kept.new ≡ record kept.old { state = kept.new.state; admission = kept.new.admission; telling = kept.new.telling } }
 {
-    let Kept {
-        held,
-        admission,
-        ..
-    } = kept;
-    by_state!(held;
-        still(_) => refused(IN_USE),
-        moving(_) => refused(IN_USE),
-        lent(_) => refused(IN_USE),
-        arriving(arrival) => SomeFed {
-            status: feed_arrival(alloc, admission, arrival, piece),
-            used: piece.len(),
-        },
-        told_arriving(arrival, telling) => feed_told(alloc, admission, arrival, telling, piece),
-    )
+    if let Held::ToldArriving(arrival, telling) = &mut kept.held {
+        return feed_told(alloc, &mut kept.admission, arrival, telling, piece);
+    }
+    SomeFed {
+        status: fed(alloc, kept, piece),
+        used: piece.len(),
+    }
 }
 
 fn refused(status: u32) -> SomeFed
-    ensures { result.status ≡ status }
+    ensures status { result.status ≡ status }
+    ensures none { result.used ≡ 0 }
 {
     SomeFed { status, used: 0 }
 }
@@ -206,6 +199,7 @@ fn feed_byte(
 /// Takes what comes after the header.
 fn feed_rest(admission: &mut Admission, arrival: &mut Arrival<Told>, rest: &[u8]) -> SomeFed
     requires let_in { IsPast (admission_of admission.old) arrival.old rest.now }
+    ensures within { result.used ≤ length rest.now }
     ensures feeds { FeedsFront (admission_of admission.old) arrival.old rest.now result.status result.used (admission_of admission.new) arrival.new }
     ensures disks { is_over arrival.new ≡ is_over arrival.old }
 {

@@ -7,7 +7,7 @@ use Rattle.c_handle.proofs.Landings.{as_many_images, sectors_back}
 use Rattle.c_handle.proofs.arrival.Arrival.into_images.Goals as goal
 
 pub returns-in-Over : goal.returns-in-Over
-returns-in-Over c =
+returns-in-Over g c =
     let disks = c.into_disks.result.items in
     let view : awaited_by c.self.inside.progress ≡ c.args.self = c.self.view_is in
     let seen : Over c.in-Over.receiver ≡ c.args.self = sym (ap awaited_by c.in-Over.is) ∙ view in

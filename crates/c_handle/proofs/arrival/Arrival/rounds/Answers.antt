@@ -6,7 +6,7 @@ use Rattle.c_handle.proofs.Awaited.{not_counted}
 use Rattle.c_handle.proofs.arrival.Arrival.rounds.Goals as goal
 
 pub returns-in-Head : goal.returns-in-Head
-returns-in-Head c = elim c.in-Head.is [
-  | inl h ↦ not_counted c.self.inside.progress c.args.self.now c.self.invariant c.self.view_is (subst (λ (p : Progress). IsAtHead (awaited_by p)) (sym h.3) tt)
-  | inr e ↦ subst (λ (a : ArrivalSeen). CountsRounds a 0) c.self.view_is (subst (λ (p : Progress). CountsRounds (awaited_by p) 0) (sym e) refl)
+returns-in-Head g c = elim c.in-Head.is [
+  | inl h ↦ not_counted c.self.inside.progress c.args.self.now c.self.invariant c.self.view_is (subst (λ (p : Progress _). IsAtHead (awaited_by p)) (sym h.3) tt)
+  | inr e ↦ subst (λ (a : ArrivalSeen). CountsRounds a 0) c.self.view_is (subst (λ (p : Progress _). CountsRounds (awaited_by p) 0) (sym e) refl)
 ]
