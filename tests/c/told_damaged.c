@@ -61,6 +61,15 @@ static void damage_some(const struct example *x, int times)
     }
 }
 
+/* A byte of the head of each record. */
+static void damage_heads(const struct example *x)
+{
+    for (size_t at = header_length(x); at < x->len && failures == 0; at += record_length(x->stream + at)) {
+        size_t byte = at + draw(x->stream[at] == COMMIT ? 1 : 5);
+        damage(x, byte, (uint8_t)(x->stream[byte] ^ 1u << draw(8)), STREAM_MAX);
+    }
+}
+
 /* The stream ends too early, also within its last record. */
 static void cut_short(const struct example *x, size_t len)
 {
@@ -139,30 +148,6 @@ static void tell_other(const struct example *x, int what)
 }
 
 /* ---- other bytes than the record ---------------------------------------------------------------------------------------------------- */
-
-/* How long the next record is, by the format of streams. */
-static size_t record_length(const uint8_t *at)
-{
-    switch (at[0]) {
-    case 1: return 5 + PAGE;
-    case 2: return at[6] == 1 ? 7 + SECTOR : 7;
-    case 4: return 6 + (size_t)(at[2] | at[3] << 8 | at[4] << 16);
-    case COMMIT: return RECORD;
-    default: return 5;
-    }
-}
-
-/* Where the records begin: after the header, which has a row for each device. */
-static size_t header_length(const struct example *x)
-{
-    size_t len = 16;
-
-    for (size_t i = 0; i < x->count; i++) {
-        uint8_t kind = x->shapes[i].kind;
-        len += kind == VMIG_NETWORK ? (x->shapes[i].frame == 0 ? 7 : 9) : kind == VMIG_BLOCK || kind == VMIG_BLOCK_OUTSIDE ? 30 : 1;
-    }
-    return len;
-}
 
 /* In front of a record the one that closes the stream may seem to come: its digest is asked for. What comes is another one, and it is forgotten. */
 static void seems_due(const uint8_t *record, size_t len)
@@ -268,6 +253,7 @@ int main(int argc, char **argv)
     for (int i = 0; i < EXAMPLES; i++) {
         const struct example *x = &examples[i];
         damage_some(x, 150);
+        damage_heads(x);
         for (uint32_t most = 1; most <= STREAM_MAX; most *= 8) trailing(x, most);
         for (size_t wrong = 0; wrong < 32; wrong++) tell_wrong(x, (int)(wrong % MEMORIES), wrong, 1 + draw(RECORD));
         for (int what = 0; what < 3; what++) tell_other(x, what);

@@ -168,6 +168,30 @@ static inline void make_examples(void)
     for (int i = 0; i < EXAMPLES; i++) make_example(&examples[i]);
 }
 
+/* How long the next record is, by the format of streams. */
+static inline size_t record_length(const uint8_t *at)
+{
+    switch (at[0]) {
+    case 1: return 5 + PAGE;
+    case 2: return at[6] == 1 ? 7 + SECTOR : 7;
+    case 4: return 6 + (size_t)(at[2] | at[3] << 8 | at[4] << 16);
+    case COMMIT: return RECORD;
+    default: return 5;
+    }
+}
+
+/* Where the records begin: after the header, which has a row for each device. */
+static inline size_t header_length(const struct example *x)
+{
+    size_t len = 16;
+
+    for (size_t i = 0; i < x->count; i++) {
+        uint8_t kind = x->shapes[i].kind;
+        len += kind == VMIG_NETWORK ? (x->shapes[i].frame == 0 ? 7 : 9) : kind == VMIG_BLOCK || kind == VMIG_BLOCK_OUTSIDE ? 30 : 1;
+    }
+    return len;
+}
+
 /* ---- two that arrive -------------------------------------------------------------------------------------------------------------- */
 
 static inline vmig_arrival arrival_of(struct end *e, const struct example *x, vmig_image *image)
