@@ -1,8 +1,9 @@
-/* What the move of RAM takes of a processor, by who digests the stream: `digests MIB` moves MIB mebibytes of the program's RAM, once with
- * digests of the library's own and once with those that both hosts tell, and prints the seconds of processor time for a GiB, and how many times
- * a copy by memcpy that is: of the calls of the source, of those of the target, and of the digests that are made beside them. With no word it
- * moves 2 MiB by each, and prints nothing. What arrives has to be RAM, byte for byte. With -DWITH_OPENSSL and -lcrypto the digests that are told
- * are made by OpenSSL. */
+/* What the move of RAM takes of a processor, by who digests the stream: `digests MIB` moves MIB mebibytes of the
+ * program's RAM, once with digests of the library's own and once with those that both hosts tell, and prints the
+ * seconds of processor time for a GiB, and how many times a copy by memcpy that is: of the calls of the source,
+ * of those of the target, and of the digests that are made beside them. With no word it moves 2 MiB by each, and
+ * prints nothing. What arrives has to be RAM, byte for byte. With -DWITH_OPENSSL and -lcrypto the digests that
+ * are told are made by OpenSSL. */
 #define _POSIX_C_SOURCE 200809L
 #include <stdlib.h>
 #include <time.h>
@@ -64,6 +65,11 @@ static void add(struct digest *d, const uint8_t *bytes, size_t len) { vmig_diges
 static void end(struct digest *d, uint8_t digest[32]) { vmig_digest_end(&d->own, digest); }
 #endif
 
+static vmig_status feed_some(struct move *v, const uint8_t *bytes, size_t len, size_t *used)
+{
+    return v->is_told ? vmig_feed_some(&v->target, bytes, len, used) : vmig_feed(&v->target, bytes, len);
+}
+
 /* A piece arrives. The digest of what was fed is told where it is due. */
 static void feed(struct move *v, const uint8_t *bytes, size_t len)
 {
@@ -71,7 +77,7 @@ static void feed(struct move *v, const uint8_t *bytes, size_t len)
     size_t used = len;
 
     for (double begun = now(); len > 0; bytes += used, len -= used, begun = now()) {
-        vmig_status status = v->is_told ? vmig_feed_some(&v->target, bytes, len, &used) : vmig_feed(&v->target, bytes, len);
+        vmig_status status = feed_some(v, bytes, len, &used);
         double fed = now();
         v->s.feed += fed - begun;
         if (vmig_refused(status)) exit(1);
@@ -133,9 +139,11 @@ static void print(const struct move *v, double gib, double memcpy_of)
     const struct seconds *s = &v->s;
     double source = s->copy + s->take + s->stop;
 
-    printf("%s: source %.2f s a GiB, %.1f times memcpy (copied %.2f, taken %.2f, stopped %.2f), its digest %.2f; target %.2f, %.1f times, its digest %.2f\n",
-           v->is_told ? "told" : "own", source / gib, source / memcpy_of, s->copy / gib, s->take / gib, s->stop / gib, s->digest / gib,
-           s->feed / gib, s->feed / memcpy_of, s->check / gib);
+    printf("%s: source %.2f s a GiB, %.1f times memcpy (copied %.2f, taken %.2f, stopped %.2f), its digest %.2f\n",
+           v->is_told ? "told" : "own", source / gib, source / memcpy_of, s->copy / gib, s->take / gib, s->stop / gib,
+           s->digest / gib);
+    printf("%s: target %.2f s a GiB, %.1f times memcpy, its digest %.2f\n", v->is_told ? "told" : "own", s->feed / gib,
+           s->feed / memcpy_of, s->check / gib);
 }
 
 /* Moves `len` bytes from RAM to RAM of the program. */

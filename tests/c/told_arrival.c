@@ -1,6 +1,7 @@
-/* A stream arrives whose digest its host tells. An ordinary arrival is fed the same pieces, over the same kinds of memory: both answer alike, piece by
- * piece, and both are the machine that was sent, byte for byte. Where the digest is due is counted here: 33 bytes before the end. `told_arrival N`
- * cuts the streams at random N times; with no word it does so some hundreds of times. */
+/* A stream arrives whose digest its host tells. An ordinary arrival is fed the same pieces, over the same kinds
+ * of memory: both answer alike, piece by piece, and both are the machine that was sent, byte for byte. Where the
+ * digest is due is counted here: 33 bytes before the end. `told_arrival N` cuts the streams at random N times;
+ * with no word it does so some hundreds of times. */
 #include <stdlib.h>
 #include "told_pair.h"
 
@@ -37,7 +38,7 @@ static size_t next_piece(uint32_t most, size_t left)
     return piece < left ? piece : left;
 }
 
-/* A stream in pieces of up to so many bytes. */
+/* A stream in pieces of up to `most` bytes. */
 static void cut(const struct example *x, int memory, uint32_t most)
 {
     vmig_status status = VMIG_OK;
@@ -63,10 +64,12 @@ static void cut_often(long times)
 
     for (int memory = 0; memory < MEMORIES; memory++)
         for (int i = 0; i < EXAMPLES; i++) cut(&examples[i], memory, 1);
-    for (long n = 0; n < times && failures == 0; n++) cut(&examples[draw(EXAMPLES)], (int)draw(MEMORIES), most[draw(7)]);
+    for (long n = 0; n < times && failures == 0; n++)
+        cut(&examples[draw(EXAMPLES)], (int)draw(MEMORIES), most[draw(7)]);
 }
 
-/* The stream up to the record that closes it, which comes with the last piece or after it: the digest is asked for in front of it. */
+/* The stream up to the record that closes it, which comes with the last piece or after it: the digest is asked
+ * for in front of it. */
 static void comes_to_digest(const struct example *x, size_t beyond)
 {
     const uint8_t *at = x->stream;
@@ -105,7 +108,8 @@ static void record_in_two(const struct example *x, size_t front)
     vmig_free(&told.machine);
 }
 
-/* What arrived is sent on, by a host that tells again, and arrives so. The stream is that of the ordinary arrival's machine. */
+/* What arrived is sent on, by a host that tells again, and arrives so. The stream is that of the ordinary
+ * arrival's machine. */
 static void send_on(struct end *e, uint8_t *stream, size_t *len)
 {
     uint64_t pages, sectors;
@@ -176,8 +180,11 @@ static void fed_as_ever(const struct example *x)
     await(&plain, x, 0, (int)draw(MEMORIES));
     for (size_t at = 0; at < x->len; at += piece) {
         piece = next_piece(5000, x->len - at);
-        status = draw(2) == 0 ? vmig_feed_some(&plain.machine, x->stream + at, used = piece, &used) : vmig_feed(&plain.machine, x->stream + at, piece);
+        used = 77;
+        if (draw(2) == 0) status = vmig_feed(&plain.machine, x->stream + at, used = piece);
+        else status = vmig_feed_some(&plain.machine, x->stream + at, piece, &used);
         expect("taken", status, at + piece < x->len ? VMIG_OK : VMIG_WHOLE);
+        expect("all of it", used, piece);
     }
     expect("it asks for no digest", vmig_feed_tell(&plain.machine, x->stream), VMIG_NOT_ASKED);
     expect("finish", vmig_finish(&plain.machine), VMIG_OK);

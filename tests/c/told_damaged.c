@@ -1,6 +1,7 @@
-/* What is refused of a stream whose digest its host tells, and at which byte: an ordinary arrival beside it is fed the same. The digest that is told is
- * that of what came, unless this program tells a wrong one. A stream is damaged at each byte, and cut at each; other bytes come in the place of the
- * record that closes it; and limits refuse it. `told_damaged all` damages each byte to each other value. */
+/* What is refused of a stream whose digest its host tells, and at which byte: an ordinary arrival beside it is
+ * fed the same. The digest that is told is that of what came, unless this program tells a wrong one. A stream is
+ * damaged at each byte, and cut at each; other bytes come in the place of the record that closes it; and limits
+ * refuse it. `told_damaged all` damages each byte to each other value. */
 #include "told_pair.h"
 
 static uint8_t damaged[STREAM_MAX + 64];
@@ -94,10 +95,10 @@ static void trailing(const struct example *x, uint32_t most)
     failed_both(x);
 }
 
-/* ---- digests that are wrong -------------------------------------------------------------------------------------------------------- */
+/* ---- digests that are wrong ------------------------------------------------------------------------------------ */
 
-/* What was told is not the digest in the stream. It shows where another digest in the stream would: at its last byte. The machine that is sent is as
- * it was, and all of it has come. */
+/* What was told is not the digest in the stream. It shows where another digest in the stream would: at its last
+ * byte. The machine that is sent is as it was, and all of it has come. */
 static void tell_wrong(const struct example *x, int memory, size_t wrong, uint32_t most)
 {
     const uint8_t *at = x->stream;
@@ -147,9 +148,10 @@ static void tell_other(const struct example *x, int what)
     vmig_free(&told.machine);
 }
 
-/* ---- other bytes than the record ---------------------------------------------------------------------------------------------------- */
+/* ---- other bytes than the record ------------------------------------------------------------------------------- */
 
-/* In front of a record the one that closes the stream may seem to come: its digest is asked for. What comes is another one, and it is forgotten. */
+/* In front of a record the one that closes the stream may seem to come: its digest is asked for. What comes is
+ * another one, and it is forgotten. */
 static void seems_due(const uint8_t *record, size_t len)
 {
     static const uint8_t commit[RECORD] = {COMMIT};
@@ -204,7 +206,7 @@ static void close_early(const struct example *x, size_t front)
     failed_both(x);
 }
 
-/* ---- limits ------------------------------------------------------------------------------------------------------------------------ */
+/* ---- limits ---------------------------------------------------------------------------------------------------- */
 
 /* An arrival that allows less than the stream has, or names other devices, refuses both at the same byte. */
 static void limit(const struct example *x, int what, uint32_t most)
@@ -258,7 +260,8 @@ int main(int argc, char **argv)
         for (size_t wrong = 0; wrong < 32; wrong++) tell_wrong(x, (int)(wrong % MEMORIES), wrong, 1 + draw(RECORD));
         for (int what = 0; what < 3; what++) tell_other(x, what);
         for (int times = 0; times < 10; times++) other_records(x);
-        for (size_t at = header_length(x); x->stream[at] != COMMIT; at += record_length(x->stream + at)) close_early(x, at);
+        for (size_t at = header_length(x); x->stream[at] != COMMIT; at += record_length(x->stream + at))
+            close_early(x, at);
         limits(x);
     }
     return ended("told_damaged");

@@ -1,5 +1,6 @@
-/* What the tests of told arrivals share: streams of machines, and two arrivals that are fed the same, one of a host that tells the digest and an
- * ordinary one. The digest is made of what was taken, and of nothing in the stream. */
+/* What the tests of told arrivals share: streams of machines, and two arrivals that are fed the same, one of a
+ * host that tells the digest and an ordinary one. The digest is made of what was taken, and of nothing in the
+ * stream. */
 #ifndef TOLD_PAIR_H
 #define TOLD_PAIR_H
 
@@ -47,7 +48,7 @@ static inline void expect_equal(const char *what, const void *one, const void *o
     expect(what, (uint64_t)(memcmp(one, other, len) != 0), 0);
 }
 
-/* ---- streams ---------------------------------------------------------------------------------------------------------------------- */
+/* ---- streams --------------------------------------------------------------------------------------------------- */
 
 static const vmig_shape SMALL_SHAPES[] = {{.kind = VMIG_BLOCK, .sectors = 1, .id = "small"}, {.kind = VMIG_ENTROPY}};
 static const vmig_shape ROUND_SHAPES[] = {{.kind = VMIG_BLOCK, .sectors = 3}, {.kind = VMIG_CONSOLE}};
@@ -59,12 +60,14 @@ static const vmig_shape ALL_SHAPES[] = {{.kind = VMIG_NETWORK, .mac = {2, 0, 0, 
                                         {.kind = VMIG_CONSOLE},
                                         {.kind = VMIG_ENTROPY}};
 
-/* Saved in one, of 746 bytes; sent in rounds, while its guest works; and a machine with each kind of device, in version 3. */
+/* Saved in one, of 746 bytes; sent in rounds, while its guest works; and a machine with each kind of device, in
+ * version 3. */
 enum { SMALL, ROUNDS, ALL_KINDS, EXAMPLES };
 static struct example examples[EXAMPLES] = {
     {.name = "small", .shapes = SMALL_SHAPES, .count = 2, .pages = 1, .sectors = 1},
     {.name = "rounds", .shapes = ROUND_SHAPES, .count = 2, .pages = 16, .sectors = 3},
-    {.name = "all kinds", .shapes = ALL_SHAPES, .count = 6, .pages = 32, .sectors = 3, .flags = VMIG_LARGE, .frame = 9018, .most_outside = 40},
+    {.name = "all kinds", .shapes = ALL_SHAPES, .count = 6, .pages = 32, .sectors = 3,
+     .flags = VMIG_LARGE, .frame = 9018, .most_outside = 40},
 };
 
 /* The driver asks for a sector to be written, or of a disk outside to be read. */
@@ -180,25 +183,32 @@ static inline size_t record_length(const uint8_t *at)
     }
 }
 
+static inline size_t row_length(const vmig_shape *shape)
+{
+    switch (shape->kind) {
+    case VMIG_NETWORK: return shape->frame == 0 ? 7 : 9;
+    case VMIG_BLOCK: case VMIG_BLOCK_OUTSIDE: return 30;
+    default: return 1;
+    }
+}
+
 /* Where the records begin: after the header, which has a row for each device. */
 static inline size_t header_length(const struct example *x)
 {
     size_t len = 16;
 
-    for (size_t i = 0; i < x->count; i++) {
-        uint8_t kind = x->shapes[i].kind;
-        len += kind == VMIG_NETWORK ? (x->shapes[i].frame == 0 ? 7 : 9) : kind == VMIG_BLOCK || kind == VMIG_BLOCK_OUTSIDE ? 30 : 1;
-    }
+    for (size_t i = 0; i < x->count; i++) len += row_length(&x->shapes[i]);
     return len;
 }
 
-/* ---- two that arrive -------------------------------------------------------------------------------------------------------------- */
+/* ---- two that arrive ------------------------------------------------------------------------------------------- */
 
 static inline vmig_arrival arrival_of(struct end *e, const struct example *x, vmig_image *image)
 {
     vmig_arrival arrival = VMIG_ARRIVAL;
 
-    arrival.flags = x->flags | (e->is_told ? VMIG_TOLD : 0), arrival.frame = x->frame, arrival.most_outside = x->most_outside;
+    arrival.flags = x->flags | (e->is_told ? VMIG_TOLD : 0);
+    arrival.frame = x->frame, arrival.most_outside = x->most_outside;
     if (e->memory & OWN_RAM) arrival.ram = (vmig_ram){e->ram, (size_t)x->pages * PAGE};
     else arrival.most_pages = x->pages;
     *image = (vmig_image){e->image, x->sectors};
@@ -305,7 +315,7 @@ static inline vmig_status feed_both(const uint8_t *bytes, size_t len)
     return wanted;
 }
 
-/* ---- how they end ------------------------------------------------------------------------------------------------------------------ */
+/* ---- how they end ---------------------------------------------------------------------------------------------- */
 
 /* What was sent lies in RAM and on the disk. */
 static inline void has_come(struct end *e, const struct example *x)
