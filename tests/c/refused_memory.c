@@ -1,7 +1,8 @@
-/* Each request for memory is refused once, at each place: in a script that makes every call of the library, the n-th request gets
- * null, for every n. What is refused says so, nothing is lost by it, and the host goes on as the header says: it makes the
- * call again; or ends a migration that failed, and begins another; or frees what arrived in part, and feeds the stream anew. All
- * that was given is freed in the end. The requests are counted by a malloc of its own, before the C library's. */
+/* Each request for memory is refused once, at each place: in a script that makes every call of the library, the
+ * n-th request gets null, for every n. What is refused says so, nothing is lost by it, and the host goes on as
+ * the header says: it makes the call again; or ends a migration that failed, and begins another; or frees what
+ * arrived in part, and feeds the stream anew. All that was given is freed in the end. The requests are counted
+ * by a malloc of its own, before the C library's. */
 #include <stdlib.h>
 #include "driver.h"
 
@@ -122,8 +123,8 @@ static void chain(vmig_machine *m, uint32_t base, uint32_t count, uint32_t flags
     put_dev(m, base + 0x402, 1, 2);
 }
 
-/* A guest whose devices need memory for a step: an entropy device that fills a chain of many descriptors, and a console that sends
- * the text of one. */
+/* A guest whose devices need memory for a step: an entropy device that fills a chain of many descriptors, and a
+ * console that sends the text of one. */
 static void run_guest(vmig_machine *m)
 {
     uint64_t before;
@@ -273,7 +274,8 @@ static size_t take_all(vmig_machine *m, uint8_t *stream)
     return take_from(m, stream, len);
 }
 
-/* A piece of a stream, from this byte on. Where the host tells the digest that takes no memory, nor does the record that has it. */
+/* A piece of a stream, from this byte on. Where the host tells the digest that takes no memory, nor does the
+ * record that has it. */
 static vmig_status feed_piece(vmig_machine *m, const uint8_t *stream, size_t at, size_t len)
 {
     size_t used = 0, all = 77;
@@ -347,7 +349,8 @@ static void alike(const char *what, vmig_machine *one, vmig_machine *other)
     expect(what, (uint64_t)memcmp(first, second, len), 0);
 }
 
-/* RAM of the host's own is lent, and given back in each way. What names no more pages than a call before takes no memory. */
+/* RAM of the host's own is lent, and given back in each way. What names no more pages than a call before takes
+ * no memory. */
 static void lend_ram(vmig_machine *m)
 {
     static const uint64_t words[] = {1 << 3 | 1 << 5};
@@ -367,8 +370,8 @@ static void lend_ram(vmig_machine *m)
     expect("requests for memory", requests, before);
 }
 
-/* What is due goes out while RAM is lent: pages as they are handed in, and sectors; then every page is named, and the round ends. Returns whether
- * the stream failed. */
+/* What is due goes out while RAM is lent: pages as they are handed in, and sectors; then every page is named,
+ * and the round ends. Returns whether the stream failed. */
 static int send_lent(vmig_machine *m, const uint8_t *ram)
 {
     static const vmig_pages all = VMIG_ALL_PAGES;

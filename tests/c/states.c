@@ -1,7 +1,7 @@
-/* What each call answers in each state of a handle: the table of vmig.h, tried. A call that is done in a state is given what it needs
- * there. In every other state it is made twice: so, and with what would be refused otherwise too, such as a buffer that is too small.
- * Both are told by the state alone, and change nothing. Memory is refused once, by a malloc of this program, for the state after a
- * send that failed. */
+/* What each call answers in each state of a handle: the table of vmig.h, tried. A call that is done in a state
+ * is given what it needs there. In every other state it is made twice: so, and with what would be refused
+ * otherwise too, such as a buffer that is too small. Both are told by the state alone, and change nothing.
+ * Memory is refused once, by a malloc of this program, for the state after a send that failed. */
 #include <stdlib.h>
 #include <string.h>
 #include "driver.h"
@@ -224,7 +224,8 @@ static vmig_status send_left(vmig_machine *m, int bad) { vmig_left left; (void)b
 static vmig_status send_take(vmig_machine *m, int bad) { size_t got; return vmig_send_take(m, bytes, bad ? 0 : sizeof bytes, &got); }
 static vmig_status send_tell(vmig_machine *m, int bad) { (void)bad; return vmig_send_tell(m, bytes); }
 
-/* A call of an idle machine, and of one that is sent, that answers DONE there, with what it answers in the other states. */
+/* A call of an idle machine, and of one that is sent, that answers DONE there, with what it answers in the other
+ * states. */
 #define NO_MACHINE_YET VMIG_NO_MACHINE, VMIG_NO_MACHINE, VMIG_NO_MACHINE
 #define WHILE_LENT VMIG_LENT, VMIG_LENT, VMIG_LENT
 #define OF_GUEST(DONE) {NO_MACHINE_YET, DONE, DONE, DONE, VMIG_STOPPED, DONE, DONE, DONE}
@@ -312,7 +313,8 @@ static void is_described(const char *what, const vmig_machine *m, int state)
     expect("lines", vmig_lines(m), state >= IDLE);
 }
 
-/* A digest is asked for once a machine was stopped, where its host tells it; and an arrival whose host does is not fed by the call for others. */
+/* A digest is asked for once a machine was stopped, where its host tells it; and an arrival whose host does is
+ * not fed by the call for others. */
 static vmig_status wanted_of(const Row *row, int state)
 {
     if (is_told && row->call == feed && state == ARRIVING) return VMIG_NOT_ASKED;

@@ -81,6 +81,28 @@ static void cut_short(const struct example *x, size_t len)
     failed_both(x);
 }
 
+/* An arrival is given up, or ended, where its digest is due, where it was told, or within the record. */
+static void end_early(const struct example *x, size_t of_record)
+{
+    int memory = (int)draw(MEMORIES), is_told = of_record > 0 || draw(2) == 0;
+    const uint8_t *at = x->stream;
+    size_t len = x->len, front = x->len - RECORD + of_record;
+
+    await_both(x, memory);
+    expect("due", feed_part(&told, &at, &len), VMIG_DIGEST);
+    if (is_told) tell(&told);
+    if (of_record > 0) expect("a part of it", feed_part(&told, &at, &of_record), VMIG_OK);
+    expect("the other", vmig_feed(&plain.machine, x->stream, plain.taken = front), VMIG_OK);
+    described_alike();
+    if (draw(2) == 0) {
+        release_both(x);
+        return;
+    }
+    expect("finish", vmig_finish(&told.machine), VMIG_STREAM_TRUNCATED);
+    expect("finish the other", vmig_finish(&plain.machine), VMIG_STREAM_TRUNCATED);
+    failed_both(x);
+}
+
 /* Bytes after the end: with the record, after it, and after a piece of no bytes. */
 static void trailing(const struct example *x, uint32_t most)
 {
@@ -215,6 +237,7 @@ static void limit(const struct example *x, int what, uint32_t most)
     struct end *const ends[] = {&told, &plain};
     vmig_status status;
 
+    names_shapes = 0;
     for (int i = 0; i < 2; i++) {
         vmig_image image;
         vmig_arrival arrival;
@@ -259,6 +282,7 @@ int main(int argc, char **argv)
         for (uint32_t most = 1; most <= STREAM_MAX; most *= 8) trailing(x, most);
         for (size_t wrong = 0; wrong < 32; wrong++) tell_wrong(x, (int)(wrong % MEMORIES), wrong, 1 + draw(RECORD));
         for (int what = 0; what < 3; what++) tell_other(x, what);
+        for (size_t of_record = 0; of_record < RECORD; of_record++) end_early(x, of_record);
         for (int times = 0; times < 10; times++) other_records(x);
         for (size_t at = header_length(x); x->stream[at] != COMMIT; at += record_length(x->stream + at))
             close_early(x, at);

@@ -34,6 +34,10 @@ struct end {
 
 static struct end told, plain;
 
+/* What arrivals ask for besides: VMIG_LOG, or nothing; and whether they name the devices. */
+static uint32_t log_flag;
+static int names_shapes;
+
 static inline uint32_t draw(uint32_t below)
 {
     static uint32_t state = 2463534242;
@@ -207,8 +211,9 @@ static inline vmig_arrival arrival_of(struct end *e, const struct example *x, vm
 {
     vmig_arrival arrival = VMIG_ARRIVAL;
 
-    arrival.flags = x->flags | (e->is_told ? VMIG_TOLD : 0);
+    arrival.flags = x->flags | log_flag | (e->is_told ? VMIG_TOLD : 0);
     arrival.frame = x->frame, arrival.most_outside = x->most_outside;
+    if (names_shapes) arrival.shapes = x->shapes, arrival.count = x->count;
     if (e->memory & OWN_RAM) arrival.ram = (vmig_ram){e->ram, (size_t)x->pages * PAGE};
     else arrival.most_pages = x->pages;
     *image = (vmig_image){e->image, x->sectors};
@@ -238,6 +243,8 @@ static inline void await(struct end *e, const struct example *x, int is_told, in
 
 static inline void await_both(const struct example *x, int memory)
 {
+    log_flag = draw(2) == 0 ? VMIG_LOG : 0;
+    names_shapes = draw(2) == 0;
     await(&told, x, 1, memory);
     await(&plain, x, 0, memory);
 }
@@ -347,7 +354,7 @@ static inline void finish_both(const struct example *x)
 
     for (int i = 0; i < 2; i++) {
         expect("finish", vmig_finish(&ends[i]->machine), VMIG_OK);
-        expect("its flags", description_of(&ends[i]->machine).flags, x->flags);
+        expect("its flags", description_of(&ends[i]->machine).flags, x->flags | log_flag);
         expect("no digest of a machine", vmig_feed_tell(&ends[i]->machine, x->image), VMIG_IN_USE);
         has_come(ends[i], x);
         saved_alike(ends[i], x);
