@@ -200,16 +200,16 @@ static void ram_of_the_host(void)
     unmap_unreserved(room, len);
 }
 
-/* An arrival refuses flags as a machine that is made does, but for the one that only an arrival may have. */
+/* An arrival refuses flags that nobody knows, as a machine that is made does. */
 static void flags(void)
 {
     vmig_machine m = VMIG_NONE;
     vmig_arrival arrival = allowing(1, 0, 8 | VMIG_LARGE);
 
     expect("flags that are not known", vmig_arrive(&arrival, &m), VMIG_NOT_KNOWN);
-    arrival = allowing(1, 0, VMIG_LARGE | VMIG_LOG | VMIG_TOLD);
+    arrival = allowing(1, 0, VMIG_LARGE | VMIG_LOG);
     expect("those that are", vmig_arrive(&arrival, &m), VMIG_OK);
-    expect("they are told", description_of(&m).flags, VMIG_LARGE | VMIG_LOG | VMIG_TOLD);
+    expect("they are told", description_of(&m).flags, VMIG_LARGE | VMIG_LOG);
     vmig_free(&m);
 }
 
