@@ -46,7 +46,7 @@ static void *digest_pieces(void *of)
 
     pthread_mutex_lock(&d->lock);
     for (;;) {
-        unsigned next = d->digested % PIECES;
+        unsigned next = d->digested % DIGESTER_PIECES;
 
         while (d->digested == d->added && !d->ends) pthread_cond_wait(&d->has_changed, &d->lock);
         if (d->digested == d->added) break;
@@ -74,10 +74,10 @@ const char *digester_begin(struct digester *d)
 
 void digester_add(struct digester *d, const uint8_t *bytes, size_t length)
 {
-    unsigned next = d->added % PIECES;
+    unsigned next = d->added % DIGESTER_PIECES;
 
     pthread_mutex_lock(&d->lock);
-    while (d->added - d->digested == PIECES) pthread_cond_wait(&d->has_changed, &d->lock);
+    while (d->added - d->digested == DIGESTER_PIECES) pthread_cond_wait(&d->has_changed, &d->lock);
     pthread_mutex_unlock(&d->lock);
     memcpy(d->pieces[next], bytes, length);
     d->lengths[next] = length;

@@ -11,7 +11,7 @@
 enum { SHA256_LENGTH = 32 };
 
 /* What waits for a thread that digests, at most. */
-enum { PIECES = 16, PIECE_MAX = 65536 };
+enum { DIGESTER_PIECES = 16, DIGESTER_PIECE = 65536 };
 
 struct digest {
     vmig_digest own;   /* where OpenSSL is not there */
@@ -33,13 +33,13 @@ struct digester {
     pthread_cond_t has_changed;
     unsigned added, digested; /* how many pieces were */
     int ends;                 /* no more are added */
-    size_t lengths[PIECES];
-    uint8_t pieces[PIECES][PIECE_MAX];
+    size_t lengths[DIGESTER_PIECES];
+    uint8_t pieces[DIGESTER_PIECES][DIGESTER_PIECE];
 };
 
 /* Begins it. Returns what is wrong, or NULL. */
 const char *digester_begin(struct digester *d);
-/* Hands it a piece of up to PIECE_MAX bytes, which are copied. Waits for room. */
+/* Hands it a piece of up to DIGESTER_PIECE bytes, which are copied. Waits for room. */
 void digester_add(struct digester *d, const uint8_t *bytes, size_t length);
 /* The digest of all pieces. The thread has ended. False where it could not be made. */
 int digester_end(struct digester *d, uint8_t bytes[SHA256_LENGTH]);
