@@ -192,7 +192,12 @@ static vmig_status work(vmig_machine *m, int bad)
 
 static uint8_t device(int bad, uint8_t dev) { return bad ? NO_DEVICE : dev; }
 static vmig_status feed(vmig_machine *m, int bad) { return vmig_feed(m, (const uint8_t *)"?", (size_t)bad); }
-static vmig_status feed_some(vmig_machine *m, int bad) { size_t used; return vmig_feed_some(m, (const uint8_t *)"?", (size_t)bad, &used); }
+static vmig_status feed_some(vmig_machine *m, int bad)
+{
+    size_t used;
+    return vmig_feed_some(m, (const uint8_t *)"?", (size_t)bad, &used);
+}
+
 static vmig_status feed_tell(vmig_machine *m, int bad) { (void)bad; return vmig_feed_tell(m, bytes); }
 static vmig_status reg_read(vmig_machine *m, int bad) { uint32_t value; return vmig_reg_read(m, device(bad, ENTROPY), 0, 4, &value); }
 static vmig_status reg_write(vmig_machine *m, int bad) { uint32_t byte; return vmig_reg_write(m, device(bad, ENTROPY), 0x70, 4, 0, &byte); }

@@ -17,7 +17,7 @@ struct piece {
     size_t used;
 };
 
-/* The thread that digests. Pieces are fed and digested in turn, and no more than PIECES of them are fed and not digested. */
+/* The thread that digests. Pieces are fed and digested in turn, and at most PIECES are fed and not digested. */
 struct digester {
     pthread_mutex_t lock;
     pthread_cond_t has_changed;
@@ -85,7 +85,7 @@ static void end_digest(struct digester *d, uint8_t digest[SHA256])
     vmig_digest_end(&d->digest, digest);
 }
 
-/* A piece arrives. Where the record that closes the stream comes in it the digest is told, and the rest of it is fed. */
+/* A piece arrives. Where the record that closes the stream comes in it the digest is told, and the rest is fed. */
 static vmig_status feed_piece(vmig_machine *m, struct digester *d, struct piece *p, size_t len)
 {
     size_t used = 0;
