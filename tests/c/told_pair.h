@@ -64,11 +64,12 @@ static const vmig_shape ALL_SHAPES[] = {{.kind = VMIG_NETWORK, .mac = {2, 0, 0, 
                                         {.kind = VMIG_CONSOLE},
                                         {.kind = VMIG_ENTROPY}};
 
-/* Saved in one, of 746 bytes; sent in rounds, while its guest works; and a machine with each kind of device, in
- * version 3. */
-enum { SMALL, ROUNDS, ALL_KINDS, EXAMPLES };
+/* Saved in one, of 746 bytes; the same in version 1; sent in rounds, while its guest works; and a machine with each
+ * kind of device, in version 3. */
+enum { SMALL, OLD, ROUNDS, ALL_KINDS, EXAMPLES };
 static struct example examples[EXAMPLES] = {
     {.name = "small", .shapes = SMALL_SHAPES, .count = 2, .pages = 1, .sectors = 1},
+    {.name = "old", .shapes = SMALL_SHAPES, .count = 2, .pages = 1, .sectors = 1},
     {.name = "rounds", .shapes = ROUND_SHAPES, .count = 2, .pages = 16, .sectors = 3},
     {.name = "all kinds", .shapes = ALL_SHAPES, .count = 6, .pages = 32, .sectors = 3,
      .flags = VMIG_LARGE, .frame = 9018, .most_outside = 40},
@@ -152,29 +153,6 @@ static inline void send_all_kinds(struct example *x, vmig_machine *m)
     expect("its version", x->stream[4], 3);
 }
 
-static inline void make_example(struct example *x)
-{
-    vmig_machine m = VMIG_NONE;
-    vmig_setup setup = VMIG_SETUP;
-    vmig_image image = {x->image, x->sectors};
-
-    fill(x);
-    setup.shapes = x->shapes, setup.count = x->count, setup.images = &image, setup.count_images = 1;
-    setup.ram = (vmig_ram){x->ram, (size_t)x->pages * PAGE}, setup.flags = x->flags;
-    expect("make", vmig_make(&setup, &m), VMIG_OK);
-    if (x == &examples[SMALL]) give_input(&m, 1, 3);
-    if (x == &examples[ROUNDS]) send_rounds(x, &m);
-    if (x == &examples[ALL_KINDS]) send_all_kinds(x, &m);
-    expect("save", vmig_save(&m, x->saved, STREAM_MAX, &x->saved_len), VMIG_OK);
-    if (x->len == 0) memcpy(x->stream, x->saved, x->len = x->saved_len);
-    expect("release", vmig_release(&m, &image, 1), VMIG_OK);
-}
-
-static inline void make_examples(void)
-{
-    for (int i = 0; i < EXAMPLES; i++) make_example(&examples[i]);
-}
-
 /* How long the next record is, by the format of streams. */
 static inline size_t record_length(const uint8_t *at)
 {
@@ -203,6 +181,53 @@ static inline size_t header_length(const struct example *x)
 
     for (size_t i = 0; i < x->count; i++) len += row_length(&x->shapes[i]);
     return len;
+}
+
+/* The small one in version 1, whose page of zeros is spelled out. */
+static inline void spell_old(struct example *x, const struct example *small)
+{
+    const uint8_t *at = small->stream;
+    vmig_digest digest;
+
+    memcpy(x->saved, small->saved, x->saved_len = small->saved_len);
+    memcpy(x->stream, at, x->len = header_length(x));
+    x->stream[4] = 1;
+    for (at += x->len; *at != COMMIT; at += record_length(at)) {
+        memcpy(x->stream + x->len, at, record_length(at));
+        if (*at == 6) x->stream[x->len] = 1;
+        x->len += record_length(x->stream + x->len);
+    }
+    vmig_digest_begin(&digest);
+    vmig_digest_add(&digest, x->stream, x->len);
+    x->stream[x->len] = COMMIT;
+    vmig_digest_end(&digest, x->stream + x->len + 1);
+    x->len += RECORD;
+}
+
+static inline void make_example(struct example *x)
+{
+    vmig_machine m = VMIG_NONE;
+    vmig_setup setup = VMIG_SETUP;
+    vmig_image image = {x->image, x->sectors};
+
+    fill(x);
+    setup.shapes = x->shapes, setup.count = x->count, setup.images = &image, setup.count_images = 1;
+    setup.ram = (vmig_ram){x->ram, (size_t)x->pages * PAGE}, setup.flags = x->flags;
+    expect("make", vmig_make(&setup, &m), VMIG_OK);
+    if (x == &examples[SMALL]) give_input(&m, 1, 3);
+    if (x == &examples[ROUNDS]) send_rounds(x, &m);
+    if (x == &examples[ALL_KINDS]) send_all_kinds(x, &m);
+    expect("save", vmig_save(&m, x->saved, STREAM_MAX, &x->saved_len), VMIG_OK);
+    if (x->len == 0) memcpy(x->stream, x->saved, x->len = x->saved_len);
+    expect("release", vmig_release(&m, &image, 1), VMIG_OK);
+}
+
+static inline void make_examples(void)
+{
+    make_example(&examples[SMALL]);
+    spell_old(&examples[OLD], &examples[SMALL]);
+    make_example(&examples[ROUNDS]);
+    make_example(&examples[ALL_KINDS]);
 }
 
 /* ---- two that arrive ------------------------------------------------------------------------------------------- */
