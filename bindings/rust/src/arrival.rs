@@ -185,6 +185,7 @@ impl ArrivalBuilder {
 
 /// What became of a piece of a stream whose digest the host tells.
 #[derive(Clone, Copy, Debug, PartialEq, Eq, Hash)]
+#[must_use = "the digest may be due"]
 pub enum Fed {
     /// All of it was taken.
     All,
