@@ -25,6 +25,8 @@ struct arrival {
     int is_told;              /* its digest */
 };
 
+_Static_assert((int)BODY_MAX <= (int)DIGESTER_PIECE, "a frame is a piece for the thread that digests");
+
 /* How long who connects may take until it is known. */
 enum { HELLO_MS = 10000 };
 
