@@ -2,7 +2,6 @@
  * of memory: both answer alike, piece by piece, and both are the machine that was sent, byte for byte. Where the
  * digest is due is counted here: 33 bytes before the end. `told_arrival N` cuts the streams at random N times;
  * with no word it does so some hundreds of times. */
-#include <stdlib.h>
 #include "told_pair.h"
 
 enum { CUTS = 300 };

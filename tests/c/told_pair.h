@@ -4,6 +4,7 @@
 #ifndef TOLD_PAIR_H
 #define TOLD_PAIR_H
 
+#include <stdlib.h>
 #include "driver.h"
 
 enum { PAGE = 4096, SECTOR = 512, PAGES_MAX = 32, SECTORS_MAX = 3, RECORD = 33, COMMIT = 5, STREAM_MAX = 1 << 19 };
@@ -112,6 +113,7 @@ static inline void take_all(vmig_machine *m, uint8_t *stream, size_t *len)
     size_t got = 1;
 
     while (got > 0) {
+        got = 0;
         expect("take", vmig_send_take(m, stream + *len, STREAM_MAX - *len, &got), VMIG_OK);
         *len += got;
     }
@@ -302,6 +304,7 @@ static inline vmig_status feed_part(struct end *e, const uint8_t **bytes, size_t
         return status;
     }
     expect("no more than the piece", used <= *len, 1);
+    if (used > *len) exit(ended("told"));
     if (status != VMIG_DIGEST) expect("all of it", used, *len);
     vmig_digest_add(&e->digest, *bytes, used);
     e->taken += used, *bytes += used, *len -= used;
