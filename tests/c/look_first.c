@@ -198,6 +198,15 @@ static void refuse_another(const uint8_t *stream, size_t header_len)
     }
 }
 
+/* All of these, whoever digests. */
+static void refuse_each(const uint8_t *stream, size_t header_len)
+{
+    for (is_told = 0; is_told < 2; is_told++) {
+        refuse_a_large_one();
+        refuse_another(stream, header_len);
+    }
+}
+
 /* What a machine says of itself. */
 static void says_of_itself(const char *what, const vmig_machine *m, uint32_t state)
 {
@@ -231,10 +240,7 @@ int main(void)
     expect("save", vmig_save(&source, stream, len, &written), VMIG_OK);
     ask_for_more(stream, HEADER);
     expect("expected", (uint64_t)is_expected(stream, len), 1);
-    for (is_told = 0; is_told < 2; is_told++) {
-        refuse_a_large_one();
-        refuse_another(stream, HEADER);
-    }
+    refuse_each(stream, HEADER);
 
     expect("arrive", vmig_arrive(&expected, &target), VMIG_OK);
     expect("a first piece", vmig_feed(&target, stream, HEADER - 1), VMIG_OK);
