@@ -43,7 +43,7 @@ enum class status : std::uint32_t {
     taken = VMIG_TAKEN, moved = VMIG_MOVED, bad_sector = VMIG_BAD_SECTOR, disk_failed = VMIG_DISK_FAILED,
     completed = VMIG_COMPLETED, sent = VMIG_SENT, dropped = VMIG_DROPPED, needs_reset = VMIG_NEEDS_RESET,
     round_done = VMIG_ROUND_DONE, round_open = VMIG_ROUND_OPEN, work = VMIG_WORK, more = VMIG_MORE, sync = VMIG_SYNC,
-    call = VMIG_CALL, whole = VMIG_WHOLE, sectors = VMIG_SECTORS,
+    call = VMIG_CALL, whole = VMIG_WHOLE, digest = VMIG_DIGEST, sectors = VMIG_SECTORS,
 };
 
 /* The name that a status has in vmig.h. */
@@ -566,6 +566,17 @@ public:
     [[nodiscard]] status feed(const std::uint8_t *bytes, std::size_t len) noexcept
     {
         return status{vmig_feed(&held, bytes, len)};
+    }
+
+    /* The next bytes of an arrival whose flags have VMIG_TOLD: *used of them were taken. After status::digest that of all bytes that
+     * were taken is due, as of a vmig::digest, and the rest is fed then. */
+    [[nodiscard]] status feed_some(const std::uint8_t *bytes, std::size_t len, std::size_t *used) noexcept
+    {
+        return status{vmig_feed_some(&held, bytes, len, used)};
+    }
+    [[nodiscard]] status feed_tell(const std::array<std::uint8_t, 32> &digest) noexcept
+    {
+        return status{vmig_feed_tell(&held, digest.data())};
     }
     [[nodiscard]] status finish() noexcept { return status{vmig_finish(&held)}; }
 

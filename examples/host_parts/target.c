@@ -21,7 +21,11 @@ struct arrival {
     uint8_t state[BODY_MAX];  /* of the processor and the board, once it has come */
     size_t state_length;
     uint32_t rounds;
+    struct digester digester; /* of the stream, unless --digest own is given */
+    int is_told;              /* its digest */
 };
+
+_Static_assert((int)BODY_MAX <= (int)DIGESTER_PIECE, "a frame is a piece for the thread that digests");
 
 /* How long who connects may take until it is known. */
 enum { HELLO_MS = 10000 };
@@ -91,12 +95,31 @@ static const char *check_hello(struct host *h, const struct hello *hello)
     return facts_check(h, l->body + HELLO_LENGTH, l->length - HELLO_LENGTH);
 }
 
+static const char *refusal(vmig_status status) { return vmig_refused(status) ? vmig_status_name(status) : NULL; }
+
+/* What the library has taken is digested by a thread, which has all but the record that closes the stream. */
+static const char *feed_beside(struct host *h, struct arrival *a, const uint8_t *bytes, size_t length)
+{
+    size_t used = 0;
+    vmig_status status = vmig_feed_some(&h->machine, bytes, length, &used);
+    uint8_t digest[SHA256_LENGTH];
+
+    if (vmig_refused(status) || a->is_told) return refusal(status);
+    digester_add(&a->digester, bytes, used);
+    if (status != VMIG_DIGEST) return NULL;
+    if (!digester_end(&a->digester, digest)) return "the stream could not be digested";
+    a->is_told = 1;
+    must(vmig_feed_tell(&h->machine, digest), "vmig_feed_tell");
+    return refusal(vmig_feed_some(&h->machine, bytes + used, length - used, &used));
+}
+
 static const char *feed(struct host *h, struct arrival *a, const uint8_t *bytes, size_t length)
 {
-    vmig_status status = vmig_feed(&h->machine, bytes, length);
+    int is_own = h->options.digest_is_own;
+    const char *why = is_own ? refusal(vmig_feed(&h->machine, bytes, length)) : feed_beside(h, a, bytes, length);
     vmig_description found;
 
-    if (vmig_refused(status)) return vmig_status_name(status);
+    if (why != NULL) return why;
     vmig_describe(&h->machine, &found);
     if (found.rounds > a->rounds) {
         say("move: round %u is here", found.rounds);
@@ -121,8 +144,9 @@ static const char *take_head(struct host *h, struct arrival *a, const uint8_t *b
     h->memory_length = a->length;
     h->memory = devices_take_ram(a->length);
     why = h->memory == NULL ? "there is no memory for RAM" : give_ram(h, h->memory, a->length);
+    if (why == NULL && !h->options.digest_is_own) why = digester_begin(&a->digester);
     if (why != NULL) return why;
-    devices_let_arrive(&h->devices, h->memory, a->length, &h->machine);
+    devices_let_arrive(&h->devices, h->memory, a->length, &h->machine, !h->options.digest_is_own);
     a->is_known = 1;
     why = feed(h, a, a->head, a->head_length);
     return why != NULL ? why : feed(h, a, bytes + part, length - part);

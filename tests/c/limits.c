@@ -200,11 +200,11 @@ static void ram_of_the_host(void)
     unmap_unreserved(room, len);
 }
 
-/* An arrival refuses flags as a machine that is made does. */
+/* An arrival refuses flags that nobody knows, as a machine that is made does. */
 static void flags(void)
 {
     vmig_machine m = VMIG_NONE;
-    vmig_arrival arrival = allowing(1, 0, 4 | VMIG_LARGE);
+    vmig_arrival arrival = allowing(1, 0, 8 | VMIG_LARGE);
 
     expect("flags that are not known", vmig_arrive(&arrival, &m), VMIG_NOT_KNOWN);
     arrival = allowing(1, 0, VMIG_LARGE | VMIG_LOG);

@@ -105,6 +105,15 @@ static vmig_arrival expected_devices(const vmig_shape *shapes)
     return arrival;
 }
 
+static int is_told;     /* whether the host tells the digest of what arrives */
+
+static vmig_status feed(vmig_machine *m, const uint8_t *bytes, size_t len)
+{
+    size_t used;
+
+    return is_told ? vmig_feed_some(m, bytes, len, &used) : vmig_feed(m, bytes, len);
+}
+
 /* It is fed the header of a machine that it did not expect, in pieces of this length, and refuses it in each kind of memory. */
 static void is_refused(vmig_status wanted, const uint8_t *header, size_t len, size_t piece, uint8_t *disk, uint8_t *room)
 {
@@ -117,14 +126,15 @@ static void is_refused(vmig_status wanted, const uint8_t *header, size_t len, si
     arrival.images = &image, arrival.count_images = disk != NULL;
     arrival.ram = (vmig_ram){room, room != NULL ? 4 << 20 : 0};
     if (room != NULL) arrival.most_pages = 0;
+    if (is_told) arrival.flags = VMIG_TOLD;
     expect("arrive", vmig_arrive(&arrival, &m), VMIG_OK);
     taken = largest = 0;
-    for (; status == VMIG_OK && at < len; at += piece) status = vmig_feed(&m, header + at, len - at < piece ? len - at : piece);
+    for (; status == VMIG_OK && at < len; at += piece) status = feed(&m, header + at, len - at < piece ? len - at : piece);
     expect("another one", status, wanted);
     expect("is refused at the end of its header", at >= len, 1);
-    if (piece >= len && wanted == VMIG_STREAM_TOO_LARGE) expect("with little memory", taken < 4096, 1);
+    if (piece >= len && wanted == VMIG_STREAM_TOO_LARGE && !is_told) expect("with little memory", taken < 4096, 1);
     else expect("with the receiver's buffer at most", largest < 132 << 10, 1);
-    expect("for good", vmig_feed(&m, header, len), VMIG_STREAM_FAILED);
+    expect("for good", feed(&m, header, len), VMIG_STREAM_FAILED);
     if (disk != NULL) expect("the image", vmig_release(&m, &image, 1), VMIG_OK);
     vmig_free(&m);
 }
@@ -177,13 +187,23 @@ static void refuse_another(const uint8_t *stream, size_t header_len)
         if (k == 2) other[1].id[0] = 'A';
         if (k == 3) other[1].read_only = 0;
         if (k == 4) arrival.count--;
+        if (is_told) arrival.flags = VMIG_TOLD;
         expect("arrive", vmig_arrive(&arrival, &m), VMIG_OK);
-        expect("its header, but for a byte", vmig_feed(&m, stream, header_len - 1), VMIG_OK);
+        expect("its header, but for a byte", feed(&m, stream, header_len - 1), VMIG_OK);
         taken = largest = 0;
-        expect("another machine", vmig_feed(&m, stream + header_len - 1, 1), VMIG_STREAM_MISMATCH);
+        expect("another machine", feed(&m, stream + header_len - 1, 1), VMIG_STREAM_MISMATCH);
         expect("for which nothing was taken but the receiver's buffer", largest < 132 << 10, 1);
-        expect("for good", vmig_feed(&m, stream, header_len), VMIG_STREAM_FAILED);
+        expect("for good", feed(&m, stream, header_len), VMIG_STREAM_FAILED);
         vmig_free(&m);
+    }
+}
+
+/* All of these, whoever digests. */
+static void refuse_each(const uint8_t *stream, size_t header_len)
+{
+    for (is_told = 0; is_told < 2; is_told++) {
+        refuse_a_large_one();
+        refuse_another(stream, header_len);
     }
 }
 
@@ -220,8 +240,7 @@ int main(void)
     expect("save", vmig_save(&source, stream, len, &written), VMIG_OK);
     ask_for_more(stream, HEADER);
     expect("expected", (uint64_t)is_expected(stream, len), 1);
-    refuse_a_large_one();
-    refuse_another(stream, HEADER);
+    refuse_each(stream, HEADER);
 
     expect("arrive", vmig_arrive(&expected, &target), VMIG_OK);
     expect("a first piece", vmig_feed(&target, stream, HEADER - 1), VMIG_OK);

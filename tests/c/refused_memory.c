@@ -1,7 +1,8 @@
-/* Each request for memory is refused once, at each place: in a script that makes every call of the library, the n-th request gets
- * null, for every n. What is refused says so, nothing is lost by it, and the host goes on as the header says: it makes the
- * call again; or ends a migration that failed, and begins another; or frees what arrived in part, and feeds the stream anew. All
- * that was given is freed in the end. The requests are counted by a malloc of its own, before the C library's. */
+/* Each request for memory is refused once, at each place: in a script that makes every call of the library, the
+ * n-th request gets null, for every n. What is refused says so, nothing is lost by it, and the host goes on as
+ * the header says: it makes the call again; or ends a migration that failed, and begins another; or frees what
+ * arrived in part, and feeds the stream anew. All that was given is freed in the end. The requests are counted
+ * by a malloc of its own, before the C library's. */
 #include <stdlib.h>
 #include "driver.h"
 
@@ -52,7 +53,7 @@ void free(void *at)
 
 static uint32_t answer;     /* of the last call */
 static int told;            /* how many calls said that memory was refused */
-static uint32_t flags;      /* of a migration */
+static uint32_t flags;      /* of a migration, and of what arrives */
 
 static uint32_t ended_call(void)
 {
@@ -122,8 +123,8 @@ static void chain(vmig_machine *m, uint32_t base, uint32_t count, uint32_t flags
     put_dev(m, base + 0x402, 1, 2);
 }
 
-/* A guest whose devices need memory for a step: an entropy device that fills a chain of many descriptors, and a console that sends
- * the text of one. */
+/* A guest whose devices need memory for a step: an entropy device that fills a chain of many descriptors, and a
+ * console that sends the text of one. */
 static void run_guest(vmig_machine *m)
 {
     uint64_t before;
@@ -250,21 +251,46 @@ static size_t take_from(vmig_machine *m, uint8_t *stream, size_t len)
     return len;
 }
 
+static void digest_of(const uint8_t *bytes, size_t len, uint8_t out[32])
+{
+    vmig_digest digest;
+
+    vmig_digest_begin(&digest);
+    vmig_digest_add(&digest, bytes, len);
+    vmig_digest_end(&digest, out);
+}
+
 /* The whole stream. Where the host tells its digest that takes no memory. */
 static size_t take_all(vmig_machine *m, uint8_t *stream)
 {
     size_t len = take_from(m, stream, 0);
     uint64_t before = requests;
-    vmig_digest digest;
     uint8_t out[32];
 
     if (flags != VMIG_TOLD) return len;
-    vmig_digest_begin(&digest);
-    vmig_digest_add(&digest, stream, len);
-    vmig_digest_end(&digest, out);
+    digest_of(stream, len, out);
     expect("tell", CALL(vmig_send_tell(m, out)), VMIG_OK);
     expect("requests for memory", requests, before);
     return take_from(m, stream, len);
+}
+
+/* A piece of a stream, from this byte on. Where the host tells the digest that takes no memory, nor does the
+ * record that has it. */
+static vmig_status feed_piece(vmig_machine *m, const uint8_t *stream, size_t at, size_t len)
+{
+    size_t used = 0, all = 77;
+    uint64_t before;
+    uint8_t out[32];
+
+    if (flags != VMIG_TOLD) return CALL(vmig_feed(m, stream + at, len));
+    if (CALL(vmig_feed_some(m, stream + at, len, &used)) != VMIG_DIGEST) return answer;
+    before = requests;
+    digest_of(stream, at + used, out);
+    expect("tell", CALL(vmig_feed_tell(m, out)), VMIG_OK);
+    CALL(vmig_feed_some(m, stream + at + used, len - used, &all));
+    expect("all of it", all, len - used);
+    expect("requests for memory", requests, before);
+    return answer;
 }
 
 /* Feeds a stream in pieces. Returns whether memory was refused. The end of a stream takes none. */
@@ -272,7 +298,7 @@ static int feed(vmig_machine *m, const uint8_t *stream, size_t len)
 {
     for (size_t at = 0; at < len; at += 1000) {
         size_t more = len - at < 1000 ? len - at : 1000;
-        if (CALL(vmig_feed(m, stream + at, more)) == VMIG_STREAM_NO_MEMORY) return 1;
+        if (feed_piece(m, stream, at, more) == VMIG_STREAM_NO_MEMORY) return 1;
         expect("feed", answer, at + more < len ? VMIG_OK : VMIG_WHOLE);
     }
     expect("finish", CALL(vmig_finish(m)), VMIG_OK);
@@ -285,6 +311,7 @@ static void await(vmig_machine *m, uint8_t *room, uint8_t *disk)
     vmig_image image = {disk, SECTORS};
     vmig_arrival arrival = VMIG_ARRIVAL;
 
+    arrival.flags = flags;
     arrival.shapes = shapes, arrival.count = DEVICES;
     if (room != NULL) arrival.ram = (vmig_ram){room, PAGES * PAGE};
     else arrival.most_pages = PAGES;
@@ -301,7 +328,7 @@ static void arrive(vmig_machine *m, uint8_t *room, uint8_t *disk, const uint8_t 
     await(m, room, disk);
     if (feed(m, stream, len) == 0) return;
     told++;
-    expect("feed after it", CALL(vmig_feed(m, stream, 1)), VMIG_STREAM_FAILED);
+    expect("feed after it", feed_piece(m, stream, 0, 1), VMIG_STREAM_FAILED);
     expect("finish after it", CALL(vmig_finish(m)), VMIG_STREAM_FAILED);
     expect("why", description_of(m).fault, VMIG_STREAM_NO_MEMORY);
     expect("its image", CALL(vmig_release(m, &image, 1)), VMIG_OK);
@@ -322,7 +349,8 @@ static void alike(const char *what, vmig_machine *one, vmig_machine *other)
     expect(what, (uint64_t)memcmp(first, second, len), 0);
 }
 
-/* RAM of the host's own is lent, and given back in each way. What names no more pages than a call before takes no memory. */
+/* RAM of the host's own is lent, and given back in each way. What names no more pages than a call before takes
+ * no memory. */
 static void lend_ram(vmig_machine *m)
 {
     static const uint64_t words[] = {1 << 3 | 1 << 5};
@@ -342,8 +370,8 @@ static void lend_ram(vmig_machine *m)
     expect("requests for memory", requests, before);
 }
 
-/* What is due goes out while RAM is lent: pages as they are handed in, and sectors; then every page is named, and the round ends. Returns whether
- * the stream failed. */
+/* What is due goes out while RAM is lent: pages as they are handed in, and sectors; then every page is named,
+ * and the round ends. Returns whether the stream failed. */
 static int send_lent(vmig_machine *m, const uint8_t *ram)
 {
     static const vmig_pages all = VMIG_ALL_PAGES;

@@ -1,7 +1,7 @@
-/* What each call answers in each state of a handle: the table of vmig.h, tried. A call that is done in a state is given what it needs
- * there. In every other state it is made twice: so, and with what would be refused otherwise too, such as a buffer that is too small.
- * Both are told by the state alone, and change nothing. Memory is refused once, by a malloc of this program, for the state after a
- * send that failed. */
+/* What each call answers in each state of a handle: the table of vmig.h, tried. A call that is done in a state
+ * is given what it needs there. In every other state it is made twice: so, and with what would be refused
+ * otherwise too, such as a buffer that is too small. Both are told by the state alone, and change nothing.
+ * Memory is refused once, by a malloc of this program, for the state after a send that failed. */
 #include <stdlib.h>
 #include <string.h>
 #include "driver.h"
@@ -16,7 +16,7 @@ static const uint32_t STATE_NUMBERS[STATES] = {
     VMIG_IS_NONE,        VMIG_IS_ARRIVING, VMIG_IS_FAILED, VMIG_IS_IDLE,    VMIG_IS_SENDING,
     VMIG_IS_SEND_FAILED, VMIG_IS_STOPPED,  VMIG_IS_IDLE,   VMIG_IS_SENDING, VMIG_IS_SEND_FAILED};
 
-enum { PAGES = 16, RAM = PAGES * 4096, ENTROPY = 0, DISK = 1, CONSOLE = 2, NO_DEVICE = 3 };
+enum { PAGES = 16, RAM = PAGES * 4096, ENTROPY = 0, DISK = 1, CONSOLE = 2, NO_DEVICE = 3, RECORD = 33 };
 
 static const vmig_shape SHAPES[] = {{.kind = VMIG_ENTROPY}, {.kind = VMIG_BLOCK, .sectors = 1}, {.kind = VMIG_CONSOLE}};
 
@@ -26,7 +26,7 @@ void *__libc_calloc(size_t count, size_t size);
 void *__libc_realloc(void *at, size_t size);
 void __libc_free(void *at);
 
-static int is_told;     /* whether a machine is sent whose host tells the digest */
+static int is_told;     /* whether machines are sent, and arrive, whose host tells the digest */
 static int refuses;     /* whether each request for memory is refused */
 
 void *malloc(size_t size) { return refuses ? NULL : __libc_malloc(size); }
@@ -65,6 +65,37 @@ static void fail_to_send(vmig_machine *m)
     expect("no memory for the stream", status, VMIG_SEND_FAILED);
 }
 
+static vmig_status feed_piece(vmig_machine *m, const uint8_t *at, size_t len)
+{
+    size_t used;
+
+    return is_told ? vmig_feed_some(m, at, len, &used) : vmig_feed(m, at, len);
+}
+
+static void await(vmig_machine *m)
+{
+    vmig_arrival arrival = VMIG_ARRIVAL;
+
+    arrival.most_pages = PAGES, arrival.most_sectors = 1, arrival.flags = is_told ? VMIG_TOLD : 0;
+    expect("arrive", vmig_arrive(&arrival, m), VMIG_OK);
+}
+
+/* The rest of the stream, after the first 10 bytes. */
+static void feed_rest(vmig_machine *m)
+{
+    size_t front = is_told ? stream_len - RECORD : stream_len;
+    vmig_digest digest;
+    uint8_t out[32];
+
+    expect("the rest", feed_piece(m, stream + 10, stream_len - 10), is_told ? VMIG_DIGEST : VMIG_WHOLE);
+    if (!is_told) return;
+    vmig_digest_begin(&digest);
+    vmig_digest_add(&digest, stream, front);
+    vmig_digest_end(&digest, out);
+    expect("tell", vmig_feed_tell(m, out), VMIG_OK);
+    expect("the record", feed_piece(m, stream + front, RECORD), VMIG_WHOLE);
+}
+
 /* A handle in a state, which the caller frees. */
 static vmig_machine in_state(int state)
 {
@@ -72,10 +103,10 @@ static vmig_machine in_state(int state)
     uint64_t pages = 0, sectors = 0;
 
     if (state == ARRIVING || state == FAILED) {
-        expect("arrive", arrive_any(&m), VMIG_OK);
-        expect("a first piece", vmig_feed(&m, stream, 10), VMIG_OK);
+        await(&m);
+        expect("a first piece", feed_piece(&m, stream, 10), VMIG_OK);
     }
-    if (state == FAILED) expect("another stream", vmig_feed(&m, stream, 100), VMIG_STREAM_BAD_SHAPE);
+    if (state == FAILED) expect("another stream", feed_piece(&m, stream, 100), VMIG_STREAM_BAD_SHAPE);
     if (state >= IDLE) make_one(&m);
     if (state >= SENDING && state != LENT) expect("begin", vmig_send_begin_as(&m, is_told ? VMIG_TOLD : 0), VMIG_OK);
     if (state == SEND_FAILED || state == SEND_FAILED_LENT) fail_to_send(&m);
@@ -101,8 +132,7 @@ static vmig_status arrive(vmig_machine *m, int bad)
 
 static vmig_status finish(vmig_machine *m, int bad)
 {
-    if (!bad && description_of(m).state == VMIG_IS_ARRIVING)
-        expect("the rest", vmig_feed(m, stream + 10, stream_len - 10), VMIG_WHOLE);
+    if (!bad && description_of(m).state == VMIG_IS_ARRIVING) feed_rest(m);
     return vmig_finish(m);
 }
 
@@ -162,6 +192,13 @@ static vmig_status work(vmig_machine *m, int bad)
 
 static uint8_t device(int bad, uint8_t dev) { return bad ? NO_DEVICE : dev; }
 static vmig_status feed(vmig_machine *m, int bad) { return vmig_feed(m, (const uint8_t *)"?", (size_t)bad); }
+static vmig_status feed_some(vmig_machine *m, int bad)
+{
+    size_t used;
+    return vmig_feed_some(m, (const uint8_t *)"?", (size_t)bad, &used);
+}
+
+static vmig_status feed_tell(vmig_machine *m, int bad) { (void)bad; return vmig_feed_tell(m, bytes); }
 static vmig_status reg_read(vmig_machine *m, int bad) { uint32_t value; return vmig_reg_read(m, device(bad, ENTROPY), 0, 4, &value); }
 static vmig_status reg_write(vmig_machine *m, int bad) { uint32_t byte; return vmig_reg_write(m, device(bad, ENTROPY), 0x70, 4, 0, &byte); }
 static vmig_status ram_read(vmig_machine *m, int bad) { return vmig_ram_read(m, bad ? RAM : 0, bytes, bad ? 5000 : 1); }
@@ -192,7 +229,8 @@ static vmig_status send_left(vmig_machine *m, int bad) { vmig_left left; (void)b
 static vmig_status send_take(vmig_machine *m, int bad) { size_t got; return vmig_send_take(m, bytes, bad ? 0 : sizeof bytes, &got); }
 static vmig_status send_tell(vmig_machine *m, int bad) { (void)bad; return vmig_send_tell(m, bytes); }
 
-/* A call of an idle machine, and of one that is sent, that answers DONE there, with what it answers in the other states. */
+/* A call of an idle machine, and of one that is sent, that answers DONE there, with what it answers in the other
+ * states. */
 #define NO_MACHINE_YET VMIG_NO_MACHINE, VMIG_NO_MACHINE, VMIG_NO_MACHINE
 #define WHILE_LENT VMIG_LENT, VMIG_LENT, VMIG_LENT
 #define OF_GUEST(DONE) {NO_MACHINE_YET, DONE, DONE, DONE, VMIG_STOPPED, DONE, DONE, DONE}
@@ -219,6 +257,8 @@ static const Row ROWS[] = {
     {"vmig_make", make, OF_NONE},
     {"vmig_arrive", arrive, OF_NONE},
     {"vmig_feed", feed, OF_ARRIVAL},
+    {"vmig_feed_some", feed_some, OF_ARRIVAL},
+    {"vmig_feed_tell", feed_tell, {VMIG_NO_MACHINE, VMIG_NOT_ASKED, VMIG_STREAM_FAILED, IN_USE_7}},
     {"vmig_finish", finish, OF_ARRIVAL},
     {"vmig_release", release,
      {VMIG_NO_MACHINE, VMIG_OK, VMIG_OK, VMIG_OK, VMIG_OK, VMIG_OK, VMIG_OK, WHILE_LENT}},
@@ -278,9 +318,11 @@ static void is_described(const char *what, const vmig_machine *m, int state)
     expect("lines", vmig_lines(m), state >= IDLE);
 }
 
-/* A digest is asked for once a machine was stopped, where its host tells it. */
+/* A digest is asked for once a machine was stopped, where its host tells it; and an arrival whose host does is
+ * not fed by the call for others. */
 static vmig_status wanted_of(const Row *row, int state)
 {
+    if (is_told && row->call == feed && state == ARRIVING) return VMIG_NOT_ASKED;
     return is_told && row->call == send_tell && state == STOPPED ? VMIG_OK : row->wanted[state];
 }
 

@@ -362,7 +362,7 @@ static void no_stream_within(void)
 
 static void names(void)
 {
-    static const uint32_t unknown[] = {6, 13, 14, 16, 19, 46, 50, 63, 64, 74, 75, 83, 85, 255, UINT32_MAX};
+    static const uint32_t unknown[] = {6, 13, 14, 16, 19, 46, 50, 63, 64, 74, 75, 85, 255, UINT32_MAX};
     uint32_t known = 0;
 
     expect("name of a success", (uint64_t)strcmp(vmig_status_name(VMIG_OK), "VMIG_OK"), 0);
@@ -373,7 +373,7 @@ static void names(void)
         expect("refused", (uint64_t)vmig_refused(status), status >= 1 && status <= 63);
     }
     expect("refused", (uint64_t)vmig_refused(UINT32_MAX), 0);
-    expect("statuses that have a name", known, 61);
+    expect("statuses that have a name", known, 62);
     for (size_t i = 0; i < sizeof unknown / sizeof *unknown; i++)
         expect("no name", (uint64_t)strcmp(vmig_status_name(unknown[i]), "unknown status"), 0);
 }
@@ -422,7 +422,7 @@ static void arriving_in_order(void)
     vmig_image few = {sector, 2}, image = {sector, 1};
     vmig_arrival arrival = VMIG_ARRIVAL;
 
-    arrival.ram = (vmig_ram){room, sizeof room - 1}, arrival.flags = 4, arrival.shapes = &none, arrival.count = 1, arrival.base = 1;
+    arrival.ram = (vmig_ram){room, sizeof room - 1}, arrival.flags = 8, arrival.shapes = &none, arrival.count = 1, arrival.base = 1;
     arrival.images = &few, arrival.count_images = 1;
     expect("a flag", vmig_arrive(&arrival, &m), VMIG_NOT_KNOWN);
     arrival.flags = 0;

@@ -130,6 +130,8 @@ void none()
     EXPECT(m.send_left(&left), status::no_machine);
     EXPECT(m.save(nullptr, 0, &len), status::no_machine);
     EXPECT(m.feed(nullptr, 0), status::no_machine);
+    EXPECT(m.feed_some(nullptr, 0, &len), status::no_machine);
+    EXPECT(m.feed_tell({}), status::no_machine);
     EXPECT(m.finish(), status::no_machine);
     EXPECT(std::move(m).lend(&loan), status::no_machine);
     EXPECT(std::move(loan).give_back(pages::all(), &m), status::no_machine);
@@ -298,6 +300,56 @@ void told()
     EXPECT(arrived.finish(), status::ok);
 }
 
+// How a stream ends in pieces of this size, where the digest of what was taken is told, with these bits of its last byte changed.
+status fed_told(machine &arrived, const std::vector<std::uint8_t> &stream, std::size_t size, std::uint8_t changed)
+{
+    vmig::digest digest;
+    std::size_t used = 0;
+    status fed = status::ok;
+
+    for (std::size_t at = 0; at < stream.size(); at += used) {
+        fed = arrived.feed_some(stream.data() + at, std::min(size, stream.size() - at), &used);
+        if (vmig::refused(fed)) return fed;
+        digest.add(stream.data() + at, used);
+        if (fed == status::digest) {
+            std::array<std::uint8_t, 32> told = digest.end();
+            told[31] = static_cast<std::uint8_t>(told[31] ^ changed);
+            EXPECT(at + used == stream.size() - 33);
+            EXPECT(arrived.feed_tell(told), status::ok);
+        }
+        EXPECT(arrived.feed_tell({}), status::not_asked);
+        EXPECT(arrived.feed(stream.data(), 1), status::not_asked);
+    }
+    return fed;
+}
+
+// The host tells the digest of what arrives, once rightly and once not.
+void told_arrival()
+{
+    std::vector<std::uint8_t> memory(4 * 4096), stream(1 << 16), again(1 << 16);
+    machine m = made(memory);
+    std::size_t len = 0;
+    vmig_arrival arrival = VMIG_ARRIVAL;
+
+    EXPECT(m.save(stream.data(), stream.size(), &len), status::ok);
+    stream.resize(len);
+    arrival.most_pages = 4, arrival.flags = VMIG_TOLD;
+    for (std::size_t size : {std::size_t{1}, std::size_t{100}, stream.size()}) {
+        machine right, wrong;
+        EXPECT(right.arrive(&arrival), status::ok);
+        EXPECT(wrong.arrive(&arrival), status::ok);
+        EXPECT(right.describe().flags == VMIG_TOLD);
+        EXPECT(fed_told(right, stream, size, 0), status::whole);
+        EXPECT(right.finish(), status::ok);
+        EXPECT(right.describe().flags == 0);
+        EXPECT(right.save(again.data(), again.size(), &len), status::ok);
+        EXPECT(len == stream.size() && std::equal(stream.begin(), stream.end(), again.begin()));
+        EXPECT(fed_told(wrong, stream, size, 0x40), status::stream_bad_digest);
+        EXPECT(wrong.feed_tell({}), status::stream_failed);
+        EXPECT(wrong.finish(), status::stream_failed);
+    }
+}
+
 // One with a page more than the usual is made, and arrives, where that is asked for.
 void large()
 {
@@ -383,6 +435,7 @@ int main()
     moved();
     handed_in();
     told();
+    told_arrival();
     large();
     long_frames();
     EXPECT(vmig::version() == VMIG_VERSION_NUMBER);

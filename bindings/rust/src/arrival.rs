@@ -132,6 +132,12 @@ impl ArrivalBuilder {
         ArrivalBuilder { flags: self.flags | raw::LOG, ..self }
     }
 
+    /// The library does not digest what arrives: the host digests what it feeds, as on a thread of its own ([`Arrival::feed_some`]), and tells the
+    /// digest before the last bytes of the stream ([`Arrival::feed_tell`]).
+    pub fn told(self) -> ArrivalBuilder {
+        ArrivalBuilder { flags: self.flags | raw::TOLD, ..self }
+    }
+
     /// The arrival begins. Refusals, in their order: `NotKnown` (a longest frame of less than 1,514 bytes, or of more and no large machine),
     /// `BadRam` (the memory is not whole pages, or has too many; or `most_pages` beside it), `BadShape`, `BadBase`, `BadImages` (not those of the
     /// devices), `NoMemory`.
@@ -177,6 +183,19 @@ impl ArrivalBuilder {
     }
 }
 
+/// What became of a piece of a stream whose digest the host tells.
+#[derive(Clone, Copy, Debug, PartialEq, Eq, Hash)]
+#[must_use = "the digest may be due"]
+pub enum Fed {
+    /// All of it was taken.
+    All,
+    /// This many of its bytes were taken, and the record that closes the stream comes next: tell the digest ([`Arrival::feed_tell`]), and feed
+    /// the rest.
+    Digest(usize),
+    /// All of it was taken. The stream has ended, and is right.
+    Whole,
+}
+
 /// A machine whose stream arrives in pieces of any size.
 #[derive(Debug)]
 pub struct Arrival {
@@ -190,11 +209,53 @@ impl Arrival {
     }
 
     /// The next bytes. Whether the end of the stream has come, and it is right. A fault is answered by the piece that shows it, and the
-    /// stream is refused for good: `StreamFailed` from then on. Nothing may follow the stream's last byte.
+    /// stream is refused for good: `StreamFailed` from then on. Nothing may follow the stream's last byte. `NotAsked` where the host tells the
+    /// digest ([`ArrivalBuilder::told`]).
     pub fn feed(&mut self, piece: &[u8]) -> Result<bool, Error> {
         // SAFETY: the slice is valid for the call, and the handle is of a machine that arrives.
         let status = done(unsafe { raw::vmig_feed(&mut self.machine.held, piece.as_ptr(), piece.len()) })?;
         Ok(status == raw::WHOLE)
+    }
+
+    /// The next bytes where the host tells the digest: those before the record that closes the stream are taken. Once the digest was told that
+    /// record may come in pieces too; where other bytes come in its place the digest is to be told anew. A record of another digest is
+    /// `StreamBadDigest`. Of an arrival that the library digests this is [`Arrival::feed`].
+    ///
+    /// ```
+    /// use vmig::{Arrival, Device, Digest, Fed, Machine};
+    ///
+    /// # let stream = Machine::builder().pages(2).device(Device::Entropy).build()?.save()?;
+    /// let mut arrival = Arrival::builder().most_pages(2).told().begin()?;
+    /// let mut digest = Digest::new();
+    /// for mut piece in stream.chunks(100) {
+    ///     while let Fed::Digest(used) = arrival.feed_some(piece)? {
+    ///         digest.add(&piece[..used]);
+    ///         arrival.feed_tell(&digest.clone().end())?;
+    ///         piece = &piece[used..];
+    ///     }
+    ///     digest.add(piece);
+    /// }
+    /// let machine = arrival.finish()?;
+    /// # assert_eq!(machine.save()?, stream);
+    /// # Ok::<(), Box<dyn std::error::Error>>(())
+    /// ```
+    pub fn feed_some(&mut self, piece: &[u8]) -> Result<Fed, Error> {
+        let mut used = 0;
+        // SAFETY: as in `feed`, and the number is valid for the call.
+        match done(unsafe { raw::vmig_feed_some(&mut self.machine.held, piece.as_ptr(), piece.len(), &mut used) })? {
+            raw::DIGEST => Ok(Fed::Digest(used)),
+            raw::WHOLE => Ok(Fed::Whole),
+            _ => Ok(Fed::All),
+        }
+    }
+
+    /// The digest that is due: the SHA-256 of all bytes that were taken, in their order. It is compared with the one in the stream, which says that
+    /// all bytes came as they were sent: so never tell what was read in the stream itself.
+    ///
+    /// `NotAsked` unless it is due ([`Fed::Digest`]), and of a second one; `StreamFailed` after a refusal.
+    pub fn feed_tell(&mut self, digest: &[u8; 32]) -> Result<(), Error> {
+        // SAFETY: as in `feed`, and the array is valid for the call.
+        done(unsafe { raw::vmig_feed_tell(&mut self.machine.held, digest) }).map(drop)
     }
 
     /// What the stream announced, once its header has come. `None` before, and once it was refused: keep its first 496 bytes for [`announced`]

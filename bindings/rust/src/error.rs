@@ -85,7 +85,8 @@ pub enum Error {
     /// The base is not a multiple of 4,096, or RAM would reach past the last address.
     BadBase = raw::BAD_BASE,
 
-    /// No digest is asked for: the host does not tell it, or the stop was not made, or it was told.
+    /// No digest is asked for: the host does not tell it, or the stop was not made, or it was told; or it is not due where a stream arrives. Or the
+    /// host tells the digest of what arrives, which is fed by [`feed_some`](crate::Arrival::feed_some) then.
     NotAsked = raw::NOT_ASKED,
 
     /// Another page is next, or none.

@@ -178,7 +178,7 @@ mod pages;
 mod region;
 mod turn;
 
-pub use arrival::{Announced, Arrival, ArrivalBuilder, announced};
+pub use arrival::{Announced, Arrival, ArrivalBuilder, Fed, announced};
 pub use builder::MachineBuilder;
 pub use call::{Call, DiskWork};
 pub use device::Device;

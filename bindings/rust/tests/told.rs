@@ -3,7 +3,7 @@
 mod common;
 use common::{Random, bytes, made};
 use std::fmt::Debug;
-use vmig::{Arrival, Device, Digest, Due, Error, Machine, Memory, Pages};
+use vmig::{Arrival, ArrivalBuilder, Device, Digest, Due, Error, Fed, Machine, Memory, Pages};
 
 /// All that can be taken, in pieces of this length.
 fn taken(machine: &mut Machine, length: usize) -> Vec<u8> {
@@ -202,4 +202,84 @@ fn streams_that_are_cut_at_random_are_those_of_a_twin() {
         twins.send();
         twins.tell();
     }
+}
+
+/// Feeds a stream in pieces of this length, and tells the digest of what was taken, with these bits of its last byte changed. What became of the
+/// last piece.
+fn fed(arrival: &mut Arrival, stream: &[u8], length: usize, changed: u8) -> Result<Fed, Error> {
+    let (mut digest, mut at, mut last) = (Digest::new(), 0, Fed::All);
+    while at < stream.len() {
+        let piece = &stream[at..stream.len().min(at + length)];
+        last = arrival.feed_some(piece)?;
+        let used = if let Fed::Digest(used) = last { used } else { piece.len() };
+        digest.add(&piece[..used]);
+        at += used;
+        if matches!(last, Fed::Digest(_)) {
+            let mut told = digest.clone().end();
+            told[31] ^= changed;
+            assert_eq!((at, arrival.feed_tell(&told)), (stream.len() - 33, Ok(())));
+        }
+        assert_eq!((arrival.feed_tell(&[0; 32]), arrival.feed(&[5])), (Err(Error::NotAsked), Err(Error::NotAsked)));
+    }
+    Ok(last)
+}
+
+fn told() -> ArrivalBuilder {
+    Arrival::builder().most_sectors(3).told()
+}
+
+#[test]
+fn a_told_arrival_is_the_machine_that_was_sent() {
+    let mut machine = made(&[Device::Console, Device::disk(3)]);
+    machine.write_ram(0x1ffe, b"written").unwrap();
+    let stream = machine.save().unwrap();
+    for length in [1, 33, 5000, stream.len() - 33, stream.len()] {
+        let over = told().memory(Memory::zeros(16).unwrap());
+        for builder in [told().most_pages(16), over] {
+            let mut arrival = builder.begin().unwrap();
+            assert_eq!(fed(&mut arrival, &stream, length, 0), Ok(Fed::Whole));
+            assert!(arrival.is_whole());
+            assert_eq!(arrival.feed_some(&[]), Ok(Fed::Whole));
+            assert_eq!(arrival.finish().unwrap().save().unwrap(), stream);
+        }
+    }
+}
+
+#[test]
+fn each_damaged_byte_is_refused_as_by_an_arrival_that_digests() {
+    let stream = Machine::builder().pages(1).device(Device::Entropy).build().unwrap().save().unwrap();
+    for at in 0..stream.len() {
+        let mut damaged = stream.clone();
+        damaged[at] ^= 1 << (at % 8);
+        let mut plain = Arrival::builder().most_pages(1).begin().unwrap();
+        let mut arrival = told().most_pages(1).begin().unwrap();
+        let wanted = plain.feed(&damaged).and(plain.finish().map_err(|refused| refused.error).map(drop));
+        let got = fed(&mut arrival, &damaged, 7, 0).and(arrival.finish().map_err(|refused| refused.error).map(drop));
+        assert!(wanted.is_err(), "byte {at}");
+        assert_eq!(got, wanted, "byte {at}");
+    }
+}
+
+#[test]
+fn another_digest_is_refused_and_what_came_is_given_back() {
+    let mut machine = made(&[Device::Entropy]);
+    machine.write_ram(0x1ffe, b"written").unwrap();
+    let stream = machine.save().unwrap();
+    for length in [1, 100, stream.len()] {
+        let mut arrival = told().memory(Memory::zeros(16).unwrap()).begin().unwrap();
+        assert_eq!(fed(&mut arrival, &stream, length, 1), Err(Error::StreamBadDigest));
+        assert_eq!((arrival.feed_some(&[0]), arrival.feed_tell(&[0; 32])), (Err(Error::StreamFailed), Err(Error::StreamFailed)));
+        assert_eq!(arrival.fault().unwrap().0, Error::StreamBadDigest);
+        let memory = arrival.into_parts().memory.unwrap();
+        assert_eq!(Machine::builder().memory(memory).device(Device::Entropy).build().unwrap().save().unwrap(), stream);
+    }
+}
+
+#[test]
+fn an_arrival_that_digests_is_told_nothing() {
+    let stream = made(&[Device::Entropy]).save().unwrap();
+    let mut arrival = Arrival::builder().most_pages(16).begin().unwrap();
+    assert_eq!((arrival.feed_some(&stream[..50]), arrival.feed_tell(&[0; 32])), (Ok(Fed::All), Err(Error::NotAsked)));
+    assert_eq!((arrival.feed_some(&stream[50..]), arrival.feed_tell(&[0; 32])), (Ok(Fed::Whole), Err(Error::NotAsked)));
+    assert_eq!(arrival.finish().unwrap().save().unwrap(), stream);
 }

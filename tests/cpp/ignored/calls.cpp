@@ -50,6 +50,8 @@ namespace {
     m.arrive(nullptr);
     m.arrive_over(nullptr, std::move(own));
     m.feed(bytes, 1);
+    m.feed_some(bytes, 1, nullptr);
+    m.feed_tell({});
     m.finish();
 }
 

@@ -350,7 +350,7 @@ pub struct Left {
 pub const LARGE: u32 = 1;
 /// A flag of a setup and of an arrival: the pages that calls write are logged.
 pub const LOG: u32 = 2;
-/// A flag of `vmig_send_begin_as`: the caller tells the digest of the stream, by `vmig_send_tell`.
+/// A flag of `vmig_send_begin_as` and of an arrival: the caller tells the digest of the stream, by `vmig_send_tell` and `vmig_feed_tell`.
 pub const TOLD: u32 = 4;
 
 /// A network device.
@@ -449,7 +449,7 @@ pub const NOT_OUT: u32 = 28;
 pub const CALLS_OUT: u32 = 29;
 /// Not a multiple of 4,096, or RAM would reach past the last address.
 pub const BAD_BASE: u32 = 30;
-/// `send_tell`: no `TOLD`, or before the stop, or told already.
+/// `send_tell`: no `TOLD`, or before the stop, or told already; `feed_tell`: no digest is due; `feed`: of an arrival with `TOLD`.
 pub const NOT_ASKED: u32 = 31;
 /// `send_page`: another page is next, or none (`send_next`).
 pub const NOT_NEXT: u32 = 32;
@@ -517,6 +517,8 @@ pub const SYNC: u32 = 80;
 pub const CALL: u32 = 81;
 /// Feed: the stream has ended, and is right: call `vmig_finish`.
 pub const WHOLE: u32 = 82;
+/// `feed_some`: the digest is due: tell it by `vmig_feed_tell`, and feed the rest.
+pub const DIGEST: u32 = 83;
 /// `send_next`: no page is due any more in this round, and sectors are.
 pub const SECTORS: u32 = 84;
 
@@ -651,6 +653,12 @@ unsafe extern "C" {
     /// The next bytes of the stream that arrives.
     #[must_use]
     pub fn vmig_feed(machine: *mut Machine, bytes: *const u8, len: usize) -> u32;
+    /// The same of an arrival with `TOLD`, before the record that closes the stream.
+    #[must_use]
+    pub fn vmig_feed_some(machine: *mut Machine, bytes: *const u8, len: usize, used: *mut usize) -> u32;
+    /// Tells the digest that is due.
+    #[must_use]
+    pub fn vmig_feed_tell(machine: *mut Machine, digest: *const [u8; 32]) -> u32;
     /// The handle has the machine that arrived.
     #[must_use]
     pub fn vmig_finish(machine: *mut Machine) -> u32;
