@@ -39,7 +39,8 @@ static void access_register(struct host *h)
     h->statistics.accesses++;
 }
 
-/* Before a reboot, with RAM lent: what the guest boots from is loaded anew. False where it cannot be, and the guest
+/* Before a reboot, with RAM lent: what the guest boots from is loaded anew, with the lock, as who copies would take a page
+ * that is half written for a whole one, and its log for one of this guest. False where it cannot be, and the guest
  * ends: one that was moved here without --kernel has no image here, and a disk that is lost would be used by one that
  * does not know. */
 static int load_again(struct host *h)
@@ -53,8 +54,11 @@ static int load_again(struct host *h)
     why = found.lost != 0 ? "a disk is lost" : h->options.kernel == NULL ? "there is no --kernel here" : "--no-reboot";
     h->has_ended = h->options.kernel == NULL || found.lost != 0 || h->options.no_reboot;
     if (h->has_ended) say("the guest asks for a reboot, and ends: %s", why);
-    else load_guest(h);
-    return !h->has_ended;
+    if (h->has_ended) return 0;
+    enter_library(h);
+    load_guest(h);
+    leave_library(h);
+    return 1;
 }
 
 /* The machine and the board are as they were when the guest was switched on, but for RAM and the disks. */
@@ -173,6 +177,7 @@ static void turn(struct host *h)
 {
     int is_answered = run_guest(h);
 
+    if (is_between_slices(h)) hold_back(h);
     if (h->reboots && !load_again(h)) return;
     if (is_answered && !h->steps_wait && !h->input_waits && !h->reboots && !move_is_due(h)) return;
     enter_library(h);
