@@ -71,7 +71,7 @@ void begin_piece(struct host *h, const uint8_t *bytes, size_t length)
 /* Whether this thread copies, and a round is not sent to its end. */
 static int has_more(const struct host *h)
 {
-    return COPIES_BESIDE && h->move.is_sending && !h->move.rounds_are_over;
+    return COPIES_BESIDE && h->move.is_sending && !h->move.rounds_are_over && h->move.failed == NULL;
 }
 
 /* Waits for the bell, and hears what the target says meanwhile. */
@@ -80,18 +80,17 @@ static const char *await_more(struct line *l)
     return line_wait(l, l->is_file ? -1 : l->socket, POLLIN, -1) > 0 ? line_says(l) : NULL;
 }
 
-/* What waits in the machine goes into a frame. Where nothing does, some of what is due is copied before. Returns why
- * the move is over, or NULL. */
-static const char *fill_frame(struct host *h, uint8_t bytes[BODY_MAX], size_t *got)
+/* What waits in the machine goes into a frame. Where nothing does, some of what is due is copied before. Returns how
+ * many bytes it has. */
+static size_t fill_frame(struct host *h, uint8_t bytes[BODY_MAX])
 {
-    size_t most = h->options.digest_is_own ? OWN_PIECE : BODY_MAX;
-    const char *why = NULL;
+    size_t most = h->options.digest_is_own ? OWN_PIECE : BODY_MAX, got = 0;
 
-    must(vmig_send_take(&h->machine, bytes, most, got), "vmig_send_take");
-    if (*got > 0 || !has_more(h)) return NULL;
-    why = copy_some(h);
-    if (why == NULL) must(vmig_send_take(&h->machine, bytes, most, got), "vmig_send_take");
-    return why;
+    must(vmig_send_take(&h->machine, bytes, most, &got), "vmig_send_take");
+    if (got > 0 || !has_more(h)) return got;
+    h->move.failed = copy_some(h);
+    must(vmig_send_take(&h->machine, bytes, most, &got), "vmig_send_take");
+    return got;
 }
 
 /* With the lock, which is free while it digests, sends or waits. Returns why the move is over, or NULL. */
@@ -101,11 +100,10 @@ static const char *carry_some(struct host *h)
     struct move *m = &h->move;
     struct line *l = &m->line;
     size_t got = 0;
-    const char *why = NULL;
+    const char *why;
     int waits;
 
-    if (m->is_sending && l->out_at == l->out_length) why = fill_frame(h, bytes, &got);
-    if (why != NULL) return why;
+    if (m->is_sending && l->out_at == l->out_length) got = fill_frame(h, bytes);
     m->is_carried = got == 0 && l->out_at == l->out_length && !has_more(h);
     waits = m->is_carried;
     if (waits) call_out(h);

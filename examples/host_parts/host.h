@@ -43,6 +43,7 @@ struct move {
     struct digest digest;        /* of what was taken of the stream, by whoever takes: unless --digest own is given */
     int is_stopped;              /* vmig_send_stop was called */
     int rounds_are_over;         /* the guest is to be paused */
+    const char *failed;          /* why nothing can be copied, or NULL */
     uint64_t *pending;           /* bit n of word k: page 64 k + n was written since its copy began (rounds.c) */
     uint64_t fetched;            /* the pages below it were looked up in the guest's log in this round */
     unsigned pauses;             /* how often the guest was paused */

@@ -124,8 +124,8 @@ static int is_enough(struct host *h, const vmig_left *found)
     m->lefts[STALLS_MAX - 1] = left;
     if (left <= h->options.few || m->round >= h->options.rounds) return 1;
     if (m->stalls > 0 && hold_back_more(h)) m->stalls = 0;
-    if (m->stalls == STALLS_MAX) say_trend(m, found->stop_bytes);
-    return m->stalls == STALLS_MAX;
+    if (m->stalls >= STALLS_MAX) say_trend(m, found->stop_bytes);
+    return m->stalls >= STALLS_MAX;
 }
 
 /* A round was sent. What is left counts pages that were named, so these are named before it is asked; then the next

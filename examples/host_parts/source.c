@@ -144,6 +144,7 @@ static const char *begin_move(struct host *h)
     m->is_on = 1;
     m->has_met = m->is_sending = m->is_stopped = m->rounds_are_over = 0;
     m->is_carried = m->is_broken = 0;
+    m->failed = NULL;
     m->pauses = 0;
     m->outside = m->paused_at = m->held = 0;
     m->stopped = 0;
@@ -471,6 +472,7 @@ static int move_on(struct host *h)
     if (!m->is_on) why = begin_move(h);
     else if (operator_words.continues) why = CANCELLED;
     else if (m->is_broken) why = m->why;
+    else if (m->failed != NULL) why = m->failed;
     else if (!is_between_slices(h) || !m->is_carried) return 1;
     else if (m->rounds_are_over) return finish_move(h);
     else why = m->is_sending ? copy_here(h) : begin_sending(h);
