@@ -1,8 +1,8 @@
 /* A guest in ring 3 that writes memory at a rate: a page after another, each drawn anew, with bytes of its own that
- * depend on how often it was written. It keeps these counts, and waits for a byte at the UART. The letter `e` ends it:
- * then all pages are compared with their counts, which is printed, and one that is not as it was written last is
- * found. It is told by ring3.c how much RAM there is, the frequency of its TSC, and how many MB it writes a second: 0
- * is as many as it can. */
+ * depend on how often it was written. It keeps these counts. Before it writes a page it compares what lies there with
+ * its count, and all pages once the letter `e` comes at the UART, which ends it: it prints how many it wrote, and how
+ * many were not as they were written last. It is told by ring3.c how much RAM there is, the frequency of its TSC, and
+ * how many MB it writes a second: 0 is as many as it can. */
 #include <stdint.h>
 
 enum { TOLD_AT = 0x90100, AREA = 0x400000, PAGE = 4096, WORDS = PAGE / 8, COUNTS = 0x200000 };
@@ -15,6 +15,7 @@ static volatile const struct {
 
 /* How often each page was written: it lies in RAM too, below the area. */
 static uint32_t *const counts = (uint32_t *)COUNTS;
+static uint64_t wrong;
 
 __asm__(".section .text.start, \"ax\"\n"
         ".globl start\n"
@@ -56,14 +57,6 @@ static uint64_t mix(uint64_t a, uint64_t b)
     return (a + 1) * UINT64_C(0x9e3779b97f4a7c15) ^ b * UINT64_C(0x100000001b3);
 }
 
-static void write_page(uint64_t page)
-{
-    volatile uint64_t *at = (volatile uint64_t *)(AREA + page * PAGE);
-    uint32_t count = ++counts[page];
-
-    for (uint64_t i = 0; i < WORDS; i++) at[i] = mix(page * WORDS + i, count);
-}
-
 static int is_wrong(uint64_t page)
 {
     const volatile uint64_t *at = (const volatile uint64_t *)(AREA + page * PAGE);
@@ -74,11 +67,26 @@ static int is_wrong(uint64_t page)
     return 0;
 }
 
+static void write_page(uint64_t page)
+{
+    volatile uint64_t *at = (volatile uint64_t *)(AREA + page * PAGE);
+    uint32_t count;
+
+    wrong += (uint64_t)is_wrong(page);
+    count = ++counts[page];
+    for (uint64_t i = 0; i < WORDS; i++) at[i] = mix(page * WORDS + i, count);
+}
+
+/* That all counts are those of one moment is seen by their sum, which is in a register meanwhile. */
 __attribute__((noreturn)) static void end(uint64_t pages, uint64_t written)
 {
-    uint64_t wrong = 0;
+    uint64_t sum = 0;
 
-    for (uint64_t page = 0; page < pages; page++) wrong += (uint64_t)is_wrong(page);
+    for (uint64_t page = 0; page < pages; page++) {
+        wrong += (uint64_t)is_wrong(page);
+        sum += counts[page];
+    }
+    wrong += sum != written;
     print("busy: ");
     print_number(written);
     print(" written, ");
