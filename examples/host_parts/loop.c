@@ -39,8 +39,8 @@ static void access_register(struct host *h)
     h->statistics.accesses++;
 }
 
-/* Before a reboot, with RAM lent: what the guest boots from is loaded anew, with the lock, as who copies would take a page
- * that is half written for a whole one, and its log for one of this guest. False where it cannot be, and the guest
+/* Before a reboot, with RAM lent: what the guest boots from is loaded anew. It is done with the lock: who copies for a
+ * move would find the guest's log gone meanwhile. False where it cannot be, and the guest
  * ends: one that was moved here without --kernel has no image here, and a disk that is lost would be used by one that
  * does not know. */
 static int load_again(struct host *h)

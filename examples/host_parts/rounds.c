@@ -105,8 +105,8 @@ static double estimate(const struct move *m, uint64_t bytes)
 /* The guest writes as fast as it is sent. */
 static void say_trend(const struct move *m, uint64_t bytes)
 {
-    say("move: the guest writes as fast as it is sent: the last three rounds left %llu, %llu and %llu; a pause now takes "
-        "some %.0f ms",
+    say("move: the guest writes as fast as it is sent: the last three rounds left %llu, %llu and %llu; a pause now "
+        "takes some %.0f ms",
         (unsigned long long)m->lefts[0], (unsigned long long)m->lefts[1], (unsigned long long)m->lefts[2],
         estimate(m, bytes));
 }

@@ -46,7 +46,7 @@ int kvm_run_guest(struct kvm *k);
 /* The log of the pages that the guest writes is on while it is moved. */
 const char *kvm_log(struct kvm *k, int on);
 /* Sets the bits of the pages that the log has, of `count` from `first` on, whole words both, and clears these pages in
- * the log. A kernel that cannot clear pages alone clears all of them, and the bits of all are set. The guest may run. */
+ * the log. A kernel that cannot clear some alone clears all, and sets the bits of all. The guest may run. */
 const char *kvm_fetch_log(struct kvm *k, uint64_t *bits, uint64_t first, uint64_t count);
 
 /* Interrupt n gets the level of bit n. KVM is informed of changes alone, and once of each line: a level is no part of

@@ -1,7 +1,8 @@
-/* How long it takes to send a page while RAM is lent, beside memcpy in the same run: `handings PAGES` sends the pages of a machine one by
- * one, and prints the nanoseconds of processor time of vmig_send_next, of vmig_copy_page, of vmig_send_page and of all three, of pages that are
- * full and of pages of zeros: the least and the mean of groups of 64. The bytes are taken between the groups, and are not timed; the
- * digest is told. With no words it sends a small machine and prints nothing. Measure with `CFLAGS=-O2`. */
+/* How long it takes to send a page while RAM is lent, beside memcpy in the same run: `handings PAGES` sends the pages of
+ * a machine one by one, and prints the nanoseconds of processor time of vmig_send_next, of vmig_copy_page, of
+ * vmig_send_page and of all three, of pages that are full and of pages of zeros: the least and the mean of groups of
+ * 64. The bytes are taken between the groups, and are not timed; the digest is told. With no words it sends a small
+ * machine and prints nothing. Measure with `CFLAGS=-O2`. */
 #define _POSIX_C_SOURCE 200809L
 #include <stdlib.h>
 #include <time.h>
@@ -67,7 +68,7 @@ static void look(vmig_machine *m, uint32_t wanted, times *t)
     note(t, now() - begun);
 }
 
-/* The first half of the groups is sent with all three calls, of the second half vmig_send_page alone is timed. */
+/* All three calls, page by page. */
 static void send_group(vmig_machine *m, const uint8_t *ram, uint32_t first, times *t)
 {
     static _Alignas(8) uint8_t bytes[GROUP][PAGE];
@@ -82,6 +83,7 @@ static void send_group(vmig_machine *m, const uint8_t *ram, uint32_t first, time
     note(t, now() - begun);
 }
 
+/* vmig_send_page alone is timed. */
 static void hand_in_group(vmig_machine *m, const uint8_t *ram, uint32_t first, times *t)
 {
     static _Alignas(8) uint8_t bytes[GROUP][PAGE];
