@@ -40,9 +40,8 @@ static void access_register(struct host *h)
 }
 
 /* Before a reboot, with RAM lent: what the guest boots from is loaded anew. It is done with the lock: who copies for a
- * move would find the guest's log gone meanwhile. False where it cannot be, and the guest
- * ends: one that was moved here without --kernel has no image here, and a disk that is lost would be used by one that
- * does not know. */
+ * move would find the guest's log gone meanwhile. False where it cannot be, and the guest ends: one that was moved here
+ * without --kernel has no image here, and a disk that is lost would be used by one that does not know. */
 static int load_again(struct host *h)
 {
     vmig_description found;
@@ -50,15 +49,12 @@ static int load_again(struct host *h)
 
     enter_library(h);
     vmig_describe(&h->machine, &found);
-    leave_library(h);
     why = found.lost != 0 ? "a disk is lost" : h->options.kernel == NULL ? "there is no --kernel here" : "--no-reboot";
     h->has_ended = h->options.kernel == NULL || found.lost != 0 || h->options.no_reboot;
-    if (h->has_ended) say("the guest asks for a reboot, and ends: %s", why);
-    if (h->has_ended) return 0;
-    enter_library(h);
-    load_guest(h);
+    if (!h->has_ended) load_guest(h);
     leave_library(h);
-    return 1;
+    if (h->has_ended) say("the guest asks for a reboot, and ends: %s", why);
+    return !h->has_ended;
 }
 
 /* The machine and the board are as they were when the guest was switched on, but for RAM and the disks. */
