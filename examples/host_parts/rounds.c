@@ -144,13 +144,21 @@ static const char *end_round(struct host *h)
     return m->rounds_are_over ? NULL : next_round(h);
 }
 
+/* Who waits for the lock has it before the next page: an access to a register waits for one page. Meanwhile RAM may be
+ * taken back and lent anew; the move ends only once this thread has ended. */
+static void let_others(struct host *h)
+{
+    unlock_library(h);
+    lock_library(h);
+}
+
 const char *copy_some(struct host *h)
 {
     uint64_t end = clock_nanoseconds() + COPY_NANOSECONDS;
     vmig_status status;
 
-    do status = copy_one(h);
-    while (status == VMIG_OK && clock_nanoseconds() < end);
+    while ((status = copy_one(h)) == VMIG_OK && clock_nanoseconds() < end)
+        if (COPIES_BESIDE) let_others(h);
     if (vmig_refused(status)) return OUT_OF_MEMORY;
     say_progress(h);
     return status == VMIG_ROUND_DONE ? end_round(h) : NULL;

@@ -11,7 +11,7 @@
 enum { GUEST_KIND = 2 };
 #define GUEST_NAME "KVM"
 
-/* Pages are copied while the guest runs, and for how long the lock is held at once for that. */
+/* Pages are copied while the guest runs, for this long until the bytes that wait are taken. */
 enum { COPIES_BESIDE = 1, COPY_NANOSECONDS = 50000 };
 
 struct guest {
