@@ -1,5 +1,5 @@
 /* The carrier of a move, a thread: it connects the line, or makes the file of a guest that is saved, and while the
- * guest runs it alone sends, digests and hears there. */
+ * guest runs it alone sends, digests and hears there, and copies what it sends (rounds.c). */
 #define _DEFAULT_SOURCE
 #include <poll.h>
 #include <string.h>
@@ -49,7 +49,7 @@ static const char *meet(struct host *h)
 /* Sends the frame that is begun, and hears what the target says meanwhile. Returns why the move is over, or NULL. */
 static const char *send_frame(struct line *l)
 {
-    const char *why = NULL;
+    const char *why = l->is_file ? NULL : line_says(l);
     int pushed;
 
     while (why == NULL && !l->stops && (pushed = line_push(l)) <= 0) {
@@ -68,28 +68,48 @@ void begin_piece(struct host *h, const uint8_t *bytes, size_t length)
     line_begin(&h->move.line, STREAM, bytes, length);
 }
 
+/* Whether this thread copies, and a round is not sent to its end. */
+static int has_more(const struct host *h)
+{
+    return COPIES_BESIDE && h->move.is_sending && !h->move.rounds_are_over && h->move.failed == NULL;
+}
+
 /* Waits for the bell, and hears what the target says meanwhile. */
 static const char *await_more(struct line *l)
 {
     return line_wait(l, l->is_file ? -1 : l->socket, POLLIN, -1) > 0 ? line_says(l) : NULL;
 }
 
-/* With the lock, which is free while it sends or waits. Returns why the move is over, or NULL. */
+/* What waits in the machine goes into a frame. Where nothing does, some of what is due is copied before. Returns how
+ * many bytes it has. */
+static size_t fill_frame(struct host *h, uint8_t bytes[BODY_MAX])
+{
+    size_t most = h->options.digest_is_own ? OWN_PIECE : BODY_MAX, got = 0;
+
+    must(vmig_send_take(&h->machine, bytes, most, &got), "vmig_send_take");
+    if (got > 0 || !has_more(h)) return got;
+    h->move.failed = copy_some(h);
+    must(vmig_send_take(&h->machine, bytes, most, &got), "vmig_send_take");
+    return got;
+}
+
+/* With the lock, which is free while it digests, sends or waits. Returns why the move is over, or NULL. */
 static const char *carry_some(struct host *h)
 {
     static uint8_t bytes[BODY_MAX];
     struct move *m = &h->move;
     struct line *l = &m->line;
-    size_t got = 0, most = h->options.digest_is_own ? OWN_PIECE : BODY_MAX;
+    size_t got = 0;
     const char *why;
+    int waits;
 
-    if (m->is_sending && l->out_at == l->out_length)
-        must(vmig_send_take(&h->machine, bytes, most, &got), "vmig_send_take");
-    m->is_carried = got == 0 && l->out_at == l->out_length;
-    if (m->is_carried) call_out(h);
+    if (m->is_sending && l->out_at == l->out_length) got = fill_frame(h, bytes);
+    m->is_carried = got == 0 && l->out_at == l->out_length && !has_more(h);
+    waits = m->is_carried;
+    if (waits) call_out(h);
     unlock_library(h);
     if (got > 0) begin_piece(h, bytes, got);
-    why = l->out_at == l->out_length ? await_more(l) : send_frame(l);
+    why = waits ? await_more(l) : send_frame(l);
     lock_library(h);
     return why;
 }

@@ -16,6 +16,9 @@
 #include "storage.h"
 #include "uart.h"
 
+/* The rounds of a move, one after another, that leave hardly less than one before, until the guest is paused. */
+enum { STALLS_MAX = 3 };
+
 /* The random bytes that wait for the guest. */
 enum { POOL = 64 };
 
@@ -39,15 +42,23 @@ struct move {
     int is_on, is_sending;       /* a move is on; vmig_send_begin_as was called */
     struct digest digest;        /* of what was taken of the stream, by whoever takes: unless --digest own is given */
     int is_stopped;              /* vmig_send_stop was called */
-    int round_is_sent;
+    int rounds_are_over;         /* the guest is to be paused */
+    const char *failed;          /* why nothing can be copied, or NULL */
+    uint64_t *pending;           /* bit n of word k: page 64 k + n was written since its copy began (rounds.c) */
+    uint64_t fetched;            /* the pages below it were looked up in the guest's log in this round */
     unsigned pauses;             /* how often the guest was paused */
-    uint64_t until;              /* when the pause has to be over */
+    uint64_t paused_at, until;   /* when, or 0; and when the pause has to be over */
+    double stopped;              /* the milliseconds of all pauses */
+    uint64_t outside, entered;   /* nanoseconds for which its thread did something for the move; since when it does */
+    atomic_uint held;            /* the milliseconds of each ten for which the guest is held back */
+    uint64_t runs_until;         /* and when it is held back next */
     uint32_t round;
     uint64_t pages, sectors;     /* that the round sends */
     _Atomic uint64_t sent;       /* bytes of the stream that were put on the line */
     uint64_t sent_before, round_began, renewed;  /* as the round began; when it did; and when progress was said last */
     uint64_t least;              /* the least that a round left */
     int stalls;                  /* how many rounds left hardly less than that, one after another */
+    uint64_t lefts[STALLS_MAX];  /* what the last rounds left */
 };
 
 struct statistics {
@@ -116,8 +127,9 @@ void board_reset(struct host *h);
 /* From here on each page that the guest, or load_guest, writes is in the log. Returns why there is none, or NULL. */
 const char *log_begins(struct host *h);
 void log_ends(struct host *h);
-/* Names what the log has, and empties it. The guest is outside, and what is named lasts until it runs. */
-void log_read(struct host *h, vmig_pages *written);
+/* Sets the bits of the pages that the log has, of `count` from `first` on, and the log forgets these pages. Others may
+ * be set too, and are forgotten then. Where COPIES_BESIDE is 1 the guest may run. */
+void log_fetch(struct host *h, uint64_t *bits, uint64_t first, uint64_t count);
 
 /* The guest's clock stops, and continues from where it stopped. */
 void stop_clock(struct host *h);
@@ -192,7 +204,23 @@ void end_carrier(struct host *h);
 /* What came on the line while nothing is awaited, without waiting: why the move is over, or NULL. */
 const char *line_says(struct line *l);
 
-/* progress.c: a round begins; and how far it is, now and then. RAM is not lent. */
+/* rounds.c, all of it with the lock: the first round begins, and the log; the next one does, while what is due of this
+ * one is still due; and some of what is due is copied, while RAM is lent, a round ends, or the rounds are over
+ * (rounds_are_over). All return why the move is over, or NULL. */
+const char *begin_rounds(struct host *h);
+const char *next_round(struct host *h);
+const char *copy_some(struct host *h);
+/* Names all that was written since it was copied. Returns why it cannot, or NULL: the move is over then. */
+const char *name_pages(struct host *h);
+
+/* throttle.c: the share for which the guest is held back grows. False where it does not, or no longer. */
+int hold_back_more(struct host *h);
+/* The guest's thread waits, where it is held back and has run for its share of the time. */
+void hold_back(struct host *h);
+/* How long the guest may run until then, or -1. */
+int milliseconds_until_held(const struct host *h);
+
+/* progress.c: a round begins; and how far it is, now and then. */
 void begin_progress(struct host *h);
 void say_progress(struct host *h);
 

@@ -39,9 +39,9 @@ static void access_register(struct host *h)
     h->statistics.accesses++;
 }
 
-/* Before a reboot, with RAM lent: what the guest boots from is loaded anew. False where it cannot be, and the guest
- * ends: one that was moved here without --kernel has no image here, and a disk that is lost would be used by one that
- * does not know. */
+/* Before a reboot, with RAM lent: what the guest boots from is loaded anew. It is done with the lock: who copies for a
+ * move would find the guest's log gone meanwhile. False where it cannot be, and the guest ends: one that was moved here
+ * without --kernel has no image here, and a disk that is lost would be used by one that does not know. */
 static int load_again(struct host *h)
 {
     vmig_description found;
@@ -49,11 +49,11 @@ static int load_again(struct host *h)
 
     enter_library(h);
     vmig_describe(&h->machine, &found);
-    leave_library(h);
     why = found.lost != 0 ? "a disk is lost" : h->options.kernel == NULL ? "there is no --kernel here" : "--no-reboot";
     h->has_ended = h->options.kernel == NULL || found.lost != 0 || h->options.no_reboot;
+    if (!h->has_ended) load_guest(h);
+    leave_library(h);
     if (h->has_ended) say("the guest asks for a reboot, and ends: %s", why);
-    else load_guest(h);
     return !h->has_ended;
 }
 
@@ -173,6 +173,7 @@ static void turn(struct host *h)
 {
     int is_answered = run_guest(h);
 
+    if (is_between_slices(h)) hold_back(h);
     if (h->reboots && !load_again(h)) return;
     if (is_answered && !h->steps_wait && !h->input_waits && !h->reboots && !move_is_due(h)) return;
     enter_library(h);

@@ -44,6 +44,7 @@ static int *flag_of(struct options *o, const char *option)
 {
     if (strcmp(option, "--stats") == 0) return &o->stats;
     if (strcmp(option, "--no-reboot") == 0) return &o->no_reboot;
+    if (strcmp(option, "--throttle") == 0) return &o->throttle;
     return strcmp(option, "--shared") == 0 ? &o->is_shared : NULL;
 }
 

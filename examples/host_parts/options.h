@@ -20,6 +20,7 @@ struct options {
     struct disk_option disks[DISKS_MAX];
     unsigned count_disks, mib, mtu, rounds, few, pause_ms, max_tries;  /* mtu: 0 where none is offered */
     int stats, no_reboot;
+    int throttle;       /* a guest that writes faster than it is sent is held back */
     int digest_is_own;  /* the library digests what is moved, and no thread of the program */
     int is_shared;      /* both hosts of a move have the files of the disks that are not mapped */
     int stops_on_error; /* a read or write that fails stops the guest */

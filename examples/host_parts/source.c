@@ -10,17 +10,12 @@
 #include "say.h"
 #include "terminal.h"
 
-/* What is copied at once between two slices of the guest, once the carrier has carried what was copied before:
- * pages, then sectors. That is done again until the guest was outside for this time, as pages of zeros are copied
- * fast: some 700 KB at most. And what goes at once of the last round. */
-enum { ITEMS_A_COPY = 64, COPY_NANOSECONDS = 300000, ITEMS_A_PIECE = 16 };
+/* What goes at once of the last round. */
+enum { ITEMS_A_PIECE = 16 };
 
 /* How long a target is told that no guest comes, where the program ends. A guest that goes on waits for that no
  * moment. */
 enum { TELL_MS = 500 };
-
-/* The rounds, one after another, that leave hardly less than one before, until the guest is paused. */
-enum { STALLS_MAX = 3 };
 
 static const char BROKEN[] = "the line is broken", OUT_OF_MEMORY[] = "out of memory";
 static const char CANCELLED[] = "its operator cancels it", TOO_LONG[] = "the pause would last longer than --pause-ms";
@@ -63,17 +58,44 @@ void leave_line(struct host *h, const char *why)
     m->is_on = 0;
 }
 
+static double milliseconds_since(uint64_t then)
+{
+    return (double)(clock_nanoseconds() - then) / 1e6;
+}
+
+/* The pause is over: how long it was, in milliseconds. */
+static double end_pause(struct host *h)
+{
+    double passed = milliseconds_since(h->move.paused_at);
+
+    h->move.stopped += passed;
+    h->move.paused_at = 0;
+    return passed;
+}
+
+/* How long the guest's processor was outside for its move, and how much of that it was paused. */
+static void say_outside(struct host *h)
+{
+    struct move *m = &h->move;
+
+    if (m->paused_at != 0) end_pause(h);
+    say("%s: outside for %.1f ms in all, of which the stop %.1f", GUEST_NAME,
+        (double)m->outside / 1e6 + milliseconds_since(m->entered), m->stopped);
+}
+
 /* The move is over, and the guest continues here. */
 static int give_up(struct host *h, const char *why)
 {
     struct move *m = &h->move;
+    int was_sending = m->is_on && m->is_sending;
 
+    m->held = 0;
     if (m->is_on) {
         end_carrier(h);
         tell_end(h, why, 0);
         close_line(h);
     }
-    if (m->is_on && m->is_sending) {
+    if (was_sending) {
         log_ends(h);
         take_ram(h);
         must(vmig_send_abort(&h->machine), "vmig_send_abort");
@@ -81,6 +103,7 @@ static int give_up(struct host *h, const char *why)
     }
     m->is_on = m->is_sending = 0;
     say("move: %s: the guest continues here", why);
+    if (was_sending) say_outside(h);
     return 1;
 }
 
@@ -109,19 +132,6 @@ static void begin_hello(struct host *h)
     line_begin(&h->move.line, HELLO, bytes, HELLO_LENGTH + facts_write(h, bytes + HELLO_LENGTH));
 }
 
-/* A round begins: it sends what is due. That is asked once a round, as it takes the longer the more RAM there is. */
-static void begin_round(struct host *h, uint32_t number)
-{
-    vmig_left left;
-
-    must(vmig_send_left(&h->machine, &left), "vmig_send_left");
-    h->move.round = number;
-    h->move.round_is_sent = 0;
-    h->move.pages = left.due_pages;
-    h->move.sectors = left.due_sectors;
-    begin_progress(h);
-}
-
 /* Begins a move: the carrier meets the target. Returns why there is none, or NULL. */
 static const char *begin_move(struct host *h)
 {
@@ -132,11 +142,12 @@ static const char *begin_move(struct host *h)
     if (devices_ask(&h->devices) && !h->options.is_shared)
         return "a disk of --disk is in no stream: it moves with --shared alone";
     m->is_on = 1;
-    m->has_met = m->is_sending = m->is_stopped = 0;
+    m->has_met = m->is_sending = m->is_stopped = m->rounds_are_over = 0;
     m->is_carried = m->is_broken = 0;
-    m->least = UINT64_MAX;
-    m->stalls = 0;
+    m->failed = NULL;
     m->pauses = 0;
+    m->outside = m->paused_at = m->held = 0;
+    m->stopped = 0;
     say("move: to %s begins", h->options.save != NULL ? h->options.save : h->options.connect);
     line_prepare(&m->line, operator_bell, HEARS_CANCEL);
     m->line.is_file = h->options.save != NULL;
@@ -155,9 +166,23 @@ static const char *begin_sending(struct host *h)
     if (vmig_send_begin_as(&h->machine, h->options.digest_is_own ? 0 : VMIG_TOLD) != VMIG_OK) return OUT_OF_MEMORY;
     h->move.is_sending = 1;
     line_be_patient(&h->move.line);
-    begin_round(h, 1);
-    why = log_begins(h);
-    return why == NULL ? state_prepare(h) : why;
+    why = begin_rounds(h);
+    if (why == NULL) why = state_prepare(h);
+    h->move.is_carried = 0;
+    wake_carrier(h);
+    return why;
+}
+
+/* Where the carrier does not copy: some of what is due, between two slices of the guest. */
+static const char *copy_here(struct host *h)
+{
+    const char *why;
+
+    lend_ram(h);
+    why = copy_some(h);
+    h->move.is_carried = 0;
+    wake_carrier(h);
+    return why;
 }
 
 /* Fills the frame that goes next with what waits in the machine. False where nothing does. */
@@ -169,45 +194,6 @@ static int begin_stream(struct host *h)
     must(vmig_send_take(&h->machine, bytes, sizeof bytes, &got), "vmig_send_take");
     if (got > 0) begin_piece(h, bytes, got);
     return got > 0;
-}
-
-/* Copies some of what is due. Returns why the move is over, or NULL. */
-static const char *copy_some(struct host *h)
-{
-    struct move *m = &h->move;
-    uint64_t end = clock_nanoseconds() + COPY_NANOSECONDS;
-    vmig_status status;
-
-    take_ram(h);
-    do status = vmig_send_some(&h->machine, ITEMS_A_COPY);
-    while (status == VMIG_OK && clock_nanoseconds() < end);
-    if (vmig_refused(status)) return OUT_OF_MEMORY;
-    m->round_is_sent = status == VMIG_ROUND_DONE;
-    say_progress(h);
-    m->is_carried = 0;
-    wake_carrier(h);
-    return NULL;
-}
-
-/* Names the pages that were written since the log was last read. What the log had is lost where they cannot be
- * named: the move is over then. */
-static const char *name_pages(struct host *h)
-{
-    vmig_pages written = VMIG_NO_PAGES;
-
-    log_read(h, &written);
-    return vmig_mark(&h->machine, &written) == VMIG_OK ? NULL : OUT_OF_MEMORY;
-}
-
-/* Whether the rounds are to end: few items are left, or it was the last round, or rounds shrink no more. One round
- * says little about that, as guests write in bursts. */
-static int is_enough(struct host *h, uint64_t left)
-{
-    struct move *m = &h->move;
-
-    m->stalls = left > m->least / 10 * 9 ? m->stalls + 1 : 0;
-    if (left < m->least) m->least = left;
-    return left <= h->options.few || m->round >= h->options.rounds || m->stalls == STALLS_MAX;
 }
 
 /* All that waits in the machine goes over the line. A line that takes all at once waits for nothing, so that the pause
@@ -363,25 +349,20 @@ static int come_back_refused(struct host *h)
     return come_back(h, why);
 }
 
-static double milliseconds_since(uint64_t then)
-{
-    return (double)(clock_nanoseconds() - then) / 1e6;
-}
-
 /* The pause is over, and nothing was stopped in the machine: what is left goes with one round more while the guest
  * runs on. */
-static int go_on(struct host *h, uint64_t paused)
+static int go_on(struct host *h)
 {
     struct move *m = &h->move;
-    vmig_status status = vmig_send_round(&h->machine);
-    const char *why = vmig_refused(status) ? OUT_OF_MEMORY : NULL;
+    const char *why = next_round(h);
 
-    say("move: the guest was paused for %.1f ms, and runs on here while it is moved", milliseconds_since(paused));
+    say("move: the guest was paused for %.1f ms, and runs on here while it is moved", end_pause(h));
     fill_pool(h);
-    begin_round(h, m->round + 1);
     start_clock(h);
     h->steps_wait = 1;
+    m->is_carried = 0;
     if (why == NULL && !m->has_carrier) why = begin_carrier(h);
+    else wake_carrier(h);
     return why == NULL ? 1 : give_up(h, why);
 }
 
@@ -397,6 +378,21 @@ static const char *await_storage(struct host *h)
         if (operator_words.continues) return CANCELLED;
         if (clock_nanoseconds() >= m->until) return TOO_LONG;
     }
+    return NULL;
+}
+
+/* The guest is outside: what it wrote up to here is named, and counted. Returns what is wrong, or NULL. */
+static const char *say_left(struct host *h)
+{
+    vmig_left found;
+    const char *why;
+
+    take_ram(h);
+    why = name_pages(h);
+    if (why != NULL) return why;
+    must(vmig_send_left(&h->machine, &found), "vmig_send_left");
+    say("move: the guest is paused: %llu pages and %llu sectors are left", (unsigned long long)found.dirty_pages,
+        (unsigned long long)found.dirty_sectors);
     return NULL;
 }
 
@@ -416,25 +412,26 @@ static const char *hand_over(struct host *h)
 }
 
 /* It runs here no more. */
-static int is_away(struct host *h, const char *what, const char *where, uint64_t paused)
+static int is_away(struct host *h, const char *what, const char *where)
 {
     line_close(&h->move.line);
     h->move.is_on = 0;
     h->is_gone = 1;
-    say("move: the guest %s %s; it was paused for %.1f ms", what, where, milliseconds_since(paused));
+    say("move: the guest %s %s; it was paused for %.1f ms", what, where, end_pause(h));
+    say_outside(h);
     return 0;
 }
 
 /* That the file has its name is the last word. */
-static int finish_save(struct host *h, uint64_t paused)
+static int finish_save(struct host *h)
 {
     const char *why = saved_keep(h->options.save);
 
-    return why == NULL ? is_away(h, "is saved in", h->options.save, paused) : come_back(h, why);
+    return why == NULL ? is_away(h, "is saved in", h->options.save) : come_back(h, why);
 }
 
 /* GO was the last word. */
-static int await_runs(struct host *h, uint64_t paused)
+static int await_runs(struct host *h)
 {
     struct line *l = &h->move.line;
 
@@ -443,7 +440,7 @@ static int await_runs(struct host *h, uint64_t paused)
     line_hurry(l);
     if (!line_send(l, GO, NULL, 0) || !line_receive(l)) return keep(h);
     if (l->type == REFUSED) return come_back_refused(h);
-    return l->type == RUNS ? is_away(h, "runs at", h->options.connect, paused) : keep(h);
+    return l->type == RUNS ? is_away(h, "runs at", h->options.connect) : keep(h);
 }
 
 /* The guest is paused, and the rest of it is sent. Once all is there it is let go. It runs on here where that takes
@@ -451,57 +448,45 @@ static int await_runs(struct host *h, uint64_t paused)
 static int finish_move(struct host *h)
 {
     struct move *m = &h->move;
-    uint64_t paused = clock_nanoseconds();
     const char *why;
 
-    m->until = paused + h->options.pause_ms * UINT64_C(1000000);
+    m->paused_at = clock_nanoseconds();
+    m->until = m->paused_at + h->options.pause_ms * UINT64_C(1000000);
     m->pauses++;
     stop_clock(h);
-    why = await_storage(h);
+    why = say_left(h);
+    if (why == NULL) why = await_storage(h);
     if (why == NULL) why = hand_over(h);
-    if (why == NULL) return m->line.is_file ? finish_save(h, paused) : await_runs(h, paused);
-    if (why == TOO_LONG && !m->is_stopped && m->pauses < h->options.max_tries) return go_on(h, paused);
-    say("move: the guest was paused for %.1f ms", milliseconds_since(paused));
+    if (why == NULL) return m->line.is_file ? finish_save(h) : await_runs(h);
+    if (why == TOO_LONG && !m->is_stopped && m->pauses < h->options.max_tries) return go_on(h);
+    say("move: the guest was paused for %.1f ms", milliseconds_since(m->paused_at));
     return continue_here(h, why);
 }
 
-/* A round was sent. What is left counts pages that were named, so these are named before it is asked; then the next
- * round begins, or the guest is paused. */
-static int end_round(struct host *h)
+/* What the guest's thread does for a move, between two slices. Rounds are sent by the carrier, where it can. */
+static int move_on(struct host *h)
 {
-    vmig_left found;
-    uint64_t left;
-    const char *why;
+    struct move *m = &h->move;
+    const char *why = NULL;
 
-    take_ram(h);
-    why = name_pages(h);
-    if (why != NULL) return give_up(h, why);
-    must(vmig_send_left(&h->machine, &found), "vmig_send_left");
-    left = found.dirty_pages + found.dirty_sectors;
-    say("move: round %u sent %llu pages and %llu sectors; %llu are left", h->move.round,
-        (unsigned long long)h->move.pages, (unsigned long long)h->move.sectors, (unsigned long long)left);
-    if (is_enough(h, left)) {
-        say("move: the guest is paused: %llu pages and %llu sectors are left", (unsigned long long)found.dirty_pages,
-            (unsigned long long)found.dirty_sectors);
-        return finish_move(h);
-    }
-    if (vmig_send_round(&h->machine) != VMIG_OK) return give_up(h, OUT_OF_MEMORY);
-    begin_round(h, h->move.round + 1);
-    return 1;
+    if (!m->is_on) why = begin_move(h);
+    else if (operator_words.continues) why = CANCELLED;
+    else if (m->is_broken) why = m->why;
+    else if (m->failed != NULL) why = m->failed;
+    else if (!is_between_slices(h) || !m->is_carried) return 1;
+    else if (m->rounds_are_over) return finish_move(h);
+    else why = m->is_sending ? copy_here(h) : begin_sending(h);
+    return why == NULL ? 1 : give_up(h, why);
 }
 
 int move_further(struct host *h)
 {
     struct move *m = &h->move;
-    const char *why = NULL;
+    int runs_here;
 
     if (!m->is_on && !operator_words.moves) return 1;
-    if (!m->is_on) why = begin_move(h);
-    else if (operator_words.continues) why = CANCELLED;
-    else if (m->is_broken) why = m->why;
-    else if (!is_between_slices(h) || !m->is_carried) return 1;
-    else if (!m->is_sending) why = begin_sending(h);
-    else if (m->round_is_sent) return end_round(h);
-    else why = copy_some(h);
-    return why == NULL ? 1 : give_up(h, why);
+    m->entered = clock_nanoseconds();
+    runs_here = move_on(h);
+    m->outside += clock_nanoseconds() - m->entered;
+    return runs_here;
 }

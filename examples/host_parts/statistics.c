@@ -10,10 +10,13 @@ void begin_statistics(struct host *h)
     h->statistics.began = clock_nanoseconds();
 }
 
-/* The clock is read only for who asks for it. */
+/* The clock is read only for who asks for it, and while the guest is moved: who copies may have the lock. */
 void enter_library(struct host *h)
 {
+    uint64_t asked = h->move.is_on ? clock_nanoseconds() : 0;
+
     lock_library(h);
+    if (asked != 0) h->move.outside += clock_nanoseconds() - asked;
     if (h->options.stats) h->statistics.entered = clock_nanoseconds();
 }
 

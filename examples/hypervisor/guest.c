@@ -85,13 +85,14 @@ void log_ends(struct host *h)
     (void)h;
 }
 
-/* What was written stays in the list until the guest runs again. It finds its pages anew then, so the log is read
- * once a round. */
-void log_read(struct host *h, vmig_pages *written)
+/* All of the log, whatever is asked for. The guest finds its pages anew then. */
+void log_fetch(struct host *h, uint64_t *bits, uint64_t first, uint64_t count)
 {
     struct memory *m = &h->guest.processor.memory;
 
-    *written = vmig_list(m->written, m->count_written);
+    (void)first;
+    (void)count;
+    for (uint32_t i = 0; i < m->count_written; i++) bits[m->written[i] / 64] |= UINT64_C(1) << m->written[i] % 64;
     memory_empty_log(m);
 }
 

@@ -7,6 +7,11 @@
 
 /* What the first frame of a move says of the hypervisor: another one than RISC-V on an interpreter is refused. */
 enum { GUEST_KIND = 1 };
+#define GUEST_NAME "interpreter"
+
+/* Its thread copies, for this long between two slices: the log of its writes is that thread's own, and an interpreter
+ * writes RAM as any program does, so that another thread may not read there meanwhile. */
+enum { COPIES_BESIDE = 0, COPY_NANOSECONDS = 300000 };
 
 struct guest {
     struct processor processor;

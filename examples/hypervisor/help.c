@@ -42,6 +42,8 @@ const char HELP[] =
     "                     that, unless it is given\n"
     "  --few N            and pauses it earlier where at most N pages and sectors are left: 256 unless it is\n"
     "                     given\n"
+    "  --throttle         a guest that writes faster than it is sent is held back while it is moved, for a share\n"
+    "                     of each 10 ms that grows while rounds do not shrink\n"
     "  --no-reboot        a guest that asks for a reboot ends\n"
     "  --stats            prints what the guest did, and the time in the library, at the end\n"
     "  --help             prints this\n"

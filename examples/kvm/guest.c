@@ -122,13 +122,13 @@ static int board_answers(struct host *h)
 }
 
 /* What the guest is called out for: bytes on the terminal and the wire, a disk, and time for devices that have more
- * to do. */
+ * to do, or to be held back. */
 static void await_input(struct host *h)
 {
     int files[WATCHED];
 
     list_files(h, files);
-    watch_for(&h->guest.watch, files, h->steps_wait ? WORK_MS : -1, h->guest.is_between);
+    watch_for(&h->guest.watch, files, h->steps_wait ? WORK_MS : milliseconds_until_held(h), h->guest.is_between);
 }
 
 /* Ports need no machine. Where a part of a move is due the guest comes out once no access of its is half done:
@@ -195,14 +195,13 @@ void log_ends(struct host *h)
     if (why != NULL) say("the log of RAM stays on: %s", why);
 }
 
-/* As the kernel fills it, which has whole words. What the host itself wrote is not in it: then all pages are named,
- * as where there is no log. */
-void log_read(struct host *h, vmig_pages *written)
+/* What the host itself wrote is not in the kernel's log: then all pages are set, as where there is no log. */
+void log_fetch(struct host *h, uint64_t *bits, uint64_t first, uint64_t count)
 {
     struct kvm *k = &h->guest.kvm;
 
-    if (kvm_read_log(k) != NULL || h->guest.is_loaded) *written = (vmig_pages)VMIG_ALL_PAGES;
-    else *written = vmig_bitmap(k->log, k->log_words);
+    if (kvm_fetch_log(k, bits, first, count) != NULL || h->guest.is_loaded)
+        memset(bits, 0xff, k->log_words * sizeof *bits);
     h->guest.is_loaded = 0;
 }
 

@@ -9,6 +9,10 @@
 
 /* What the first frame of a move says of the hypervisor: another one than x86-64 under KVM is refused. */
 enum { GUEST_KIND = 2 };
+#define GUEST_NAME "KVM"
+
+/* Pages are copied while the guest runs, for this long until the bytes that wait are taken. */
+enum { COPIES_BESIDE = 1, COPY_NANOSECONDS = 50000 };
 
 struct guest {
     struct kvm kvm;

@@ -115,6 +115,17 @@ static void hide_counters(struct kvm *k)
     if (kvm_hides_counters(k)) kvm_call(k->vm, KVM_ENABLE_CAP, &off);
 }
 
+/* The log is read without being cleared, and begins with all pages, none of which is protected from writing before it
+ * is cleared: so to switch it on, and to read it, costs little at once. */
+static void let_log_keep(struct kvm *k)
+{
+    uint64_t flags = (uint64_t)capability(k->vm, KVM_CAP_MANUAL_DIRTY_LOG_PROTECT2) &
+                     (KVM_DIRTY_LOG_MANUAL_PROTECT_ENABLE | KVM_DIRTY_LOG_INITIALLY_SET);
+    struct kvm_enable_cap on = {.cap = KVM_CAP_MANUAL_DIRTY_LOG_PROTECT2, .args[0] = flags};
+
+    k->log_keeps = (flags & KVM_DIRTY_LOG_MANUAL_PROTECT_ENABLE) && kvm_call(k->vm, KVM_ENABLE_CAP, &on) == 0;
+}
+
 const char *kvm_make(struct kvm *k, uint8_t *ram, uint64_t length)
 {
     const char *why;
@@ -133,6 +144,7 @@ const char *kvm_make(struct kvm *k, uint8_t *ram, uint64_t length)
     size = capability(k->vm, KVM_CAP_XSAVE2);
     k->xsave_size = size > (int)sizeof(struct kvm_xsave) ? (size_t)size : sizeof(struct kvm_xsave);
     hide_counters(k);
+    let_log_keep(k);
     why = make_board(k);
     return why == NULL && length > 0 ? set_slot(k) : why;
 }
@@ -190,11 +202,19 @@ const char *kvm_log(struct kvm *k, int on)
     return why;
 }
 
-const char *kvm_read_log(struct kvm *k)
+const char *kvm_fetch_log(struct kvm *k, uint64_t *bits, uint64_t first, uint64_t count)
 {
+    uint64_t pages = k->length / PAGE, end = first + count < pages ? first + count : pages, any = 0;
     struct kvm_dirty_log log = {.dirty_bitmap = k->log};
+    struct kvm_clear_dirty_log clear;
 
-    return kvm_call(k->vm, KVM_GET_DIRTY_LOG, &log) < 0 ? kvm_reason("KVM_GET_DIRTY_LOG") : NULL;
+    if (kvm_call(k->vm, KVM_GET_DIRTY_LOG, &log) < 0) return kvm_reason("KVM_GET_DIRTY_LOG");
+    if (!k->log_keeps) first = 0, end = pages;
+    for (uint64_t n = first / LOG_PIECE; n < end / LOG_PIECE; n++) bits[n] |= k->log[n], any |= k->log[n];
+    if (!k->log_keeps || any == 0) return NULL;
+    clear = (struct kvm_clear_dirty_log){
+        .num_pages = (uint32_t)(end - first), .first_page = first, .dirty_bitmap = k->log + first / LOG_PIECE};
+    return kvm_call(k->vm, KVM_CLEAR_DIRTY_LOG, &clear) < 0 ? kvm_reason("KVM_CLEAR_DIRTY_LOG") : NULL;
 }
 
 void kvm_set_lines(struct kvm *k, uint32_t lines, uint32_t mask)

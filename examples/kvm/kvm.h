@@ -19,6 +19,7 @@ struct kvm {
     int sets_frequency;         /* the host can give a guest another one than its own */
     uint32_t told, known;       /* bit n: the level of interrupt n that KVM was told, and whether it was */
     int log_is_on;
+    int log_keeps;              /* reading the log leaves its pages there, until they are handed back to be cleared */
     uint64_t *log;              /* the log as it was read the last time */
     size_t log_words;
 };
@@ -42,9 +43,11 @@ void kvm_end(struct kvm *k);
 /* Runs the guest until it comes out. False where it was called out: then no access of its is half done. */
 int kvm_run_guest(struct kvm *k);
 
-/* The log of the pages that the guest writes is on while it is moved. To read it empties it. */
+/* The log of the pages that the guest writes is on while it is moved. */
 const char *kvm_log(struct kvm *k, int on);
-const char *kvm_read_log(struct kvm *k);
+/* Sets the bits of the pages that the log has, of `count` from `first` on, whole words both, and clears these pages in
+ * the log. A kernel that cannot clear some alone clears all, and sets the bits of all. The guest may run. */
+const char *kvm_fetch_log(struct kvm *k, uint64_t *bits, uint64_t first, uint64_t count);
 
 /* Interrupt n gets the level of bit n. KVM is informed of changes alone, and once of each line: a level is no part of
  * what it saves. */

@@ -5,6 +5,7 @@
 #define _DEFAULT_SOURCE
 #include <errno.h>
 #include <stdio.h>
+#include <stdlib.h>
 #include <string.h>
 #include "../boot.h"
 #include "host.h"
@@ -16,7 +17,7 @@
 
 enum { TOP = 0x10000, MIDDLE = 0x11000, LOW = 0x12000, WINDOW = 0x13000, STACK = 0x80000, START = 0x100000 };
 enum { TABLE = 7, LARGE = 0x87, LARGE_SHIFT = 21, HUGE_SHIFT = 30, ENTRIES = 512, CODE = 8 | RING, DATA = 16 | RING };
-enum { FLAGS = RING << 12 | 2, UNCACHED = 0x18 };
+enum { FLAGS = RING << 12 | 2, UNCACHED = 0x18, TOLD_AT = 0x90100 };
 
 #define IOAPIC_AT UINT64_C(0xfec00000)
 #define LAPIC_AT UINT64_C(0xfee00000)
@@ -34,6 +35,16 @@ static void map_identity(struct kvm *k)
     window[(WINDOWS_AT >> LARGE_SHIFT) % ENTRIES] = WINDOWS_AT | LARGE;
     window[(IOAPIC_AT >> LARGE_SHIFT) % ENTRIES] = IOAPIC_AT | LARGE | UNCACHED;
     window[(LAPIC_AT >> LARGE_SHIFT) % ENTRIES] = LAPIC_AT | LARGE | UNCACHED;
+}
+
+/* What the guest of busy.c asks: RAM, the frequency of its TSC, and from the environment how many MB it writes a
+ * second. */
+static void tell_busy(struct kvm *k)
+{
+    const char *rate = getenv("BUSY_MB");
+    uint64_t told[] = {k->length, k->khz, rate == NULL ? 0 : strtoul(rate, NULL, 10)};
+
+    memcpy(k->ram + TOLD_AT, told, sizeof told);
 }
 
 /* A clock that a host which does not set it would not have, and a TSC likewise, where this host can set one. */
@@ -82,6 +93,7 @@ void load_guest(struct host *h)
     fclose(file);
     if (RING == 0 && !kvm_hides_counters(k)) say("skipped: this KVM cannot take performance counters away");
     map_identity(k);
+    tell_busy(k);
     begin_in_ring(k);
     set_clock(h);
 }
