@@ -24,8 +24,8 @@ use crate::logging::log_for;
 use crate::told_feeding::Telling;
 use c_machine::status::{DONE, IN_USE, NO_MEMORY};
 use c_machine::{
-    Expected, arrival_refusal, asks_told, frame_allowed, give_back, header_limits, is_none, mapped_disks,
-    outside_allowed, put_back, ram_bytes, shapes_of, taken_ram,
+    Expected, arrival_refusal, asks_told, frame_allowed, give_back, header_limits, is_none,
+    mapped_disks, outside_allowed, put_back, ram_bytes, shapes_of, taken_ram,
 };
 use guestmem::{NoMemory, PAGES_GREATEST, Ram};
 use machine::Limits;

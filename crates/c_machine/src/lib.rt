@@ -40,6 +40,7 @@ pub use outside::largest_outside;
 pub use over_ram::{put_back, taken_ram};
 pub use pages::Pages;
 pub use setup::{
-    Expected, LARGE, LOG, Setup, TOLD, arrival_refusal, asks_large, asks_log, asks_told, block_size,
-    frame_allowed, header_limits, is_none, limits_for, outside_allowed, ram_bytes, setup_refusal,
+    Expected, LARGE, LOG, Setup, TOLD, arrival_refusal, asks_large, asks_log, asks_told,
+    block_size, frame_allowed, header_limits, is_none, limits_for, outside_allowed, ram_bytes,
+    setup_refusal,
 };

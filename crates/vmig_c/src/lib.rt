@@ -56,11 +56,11 @@ ghost use Rattle.sha2.specs.Sha256.{sha256};
 use c_digest::Digest;
 use c_handle::{
     Call, Handle, SendLeft, Turn, abort, announced, answer_done, answer_failed, arrive, begin,
-    begin_as, describe, drop_input, feed, feed_some, feed_tell, finish, give_back, hand_call, hand_out, held_of, input,
-    left as left_of, lend, lines, list_calls, lose_kept, make, mark, next, pull, push, read_ram,
-    read_register, read_sector, release, release_refusal, reset, resize, room as room_in,
-    save_kept, send_next, send_page, send_round, send_some, step_kept, stop, take, tell, work,
-    write_ram, write_register,
+    begin_as, describe, drop_input, feed, feed_some, feed_tell, finish, give_back, hand_call,
+    hand_out, held_of, input, left as left_of, lend, lines, list_calls, lose_kept, make, mark,
+    next, pull, push, read_ram, read_register, read_sector, release, release_refusal, reset,
+    resize, room as room_in, save_kept, send_next, send_page, send_round, send_some, step_kept,
+    stop, take, tell, work, write_ram, write_register,
 };
 use c_machine::status::{DONE, NO_MACHINE};
 use c_machine::{Description, Expected, Pages, Setup};
