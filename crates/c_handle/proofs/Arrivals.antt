@@ -5,8 +5,8 @@ use Rattle.receiver.specs.declared.recv_error.RecvError.{RecvError}
 use Rattle.c_handle.specs.Admission.{Admits, first_refusal}
 use Rattle.c_handle.specs.AdmissionSeen.{AdmissionSeen, Denied}
 use Rattle.c_handle.specs.ArrivalSeen.{ArrivalSeen}
-use Rattle.c_handle.specs.Arriving.{Ends, Fed, FeedsKept, FeedsWithin, FinishesKept, FinishesState, IsArriving, after_finish, fed_after, feed_refusal, finish_refusal, or_else, outgrows, refused_before, taken_status, telling_finished}
-use Rattle.c_handle.specs.Awaited.{IsClosed, IsFed, RefusesUntouched, TellsOf, TellsWhole, ram_coming, stream_status}
+use Rattle.c_handle.specs.Arriving.{Fed, FeedsKept, FeedsWithin, FinishesKept, FinishesState, IsArriving, after_finish, fed_after, feed_refusal, finish_refusal, or_else, outgrows, refused_before, taken_status, telling_finished}
+use Rattle.c_handle.specs.Awaited.{IsClosed, IsFed, RefusesUntouched, TellsOf, TellsWhole, stream_status}
 use Rattle.c_handle.specs.Kept.{KeptSeen, State, Still, Moving, Arriving, Lent}
 use Rattle.c_handle.specs.declared.told_feeding.Telling.{Telling}
 use Rattle.c_machine.proofs.Imaging.{eq_of}

@@ -1,5 +1,5 @@
 -- What is sent next, and a page that is handed in.
-use Rattle.std.proofs.Common.{◌≡◌, ◌≢◌, ◌<◌, ◌≤◌, ◌*◌, ℕ, Bool, true, false, nat_lt, List, refl, sym, ap, ◌∙◌, subst, arith, inl, inr, length, true≢false, ◌⊎◌}
+use Rattle.std.proofs.Common.{◌≡◌, ◌≢◌, ◌<◌, ℕ, Bool, true, false, nat_lt, List, refl, sym, ap, ◌∙◌, subst, arith, inl, inr, length, true≢false, ◌⊎◌}
 use Rattle.std.specs.Prelude.{Option, Some, None, MatchOption, Result, Ok, Err, not, if◌then◌else◌}
 use Rattle.std.proofs.lemmas.Bool.Decides.{nat_tests}
 use Rattle.dirtylog.specs.Members.{IsLeast, has}

@@ -6,7 +6,6 @@ use Rattle.guestmem.specs.Item.{Item}
 use Rattle.guestmem.specs.Rises.{Rises}
 use Rattle.machine.specs.Applied.{IsApplied}
 use Rattle.machine.specs.AppliedLaws.{RefusedChangesNothing}
-use Rattle.machine.specs.Effect.{items_of}
 use Rattle.machine.specs.Layout.{firsts_of, layout_of}
 use Rattle.machine.specs.Parked.{IsAppliedParked, ParkedSeen, back_with}
 use Rattle.machine.specs.Seen.{Seen}

@@ -2,7 +2,7 @@
 use Rattle.std.proofs.Common.{◌≡◌, ℕ, Bool, true, false, List, refl, sym, ap, ◌∙◌, subst}
 use Rattle.sender.specs.LiveState.{LiveSeen}
 use Rattle.wire.specs.Telling.{is_owed}
-use Rattle.c_handle.specs.Digest.{BeginsAs, TellsIf, TellsKept, TellsMoving, told_begun}
+use Rattle.c_handle.specs.Digest.{BeginsAs, TellsIf, TellsKept, told_begun}
 use Rattle.c_handle.specs.Kept.{KeptSeen, State, Still, Moving, Arriving, Lent, are_told, held_state, state_in, told_in}
 use Rattle.c_handle.specs.Migrated.{BeginsKept}
 use Rattle.c_handle.specs.declared.kept.Contents.{Contents}
@@ -31,6 +31,7 @@ plain_held : (old : Held) (next : State) → told_begun 0 (are_told old) (held_s
 plain_held (held.Own c) next = plain_in c next
 plain_held (held.Mapped c) next = plain_in c next
 plain_held (held.Arriving a) next = refl
+plain_held (held.ToldArriving a telling) next = refl
 
 pub plain : (flags : ℕ) (old next : Held) → are_told next ≡ told_begun flags (are_told old) (held_state old) (held_state next) → flags ≡ 0 → are_told next ≡ are_told old
 plain flags old next is none = is ∙ ap (λ (n : ℕ). told_begun n (are_told old) (held_state old) (held_state next)) none ∙ plain_held old (held_state next)

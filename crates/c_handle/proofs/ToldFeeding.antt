@@ -1,19 +1,18 @@
 -- A stream whose host tells its digest, part by part.
-use Rattle.std.proofs.Common.{◌≡◌, ◌≤◌, ◌+◌, ◌-◌, ◌∙◌, ℕ, Bool, true, false, List, [], ◌∷◌, ◌++◌, length, take, drop, refl, sym, ap, subst, append_assoc, arith, inl, inr}
+use Rattle.std.proofs.Common.{◌≡◌, ◌≤◌, ◌+◌, ◌∙◌, ℕ, Bool, true, false, List, [], ◌∷◌, ◌++◌, length, take, drop, refl, sym, ap, subst, append_assoc, arith, inl, inr}
 use Rattle.std.specs.Prelude.{Option, Some, None}
 use Rattle.std.proofs.Math.Seq.{take-add}
 use Rattle.std.proofs.lemmas.List.{append-nil, drop-drop, length-drop, take-append-drop}
-use Rattle.receiver.specs.Calls.{IsDue}
 use Rattle.receiver.specs.declared.receiver.Fed.{Fed}
 use Rattle.receiver.specs.declared.recv_error.RecvError.{RecvError}
 use Rattle.receiver.specs.declared.recv_error.RecvError.TheVariants.{AlreadyFailed}
 use Rattle.c_handle.specs.Admission.{Admits, IsPending, first_refusal}
 use Rattle.c_handle.specs.AdmissionSeen.{AdmissionSeen, Granted, Pending, Denied}
 use Rattle.c_handle.specs.ArrivalSeen.{ArrivalSeen, AtHead, AtBody, Refused, Over}
-use Rattle.c_handle.specs.Arriving.{HasDenied, HasNotFed, or_else, refused_before, taken_status}
-use Rattle.c_handle.specs.Awaited.{HasCome, IsClosed, IsFed, RefusesUntouched, TellsOf, TellsWhole, stream_status}
+use Rattle.c_handle.specs.Arriving.{refused_before, taken_status}
+use Rattle.c_handle.specs.Awaited.{HasCome, IsClosed, RefusesUntouched, TellsOf, TellsWhole, stream_status}
 use Rattle.c_handle.specs.ToldArrival.{DueAfter, IsBefore, IsDueAt, digested}
-use Rattle.c_handle.specs.ToldFeeding.{ComesToDigest, ComesToRefusal, FeedsFront, IsPast, RefusesPart, TakesAll, TakesFirst, TakesPart, TakesParts, TakesThen, TakingsCome, joined}
+use Rattle.c_handle.specs.ToldFeeding.{FeedsFront, IsPast, RefusesPart, TakesFirst, TakesPart, TakesParts, TakingsCome, joined}
 
 -- Parts, one after another.
 both : (ps qs : List (List ℕ)) (admission let_in after : AdmissionSeen) (r mid next : ArrivalSeen) → TakesParts ps admission r let_in mid → TakesParts qs let_in mid after next → TakesParts (ps ++ qs) admission r after next

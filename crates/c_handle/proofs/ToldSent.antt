@@ -1,5 +1,5 @@
 -- A machine that is sent, and whose digest its host tells.
-use Rattle.std.proofs.Common.{◌≡◌, ◌≢◌, ◌+◌, ℕ, List, [], ◌∷◌, ◌++◌, refl, sym, ap, ◌∙◌, subst, length, arith}
+use Rattle.std.proofs.Common.{◌≡◌, ◌+◌, ℕ, List, [], ◌∷◌, ◌++◌, refl, sym, ap, ◌∙◌, subst, length, arith}
 use Rattle.std.specs.Prelude.{Some, false}
 use Rattle.std.proofs.lemmas.List.{length-append}
 use Rattle.sha2.proofs.Facts256.{length-sha256}

@@ -1,5 +1,5 @@
 -- What the steps of a turn do to a machine that makes steps, whether it is being migrated or not.
-use Rattle.std.proofs.Common.{◌≡◌, ◌≤◌, ◌<◌, ◌⊎◌, ℕ, suc, ◌==◌, nat_lt, if◌then◌else◌, Bool, true, false, List, [], ◌∷◌, ◌++◌, length, map, inl, inr, refl, sym, ap, subst, ◌∙◌, arith, append-nil, append_assoc, true≢false}
+use Rattle.std.proofs.Common.{◌≡◌, ◌≤◌, ◌<◌, ◌⊎◌, ℕ, suc, ◌==◌, nat_lt, if◌then◌else◌, Bool, true, false, List, [], ◌∷◌, length, inl, inr, refl, sym, ap, subst, ◌∙◌, arith, true≢false}
 use Rattle.std.proofs.lemmas.Bool.{eqb-true, ltb-false}
 use Rattle.std.specs.Prelude.{Option, Some, None, slice_get, slice_index_or}
 use Rattle.blk.specs.declared.durable.SyncOwed.{SyncOwed}
@@ -7,12 +7,11 @@ use Rattle.blk.specs.declared.durable.SyncOwed.TheVariants.{Nothing, Flush, EndO
 use Rattle.machine.specs.AppliedLaws.{RefusedChangesNothing}
 use Rattle.machine.specs.NextWork.{next_work_with_lost}
 use Rattle.machine.specs.Seen.{state_of}
-use Rattle.machine.specs.State.{DeviceState, MachineState}
+use Rattle.machine.specs.State.{DeviceState}
 use Rattle.machine.specs.Unsynced.{makes_flush}
 use Rattle.machine.specs.declared.event.Event.{Event}
 use Rattle.machine.specs.declared.event.Event.TheVariants.{Step}
 use Rattle.machine.specs.declared.reply.Reply.{Reply}
-use Rattle.machine.specs.declared.reply.Reply.TheVariants.{DiskFailed}
 use Rattle.machine.specs.declared.work.Work.{Work}
 use Rattle.sender.specs.Calls.{AfterGuest, Guests, Serves}
 use Rattle.sender.specs.LiveState.{HasPlaces, LiveSeen, now, refusal_for}

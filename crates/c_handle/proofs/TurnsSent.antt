@@ -10,7 +10,7 @@ use Rattle.machine.specs.Effect.{Effect}
 use Rattle.machine.specs.NextWork.{can_work_at, device_can_work, in_turn_after, is_end_owed, next_work_with_lost}
 use Rattle.machine.specs.Seen.{state_of}
 use Rattle.machine.specs.State.{DeviceState, MachineState}
-use Rattle.machine.specs.Turn.{is_entropy, step_of}
+use Rattle.machine.specs.Turn.{step_of}
 use Rattle.machine.specs.Unsynced.{makes_flush, owed}
 use Rattle.machine.specs.declared.event.Event.{Event}
 use Rattle.machine.specs.declared.event.Event.TheVariants.{Step}
@@ -29,14 +29,14 @@ use Rattle.sender.specs.declared.mig_error.MigError.{MigError}
 use Rattle.sender.specs.declared.phase.Phase.TheVariants as phases
 use Rattle.sender.proofs.StepBeside.{may_guest}
 use Rattle.sender.proofs.Fresh.{told}
-use Rattle.c_handle.specs.Durable.{FailsKept, FailsUnless, failed_status, owed_for, owed_in, owed_lost}
+use Rattle.c_handle.specs.Durable.{FailsUnless, failed_status, owed_for, owed_in, owed_lost}
 use Rattle.c_handle.specs.Kept.{KeptSeen, State, Still, Moving, Arriving, Lent, is_lost}
 use Rattle.c_handle.specs.Mirror.{is_closed}
-use Rattle.c_handle.specs.NextWork.{FindsUnless, FindsWork, NamesWork}
+use Rattle.c_handle.specs.NextWork.{FindsUnless, NamesWork}
 use Rattle.c_handle.specs.OnHandle.{Unless}
 use Rattle.c_handle.specs.Sent.{GoesOnSent, IsSent}
 use Rattle.c_handle.specs.Stepped.{LiveSteppedIf, StepsOwing, most_sent_by}
-use Rattle.c_handle.specs.Turns.{AreMade, EndsBy, EndsTurn, HasSteps, IsAsBefore, IsEnded, IsNamed, IsStep, IsUsedUp, Once, TurnsStaySent, counted, devices_in, ends_it, goes_on, turn_refusal}
+use Rattle.c_handle.specs.Turns.{AreMade, EndsBy, EndsTurn, HasSteps, IsAsBefore, IsEnded, IsNamed, IsStep, IsUsedUp, Once, TurnsStaySent, counted, ends_it, goes_on, turn_refusal}
 use Rattle.c_handle.specs.declared.turning.Turn.{Turn}
 use Rattle.c_handle.specs.declared.turning.Outcome.{Outcome}
 use Rattle.c_handle.specs.declared.turning.Outcome.TheVariants as outcomes

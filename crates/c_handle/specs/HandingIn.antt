@@ -5,7 +5,7 @@ use Rattle.machine.specs.Layout.{pages_of}
 use Rattle.machine.specs.Refusal.{code_of}
 use Rattle.machine.specs.declared.reply.Refusal.TheVariants.{OutOfRam}
 use Rattle.sender.specs.HandedIn.{HandsInPage}
-use Rattle.sender.specs.LiveState.{LiveSeen, now}
+use Rattle.sender.specs.LiveState.{now}
 use Rattle.sender.specs.Parked.{LiveParkedSeen}
 use Rattle.sender.specs.SectorsLent.{IsNextDue}
 use Rattle.sender.specs.declared.event.NextDue.{NextDue}

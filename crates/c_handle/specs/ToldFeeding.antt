@@ -8,7 +8,7 @@ use Rattle.c_handle.specs.ArrivalSeen.{ArrivalSeen}
 use Rattle.c_handle.specs.Arriving.{FeedsKept, FeedsWithin, HasDenied, HasNotFed, is_taken, or_else, refused_before, taken_status}
 use Rattle.c_handle.specs.Awaited.{HasCome, IsAtHead, IsClosed, IsFed, TellsWhole, stream_status}
 use Rattle.c_handle.specs.ToldArrival.{IsBefore, IsDueAt, digested}
-use Rattle.c_handle.specs.Kept.{KeptSeen, State, Still, Moving, Arriving, Lent}
+use Rattle.c_handle.specs.Kept.{KeptSeen, State, Arriving}
 use Rattle.c_handle.specs.OnHandle.{Unless}
 use Rattle.c_handle.specs.declared.told_feeding.Telling.{Telling}
 use Rattle.c_handle.specs.declared.told_feeding.Telling.TheVariants.{NotDue, Due, InHand}

@@ -1,15 +1,13 @@
-use Rattle.std.proofs.Common.{◌≡◌, ◌∙◌, ◌++◌, ◌≤◌, [], List, ap, length, ℕ, refl, rules, subst, sym}
+use Rattle.std.proofs.Common.{◌≡◌, ◌∙◌, ◌++◌, [], List, ℕ, rules, subst}
 use Rattle.std.proofs.lemmas.List.{append-nil}
-use Rattle.machine.specs.Limits.{AreWithin}
 use Rattle.machine.specs.Shapes.{disk_sizes}
 use Rattle.wire.specs.Header.{said}
 use Rattle.receiver.specs.Faults.{WaitsHead}
 use Rattle.receiver.specs.Opened.{told_by}
 use Rattle.receiver.specs.Receiving.{place_aside}
 use Rattle.c_handle.specs.ArrivalSeen.{AtBody}
-use Rattle.c_handle.specs.Awaited.{GoesOnWith, IsFedTo, TellsWhy}
-use Rattle.c_handle.specs.Headed.{EndsHeader, HasHeader}
-use Rattle.c_handle.proofs.Awaited.{begun_coming, fits_header, told_head, waits_on, within_terms}
+use Rattle.c_handle.specs.Awaited.{GoesOnWith, IsFedTo}
+use Rattle.c_handle.proofs.Awaited.{begun_coming, told_head, waits_on, within_terms}
 use Rattle.c_handle.proofs.ToldArrival.{ends_header}
 use Rattle.c_handle.proofs.told_arrival.take_byte.Goals as goal
 

@@ -1,8 +1,7 @@
-use Rattle.std.proofs.Common.{rules, ◌≡◌, ◌+◌, ◌∙◌, arith, drop, subst, sym, take}
+use Rattle.std.proofs.Common.{rules, ◌≡◌, ◌∙◌, arith, drop, sym, take}
 use Rattle.c_handle.specs.Kept.{admission_of}
 use Rattle.c_handle.specs.ToldArrival.{IsDueAt}
-use Rattle.c_handle.specs.ToldFeeding.{FeedsFront, TakesPart}
-use Rattle.c_handle.proofs.ToldFeeding.{admitted_fine, due_after, joins, more_first, refused_after, was_refused}
+use Rattle.c_handle.proofs.ToldFeeding.{admitted_fine, due_after, joins, more_first, was_refused}
 use Rattle.c_handle.proofs.told_feeding.feed_front.Goals as goal
 
 pub returns-in-Some-clause-feeds : goal.returns-in-Some-clause-feeds

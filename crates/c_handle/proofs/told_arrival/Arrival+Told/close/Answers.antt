@@ -1,10 +1,10 @@
 use Rattle.std.proofs.Common.{◌≡◌, ap, subst, sym, ◌∙◌}
-use Rattle.std.specs.Prelude.{Err, IfErr, IfOk, Ok}
+use Rattle.std.specs.Prelude.{Err, Ok}
 use Rattle.sha2.specs.Sha256.{sha256}
 use Rattle.c_handle.specs.ArrivalSeen.{ArrivalSeen, AtBody, Over, Refused}
-use Rattle.c_handle.specs.Awaited.{AreSteady, IsClosed, IsComing, awaited_by}
+use Rattle.c_handle.specs.Awaited.{AreSteady, IsComing, awaited_by}
 use Rattle.c_handle.specs.ToldArrival.{ClosesRight, digested}
-use Rattle.c_handle.proofs.ToldArrival.{closed_over, closed_steady, right_body, right_over, same_digest, same_digest_if, wrong_body}
+use Rattle.c_handle.proofs.ToldArrival.{right_body, right_over, wrong_body}
 use Rattle.c_handle.proofs.told_arrival.Arrival+Told.close.Goals as goal
 
 pub returns-in-Ok-clause-right : goal.returns-in-Ok-clause-right
