@@ -1,5 +1,5 @@
 -- The calls of an arrival, by cases on the handle.
-use Rattle.std.proofs.Common.{◌≡◌, ℕ, Bool, false, List, ap, ◌∙◌, refl, subst, sym, true≢false}
+use Rattle.std.proofs.Common.{◌≡◌, ℕ, false, List, ap, ◌∙◌, refl, subst, sym, true≢false}
 use Rattle.std.specs.Prelude.{Option, Some, None, is_some}
 use Rattle.c_handle.specs.Arriving.{Fed, Finished, FinishesKept, telling_finished}
 use Rattle.c_handle.specs.Kept.{KeptSeen}
