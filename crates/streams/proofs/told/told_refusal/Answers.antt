@@ -8,4 +8,4 @@ pub closed-requires-clause-summed : goal.closed-requires-clause-summed
 closed-requires-clause-summed c =
     let s = c.loop-fed.invariant.summed in
     let piece = c.split_at-in-loop-fed.result.0.now in
-    (s.0 ++ take c.in-Ok.taken.used piece, c.in-Ok.ensures.1.fed s.0 s.1, rw c.split_at-in-loop-fed-2.ensures.front at (c.update.ensures s.0 s.2))
+    (s.0 ++ take c.in-Ok.taken.used piece, c.in-Ok.ensures.feeds.fed s.0 s.1, rw c.split_at-in-loop-fed-2.ensures.front at (c.update.ensures s.0 s.2))
