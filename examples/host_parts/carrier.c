@@ -1,5 +1,6 @@
 /* The carrier of a move, a thread: it connects the line, or makes the file of a guest that is saved, and while the
- * guest runs it alone sends, digests and hears there, and copies what it sends (rounds.c). */
+ * guest runs it alone sends and hears there, and copies what it sends (rounds.c). What it sends another thread digests
+ * (digest.c). */
 #define _DEFAULT_SOURCE
 #include <poll.h>
 #include <string.h>
@@ -63,7 +64,7 @@ static const char *send_frame(struct line *l)
 
 void begin_piece(struct host *h, const uint8_t *bytes, size_t length)
 {
-    if (!h->options.digest_is_own) digest_add(&h->move.digest, bytes, length);
+    if (!h->options.digest_is_own) digester_add(&h->move.digester, bytes, length);
     h->move.sent += length;
     line_begin(&h->move.line, STREAM, bytes, length);
 }
@@ -93,7 +94,7 @@ static size_t fill_frame(struct host *h, uint8_t bytes[BODY_MAX])
     return got;
 }
 
-/* With the lock, which is free while it digests, sends or waits. Returns why the move is over, or NULL. */
+/* With the lock, which is free while it sends or waits. Returns why the move is over, or NULL. */
 static const char *carry_some(struct host *h)
 {
     static uint8_t bytes[BODY_MAX];

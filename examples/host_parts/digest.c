@@ -69,7 +69,8 @@ const char *digester_begin(struct digester *d)
     d->ends = 0;
     pthread_mutex_init(&d->lock, NULL);
     pthread_cond_init(&d->has_changed, NULL);
-    return begin_thread(&d->thread, digest_pieces, d) ? NULL : "there is no thread that digests";
+    d->is_on = begin_thread(&d->thread, digest_pieces, d);
+    return d->is_on ? NULL : "there is no thread that digests";
 }
 
 void digester_add(struct digester *d, const uint8_t *bytes, size_t length)
@@ -87,12 +88,19 @@ void digester_add(struct digester *d, const uint8_t *bytes, size_t length)
     pthread_mutex_unlock(&d->lock);
 }
 
-int digester_end(struct digester *d, uint8_t bytes[SHA256_LENGTH])
+void digester_stop(struct digester *d)
 {
+    if (!d->is_on) return;
     pthread_mutex_lock(&d->lock);
     d->ends = 1;
     pthread_cond_signal(&d->has_changed);
     pthread_mutex_unlock(&d->lock);
     pthread_join(d->thread, NULL);
+    d->is_on = 0;
+}
+
+int digester_end(struct digester *d, uint8_t bytes[SHA256_LENGTH])
+{
+    digester_stop(d);
     return digest_end(&d->digest, bytes);
 }

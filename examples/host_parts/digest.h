@@ -25,8 +25,9 @@ void digest_add(struct digest *d, const uint8_t *bytes, size_t length);
 /* The digest of all that was added. False where it could not be made. */
 int digest_end(struct digest *d, uint8_t bytes[SHA256_LENGTH]);
 
-/* A thread that digests what one other thread hands it. */
+/* A thread that digests what one other thread at a time hands it. */
 struct digester {
+    int is_on;                /* the thread is there */
     struct digest digest;
     pthread_t thread;
     pthread_mutex_t lock;
@@ -41,6 +42,8 @@ struct digester {
 const char *digester_begin(struct digester *d);
 /* Hands it a piece of up to DIGESTER_PIECE bytes, which are copied. Waits for room. */
 void digester_add(struct digester *d, const uint8_t *bytes, size_t length);
+/* Ends the thread, where it is there. */
+void digester_stop(struct digester *d);
 /* The digest of all pieces. The thread has ended. False where it could not be made. */
 int digester_end(struct digester *d, uint8_t bytes[SHA256_LENGTH]);
 

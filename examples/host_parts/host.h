@@ -40,7 +40,7 @@ struct move {
     atomic_int is_broken;        /* it has ended: `why` says why */
     const char *why;
     int is_on, is_sending;       /* a move is on; vmig_send_begin_as was called */
-    struct digest digest;        /* of what was taken of the stream, by whoever takes: unless --digest own is given */
+    struct digester digester;    /* of what was taken of the stream, unless --digest own is given */
     int is_stopped;              /* vmig_send_stop was called */
     int rounds_are_over;         /* the guest is to be paused */
     const char *failed;          /* why nothing can be copied, or NULL */
@@ -195,7 +195,7 @@ void leave_line(struct host *h, const char *why);
 
 /* carrier.c: begins the thread of the line. Returns why there is none, or NULL. */
 const char *begin_carrier(struct host *h);
-/* Begins the frame of bytes that were taken of the stream. They are digested here, without the lock. */
+/* Begins the frame of bytes that were taken of the stream. They are handed to the thread that digests, without the lock. */
 void begin_piece(struct host *h, const uint8_t *bytes, size_t length);
 /* It has something to take. */
 void wake_carrier(struct host *h);

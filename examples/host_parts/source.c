@@ -101,6 +101,7 @@ static int give_up(struct host *h, const char *why)
         must(vmig_send_abort(&h->machine), "vmig_send_abort");
         fill_pool(h);
     }
+    digester_stop(&m->digester);
     m->is_on = m->is_sending = 0;
     say("move: %s: the guest continues here", why);
     if (was_sending) say_outside(h);
@@ -161,7 +162,7 @@ static const char *begin_sending(struct host *h)
     const char *why;
 
     take_ram(h);
-    why = h->options.digest_is_own ? NULL : digest_begin(&h->move.digest);
+    why = h->options.digest_is_own ? NULL : digester_begin(&h->move.digester);
     if (why != NULL) return why;
     if (vmig_send_begin_as(&h->machine, h->options.digest_is_own ? 0 : VMIG_TOLD) != VMIG_OK) return OUT_OF_MEMORY;
     h->move.is_sending = 1;
@@ -231,7 +232,7 @@ static const char *tell_digest(struct host *h)
     uint8_t digest[SHA256_LENGTH];
 
     if (h->options.digest_is_own) return NULL;
-    if (!digest_end(&h->move.digest, digest)) return "the stream could not be digested";
+    if (!digester_end(&h->move.digester, digest)) return "the stream could not be digested";
     must(vmig_send_tell(&h->machine, digest), "vmig_send_tell");
     return send_waiting(h);
 }
