@@ -1,5 +1,5 @@
 /* Each request for memory is refused once, at each place: in a script that makes every call of the library, the
- * n-th request gets null, for every n. What is refused says so, nothing is lost by it, and the host goes on as
+ * n-th request gets null, for every n. What is refused says so, nothing is lost by it, and the host continues as
  * the header says: it makes the call again; or ends a migration that failed, and begins another; or frees what
  * arrived in part, and feeds the stream anew. All that was given is freed in the end. The requests are counted
  * by a malloc of its own, before the C library's. */
