@@ -1,13 +1,10 @@
 -- The requests of a device of a machine, among those of all; and those of a sound one end within 2^64.
-use Rattle.std.proofs.Common.{◌≡◌, ℕ, zero, suc, ◌∙◌, subst, slice_get, ◌+◌, ◌*◌, ◌^◌, ◌<◌, ◌≤◌, List, [], ◌∷◌, length, map, replicate, get_or, Bool, true, false, cond, Option, Some, None, refl, sym, ap, arith}
-use Rattle.std.proofs.lemmas.List.{length-replicate}
+use Rattle.std.proofs.Common.{◌≡◌, ℕ, zero, suc, ◌∙◌, subst, slice_get, ◌+◌, ◌^◌, ◌<◌, ◌≤◌, List, [], ◌∷◌, length, map, get_or, Bool, true, false, cond, Option, Some, None, refl, sym, ap, arith}
+use Rattle.std.proofs.lemmas.Option.{get_or_from_slice_get, slice_get_within}
 use Rattle.std.specs.Prelude.{IsSomeAnd}
-use Rattle.guestmem.specs.Memory.{Memory}
-use Rattle.guestmem.specs.declared.limits.TheConstants.{PAGES_GREATEST}
 use Rattle.mmio.specs.State.{Registers, queue_at}
 use Rattle.mmio.specs.Status.{is_running}
 use Rattle.mmio.specs.declared.queue.Queue.{Queue}
-use Rattle.blk.proofs.Zeros.{zero_bytes}
 use Rattle.blk.specs.Block.{limits_of}
 use Rattle.blk.specs.Sound.{AreRequestsOf, IsSoundWork}
 use Rattle.blk.specs.declared.block.Block.{Block}
@@ -16,11 +13,9 @@ use Rattle.blk.specs.declared.request.Kind.TheVariants.{Refused, In, Out, Flush,
 use Rattle.blk.specs.declared.request.Verdict.{Verdict}
 use Rattle.blk.specs.declared.shape.Limits.{Limits}
 use Rattle.machine.specs.Outside.{asking_requests, outside_requests}
-use Rattle.machine.proofs.Within.{sound_at}
-use Rattle.machine.specs.Parked.{ParkedSeen, WhateverRam, back_with, parked_states}
 use Rattle.machine.specs.QueuePositions.{is_packed_by}
-use Rattle.machine.specs.Sound.{IsSound, IsSoundDevice, IsSoundKind, IsSoundShape}
-use Rattle.machine.specs.Seen.{DeviceSeen, state_of}
+use Rattle.machine.specs.Sound.{AreSoundDevices, IsSoundDevice, IsSoundKind, IsSoundShape}
+use Rattle.machine.specs.Seen.{DeviceSeen}
 use Rattle.machine.specs.Shapes.{made_as}
 use Rattle.machine.specs.State.{DeviceState}
 use Rattle.machine.specs.declared.kind.Kind as kinds
@@ -79,11 +74,6 @@ lent ds lent_ dev x state same is below there =
     let own : x ≡ get_or ds dev x = subst (λ (list : List DeviceSeen). x ≡ get_or list dev x) same there in
     one_of ds dev x below own ∙ ap (λ (d : DeviceState). Some d) (sym is)
 
--- Those of a device whose RAM is lent, which are those of the machine with a RAM of zeros.
-pub parked_within : (p : ParkedSeen) (dev : ℕ) (state : DeviceState) → slice_get (parked_states p) dev ≡ Some state → 1 ≤ length p.versions → length p.versions ≤ PAGES_GREATEST
-    → WhateverRam p (λ m. IsSound (state_of (back_with p m))) → AreWithin (asking_requests state)
-parked_within p dev state there some few sound =
-    let count = length-replicate (4096 * length p.versions) 0 in
-    let zeros : Memory = record { bytes = replicate (4096 * length p.versions) 0; versions = p.versions; place = None } in
-    let whole = sound zeros (record { pages = count; some = some; few = few }) (zero_bytes (4096 * length p.versions)) refl in
-    asking_within (length zeros.bytes) state (sound_at (state_of (back_with p zeros)) dev state there whole)
+-- Those of a device of a machine, wherever its RAM is.
+pub within_sound : (ds : List DeviceState) (dev : ℕ) (state : DeviceState) → slice_get ds dev ≡ Some state → AreSoundDevices ds → AreWithin (asking_requests state)
+within_sound ds dev state there sound = asking_within sound.0 state (rw (get_or_from_slice_get ds dev state state there) at (sound.1 dev state (slice_get_within ds dev state there)))

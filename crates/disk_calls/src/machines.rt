@@ -1,37 +1,22 @@
-//! A machine as the calls of its disks outside see it, idle or with its RAM lent.
+//! A machine as the calls of its disks outside see it, its RAM here or lent.
 
 ghost use Rattle.std.specs.Prelude.{◌≡◌, ◌<◌, length, map};
 ghost use Rattle.machine.specs.Outside.{asking_requests};
-ghost use Rattle.machine.specs.Parked.{parked_states};
-ghost use Rattle.machine.specs.Seen.{state_of};
-ghost use Rattle.disk_calls.specs.Machines.{asked_of};
+ghost use Rattle.machine.specs.Seen.{states_of};
 
 use crate::calls::Asks;
 use blk::{Disk, Request};
-use machine::{Machine, Parked};
+use machine::{GuestRam, MachineOver};
 
-impl<D: Disk> Asks for Machine<D> {
-    ghost asked = { λ m. asked_of (state_of m) };
+impl<D: Disk, M: GuestRam> Asks for MachineOver<D, M> {
+    ghost asked = { λ m. map asking_requests (states_of m) };
 
     fn devices(&self) -> usize {
-        Machine::devices(self).len()
+        MachineOver::devices(self).len()
     }
 
     fn requests(&self, dev: usize) -> &[Request] {
         let _sound = self.shapes();
-        Machine::devices(self)[dev].state().asking_requests()
-    }
-}
-
-impl<D: Disk> Asks for Parked<D> {
-    ghost asked = { λ p. map asking_requests (parked_states p) };
-
-    fn devices(&self) -> usize {
-        Parked::devices(self).len()
-    }
-
-    fn requests(&self, dev: usize) -> &[Request] {
-        self.recall();
-        Parked::devices(self)[dev].state().asking_requests()
+        MachineOver::devices(self)[dev].state().asking_requests()
     }
 }

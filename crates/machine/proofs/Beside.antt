@@ -249,7 +249,7 @@ raised_sound : {base : ℕ} (len : ℕ) (d : DeviceState) → IsSoundDevice base
 raised_sound len d s = stays_sound len d (raised d) refl (used_sound d.registers s.registers) s.positions (raised_kind len d.registers d.kind s.kind) s
 
 parked_parts : (versions other : List ℕ) (devices others : List DeviceSeen) → versions ≡ other → devices ≡ others
-    → ◌≡◌ {A = ParkedSeen} (record { versions = versions; devices = devices }) (record { versions = other; devices = others })
+    → ◌≡◌ {A = ParkedSeen} (record { memory = versions; devices = devices }) (record { memory = other; devices = others })
 parked_parts versions other devices others a b = rw (a, b) refl
 
 three_same : (ram after : List ℕ) (ds es : List DeviceState) (disks ks : List (List Sector)) → after ≡ ram → ds ≡ es → disks ≡ ks
@@ -477,7 +477,7 @@ open_items old new dev pick reply h ram after bytes same reads quiet written = l
 
 -- The machine that was lent made it.
 pub step_of : (m : Seen) (p q : ParkedSeen) (dev pick : ℕ) (reply : Reply) (f : Effect) (x : Memory) → m.devices ≡ p.devices → (a : IsApplied (back_with p m.memory) (Step dev pick) reply (back_with q x)) → items_of a.effect ≡ items_of f
-    → x.bytes ≡ set_all m.memory.bytes f.writes → x.versions ≡ q.versions → IsStepOf m dev pick reply f q
+    → x.bytes ≡ set_all m.memory.bytes f.writes → x.versions ≡ q.memory → IsStepOf m dev pick reply f q
 step_of m p q dev pick reply f x devices a items bytes versions =
     let P : List DeviceSeen → Type 0 = λ ds. (b : IsApplied (record { memory = m.memory; devices = ds }) (Step dev pick) reply (back_with q x)) × (items_of b.effect ≡ items_of f) in
     let both = subst P (sym devices) (a, items) in
@@ -495,7 +495,7 @@ interrupted_back : (due : Bool) (dev : ℕ) (q : ParkedSeen) (x : Memory) → in
 interrupted_back true dev q x = refl
 interrupted_back false dev q x = refl
 
-pub ended_versions : (due : Bool) (dev : ℕ) (q : ParkedSeen) → (ended due dev q).versions ≡ q.versions
+pub ended_versions : (due : Bool) (dev : ℕ) (q : ParkedSeen) → (ended due dev q).memory ≡ q.memory
 ended_versions true dev q = refl
 ended_versions false dev q = refl
 
@@ -532,9 +532,9 @@ place_again p window left next m is parked =
 
 pub lent_again : (p : ParkedSeen) (window left : Region) (next : ParkedSeen) (m : Seen) → m ≡ back_with p (window_memory p window) → IsParked m left next → next ≡ p
 lent_again p window left next m is parked =
-    let versions : next.versions ≡ p.versions = parked.lent.versions_are ∙ ap (λ (s : Seen). s.memory.versions) is in
+    let versions : next.memory ≡ p.memory = parked.lent.versions_are ∙ ap (λ (s : Seen). s.memory.versions) is in
     let devices : next.devices ≡ p.devices = parked.devices_are ∙ ap (λ (s : Seen). s.devices) is in
-    parked_parts next.versions p.versions next.devices p.devices versions devices
+    parked_parts next.memory p.memory next.devices p.devices versions devices
 
 -- A machine of which one device raised its interrupt is sound.
 got_at : (ds : List DeviceSeen) (dev : ℕ) (d : DeviceSeen) → IsAt ds dev d → slice_get ds dev ≡ Some d
@@ -564,7 +564,7 @@ raised_one shapes m ds dev d at held = record {
   shapes_are = held.shapes_are ∙ sym (map_set_got (λ (x : DeviceSeen). made_as x.state.kind) ds dev d (seen_raised d) (got_at ds dev d at) refl);
 }
 
-pub raised_held : (shapes : List Shape) (versions : List ℕ) (ds : List DeviceSeen) (dev : ℕ) (d new : DeviceSeen) → IsAt ds dev d → new ≡ seen_raised d → WasHeld shapes (record { versions = versions; devices = ds }) → WasHeld shapes (record { versions = versions; devices = set ds dev new })
+pub raised_held : (shapes : List Shape) (versions : List ℕ) (ds : List DeviceSeen) (dev : ℕ) (d new : DeviceSeen) → IsAt ds dev d → new ≡ seen_raised d → WasHeld shapes (record { memory = versions; devices = ds }) → WasHeld shapes (record { memory = versions; devices = set ds dev new })
 raised_held shapes versions ds dev d new at is was = λ m sound bytes count.
     let held = raised_one shapes m ds dev d at (was m sound bytes count) in
     subst (λ (x : DeviceSeen). IsHeld shapes (record { memory = m; devices = set ds dev x })) (sym is) held
@@ -575,12 +575,12 @@ none_at [] dev h = refl
 none_at (x ∷ ds) zero h = absurd (omega (arith, h))
 none_at (x ∷ ds) (suc dev) h = none_at ds dev (omega (arith, h))
 
-pub ended_past : (due : Bool) (versions : List ℕ) (ds : List DeviceSeen) (dev : ℕ) → length ds ≤ dev → ◌≡◌ {A = ParkedSeen} (record { versions = versions; devices = ds }) (ended due dev (record { versions = versions; devices = ds }))
+pub ended_past : (due : Bool) (versions : List ℕ) (ds : List DeviceSeen) (dev : ℕ) → length ds ≤ dev → ◌≡◌ {A = ParkedSeen} (record { memory = versions; devices = ds }) (ended due dev (record { memory = versions; devices = ds }))
 ended_past false versions ds dev h = refl
 ended_past true versions ds dev h = rw (none_at ds dev h) refl
 
 pub ended_there : (versions : List ℕ) (ds : List DeviceSeen) (dev : ℕ) (d new : DeviceSeen) → IsAt ds dev d → new ≡ seen_raised d
-    → ◌≡◌ {A = ParkedSeen} (record { versions = versions; devices = set ds dev new }) (ended true dev (record { versions = versions; devices = ds }))
+    → ◌≡◌ {A = ParkedSeen} (record { memory = versions; devices = set ds dev new }) (ended true dev (record { memory = versions; devices = ds }))
 ended_there versions ds dev d new at is =
     let there = got_at ds dev d at in
     rw (there, is) refl

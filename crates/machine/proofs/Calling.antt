@@ -21,7 +21,7 @@ use Rattle.blk.specs.declared.request.Request.{Request}
 use Rattle.machine.specs.Applied.{IsApplied, Tells}
 use Rattle.machine.specs.Calls.{CallsDisk, HasCalled, HaveCalled, advance_of, asks_disk, has_read, kind_asks}
 use Rattle.machine.specs.DeviceStep.{advances, advanced_at, is_outside, looked_at, reply_to_advance, requests_of}
-use Rattle.machine.specs.Seen.{DeviceSeen, Seen, all_calls, called_if}
+use Rattle.machine.specs.Seen.{DeviceSeen, Seen, all_calls, called_if, called_at}
 use Rattle.machine.specs.Shapes.{made_as, queues_of}
 use Rattle.machine.specs.Sound.{IsSoundDevice}
 use Rattle.machine.specs.State.{DeviceState}
@@ -141,6 +141,11 @@ step_called called m new_m ds dev pick d new reply at is = rw (found ds dev d at
 pub past_called : (called : ℕ → ℕ) (m : Memory) (ds : List DeviceSeen) (dev pick : ℕ) (reply : Reply) → length ds ≤ dev
     → HasCalled called (record { memory = m; devices = ds }) (Step dev pick) reply (record { memory = m; devices = ds })
 past_called called m ds dev pick reply past_all = rw (past ds dev past_all) refl
+
+-- The same, of its devices alone.
+pub calls_over : (called : ℕ → ℕ) (ds : List DeviceSeen) (dev : ℕ) (d new : DeviceSeen) → IsAt ds dev d → new.calls ≡ called_if called true d.calls
+    → map (λ (x : DeviceSeen). x.calls) (set ds dev new) ≡ called_at called (map (λ (x : DeviceSeen). x.calls) ds) dev
+calls_over called ds dev d new at is = map-set (λ (x : DeviceSeen). x.calls) ds dev new ∙ rw (is, there ds dev d at) refl
 
 -- A read of a sector.
 pub read_called : {E : Type 0} (fetched : Fetched) (result : Result Bool E) → Tells fetched result → has_read result ≡ is_asked fetched

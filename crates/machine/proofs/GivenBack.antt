@@ -94,8 +94,8 @@ back_is : (m : Seen) (p : ParkedSeen) (x y : Memory) → x ≡ y → p.devices �
 back_is m p x y e f = rw (e, f) refl
 
 -- The memory that is given back.
-pub memory_back : (m : Seen) (p : ParkedSeen) (before after : Region) (pages : List ℕ) → IsMemory m.memory → IsParked m before p → address after ≡ address before → length after.content ≡ length before.content → AreBelow (length p.versions) pages
-    → ((a : ℕ) → is_named pages (a / 4096) ≡ false → get_or after.content a 0 ≡ get_or before.content a 0) → given_back after.content (address after) p.versions pages ≡ pages_written m.memory pages after.content
+pub memory_back : (m : Seen) (p : ParkedSeen) (before after : Region) (pages : List ℕ) → IsMemory m.memory → IsParked m before p → address after ≡ address before → length after.content ≡ length before.content → AreBelow (length p.memory) pages
+    → ((a : ℕ) → is_named pages (a / 4096) ≡ false → get_or after.content a 0 ≡ get_or before.content a 0) → given_back after.content (address after) p.memory pages ≡ pages_written m.memory pages after.content
 memory_back m p before after pages mem parked place long below agrees =
     let lent = parked.lent in
     let there : m.memory.place ≡ Some (address after) = lent.place ∙ ap Some (sym place) in
@@ -110,7 +110,7 @@ back_is_written m p before after pages sound mem parked place long are below agr
     let lent = parked.lent in
     let size : length after.content ≡ length m.memory.bytes = long ∙ ap length lent.bytes in
     let under : AreBelow (length m.memory.versions) pages = subst (λ (v : List ℕ). AreBelow (length v) pages) lent.versions_are below in
-    subst (λ (x : Seen). AreWritten m pages after.content x) (back_is m p (given_back after.content (address after) p.versions pages) (pages_written m.memory pages after.content) (memory_back m p before after pages mem parked place long below agrees) parked.devices_are)
+    subst (λ (x : Seen). AreWritten m pages after.content x) (back_is m p (given_back after.content (address after) p.memory pages) (pages_written m.memory pages after.content) (memory_back m p before after pages mem parked place long below agrees) parked.devices_are)
     (all_written m after.content pages sound mem under size are)
 
 pub mark_is_written : MarkIsWritten
@@ -119,7 +119,7 @@ mark_is_written m pages sound mem below =
 
 pub unnamed_is_written : UnnamedIsWritten
 unnamed_is_written m p before after written named sound mem parked place long are below agrees = record {
-  all = back_with p (given_back after.content (address after) p.versions written);
+  all = back_with p (given_back after.content (address after) p.memory written);
   are_written = back_is_written m p before after written sound mem parked place long are below agrees;
   rest = refl;
 }

@@ -22,7 +22,7 @@ window_same p one other content place = rw (content, place) refl
 -- So a step over that window is one over the first.
 abbrev IsOver : {L : Type 0} → (L → Item → L) → ParkedSeen → L → ℕ → ℕ → Reply → Region → ParkedSeen → L → Memory → Type 0
 IsOver taking p log dev pick reply left next new_log m =
-    (after : Memory) × (h : IsApplied (back_with p m) (Step dev pick) reply (back_with next after)) × IsLent after left next.versions × (new_log ≡ after_all taking log (items_of h.effect))
+    (after : Memory) × (h : IsApplied (back_with p m) (Step dev pick) reply (back_with next after)) × IsLent after left next.memory × (new_log ≡ after_all taking log (items_of h.effect))
 
 pub over_same : {L : Type 0} (taking : L → Item → L) (p next : ParkedSeen) (one other left : Region) (log new_log : L) (dev pick : ℕ) (reply : Reply) → window_memory p other ≡ window_memory p one
     → IsLoggedOver taking p other log dev pick reply left next new_log → IsLoggedOver taking p one log dev pick reply left next new_log

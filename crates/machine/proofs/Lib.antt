@@ -1,6 +1,7 @@
 mod Turns
 mod DiskAnswers
 pub mod DiskEvents
+pub mod OutsideOver
 pub mod OutsideParts
 pub mod DeviceTurns
 mod Advancing
@@ -45,6 +46,7 @@ mod Reading
 mod Missing
 pub mod Numbering
 mod Outstanding
+pub mod Over
 pub mod Fresh
 pub mod GivenBack
 mod Parking
@@ -52,6 +54,7 @@ pub mod ParkedCalls
 pub mod Quiet
 pub mod Honest
 mod Keeping
+pub mod Known
 mod Alike
 mod Unsynced
 mod OfShapes

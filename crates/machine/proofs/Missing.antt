@@ -4,10 +4,9 @@ use Rattle.std.specs.Prelude.{IsTrue, slice_index_or, slice_set}
 use Rattle.chains.specs.declared.next.Next.TheVariants.{Empty}
 use Rattle.guestmem.specs.Memory.{Memory}
 use Rattle.machine.specs.Applied.{IsApplied}
-use Rattle.machine.specs.Calls.{CallsDisk}
 use Rattle.machine.specs.Effect.{no_effect}
 use Rattle.machine.specs.Held.{IsHeld}
-use Rattle.machine.specs.Seen.{DeviceSeen, called_if}
+use Rattle.machine.specs.Seen.{DeviceSeen, called_at, called_if}
 use Rattle.machine.specs.Step.{register_value_of}
 use Rattle.machine.specs.StepLaws.{Fits}
 use Rattle.machine.specs.Unsynced.{FlushesDisk}
@@ -53,5 +52,5 @@ set_past [] dev x h = refl
 set_past (d ∷ ds) zero x h = absurd (omega (arith, h))
 set_past (d ∷ ds) (suc dev) x h = ap (λ rest. d.calls ∷ rest) (set_past ds dev x (omega (arith, h)))
 
-pub missing_calls : (called : ℕ → ℕ) (m : Memory) (ds : List DeviceSeen) (dev : ℕ) → length ds ≤ dev → CallsDisk called true dev (record { memory = m; devices = ds }) (record { memory = m; devices = ds })
-missing_calls called m ds dev h = set_past ds dev (called_if called true (slice_index_or (map (λ (d : DeviceSeen). d.calls) ds) dev None)) h
+pub missing_over : (called : ℕ → ℕ) (ds : List DeviceSeen) (dev : ℕ) → length ds ≤ dev → map (λ (d : DeviceSeen). d.calls) ds ≡ called_at called (map (λ (d : DeviceSeen). d.calls) ds) dev
+missing_over called ds dev h = set_past ds dev (called_if called true (slice_index_or (map (λ (d : DeviceSeen). d.calls) ds) dev None)) h

@@ -1,5 +1,5 @@
 -- A flush that fails in place of its step.
-use Rattle.std.proofs.Common.{◌≡◌, ℕ, ◌-◌, ◌<◌, Bool, true, false, cond, List, [], length, set, Option, Some, None, refl, ap, ◌∙◌, arith}
+use Rattle.std.proofs.Common.{◌≡◌, ℕ, ◌-◌, ◌<◌, Bool, true, false, cond, List, [], length, map, set, Option, Some, None, refl, ap, ◌∙◌, arith}
 use Rattle.std.specs.Prelude.{◌&&◌, slice_get}
 use Rattle.std.proofs.lemmas.Option.{slice_get-get_or}
 use borrow.Author.Tests.{ltb-true}
@@ -31,7 +31,7 @@ use Rattle.machine.specs.State.{DeviceState}
 use Rattle.machine.specs.Effect.{applied}
 use Rattle.machine.specs.Step.{HasEffect, IsStep, disk_of}
 use Rattle.machine.specs.StepLaws.{Fits}
-use Rattle.machine.specs.Unsynced.{FailsFlush, FailsFlushIf, flushes, kind_flush_failed, kind_flushes, makes_flush, with_flush_failed}
+use Rattle.machine.specs.Unsynced.{FailsFlush, FailsFlushIf, flushes, flushes_if, kind_flush_failed, kind_flushes, with_flush_failed}
 use Rattle.machine.specs.declared.event.Event.TheVariants.{Step}
 use Rattle.machine.specs.declared.kind.Kind.{Kind}
 use Rattle.machine.specs.declared.kind.Kind.TheVariants.{Network, Block, Outside, Console, Entropy}
@@ -130,8 +130,8 @@ step_fails len d ram content pick seen sound f =
     (rw (advanced_so ram _ content f.has.block (pick - 1) f.has.flush.request f.has.flush.there f.has.flush.is, set_itself d.positions 0 _ placed) refl)
 
 -- Its machine.
-pub at_device : (m : Memory) (ds : List DeviceSeen) (dev pick : ℕ) (d : DeviceSeen) → IsAt ds dev d → makes_flush (seen.state_of (record { memory = m; devices = ds })) dev pick ≡ flushes d.state pick
-at_device m ds dev pick d at = rw (found ds dev d at) refl
+pub flushes_there : (ds : List DeviceSeen) (dev pick : ℕ) (d : DeviceSeen) → IsAt ds dev d → flushes_if (slice_get (map (λ (x : DeviceSeen). x.state) ds) dev) pick ≡ flushes d.state pick
+flushes_there ds dev pick d at = rw (found ds dev d at) refl
 
 flush_has : {base : ℕ} (m : Memory) (ds : List DeviceSeen) (dev pick : ℕ) (d new : DeviceSeen) → IsAt ds dev d → new ≡ record d { state = with_flush_failed d.state pick } → IsSoundDevice base (length m.bytes) d.state → IsFlushing d.state pick
     → HasEffect (seen.state_of (record { memory = m; devices = ds })) (Step dev pick) outcome.disk_failed DiskFailed (changing dev [] new.state)

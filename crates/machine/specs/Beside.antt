@@ -133,12 +133,12 @@ pub record IsStepOf (m : Seen) (dev pick : ℕ) (reply : Reply) (effect : Effect
   pub applied : IsApplied m (Step dev pick) reply after
   pub items : items_of applied.effect ≡ items_of effect
   pub bytes : after.memory.bytes ≡ set_all m.memory.bytes effect.writes
-  pub versions : after.memory.versions ≡ next.versions
+  pub versions : after.memory.versions ≡ next.memory
   pub devices : after.devices ≡ next.devices
 
 abbrev pub BesideIsStep : Type 0
 BesideIsStep = (m : Seen) (p next : ParkedSeen) (window after : Memory) (held : List Piece) (dev pick : ℕ) (reply : Reply) (h : IsApplied (back_with p window) (Step dev pick) reply (back_with next after))
-    → IsBytes m.memory.bytes → m.devices ≡ p.devices → m.memory.versions ≡ window.versions → after.versions ≡ next.versions → length window.bytes ≡ length m.memory.bytes → AgreeOn window.bytes m.memory.bytes held
+    → IsBytes m.memory.bytes → m.devices ≡ p.devices → m.memory.versions ≡ window.versions → after.versions ≡ next.memory → length window.bytes ≡ length m.memory.bytes → AgreeOn window.bytes m.memory.bytes held
     → KnowsReads held (state_of (back_with p window)) dev pick → KnowsWord held (state_of (back_with p window)) dev pick → IsStepOf m dev pick reply h.effect next
 
 -- A machine whose RAM is lent, once its open step is ended.
@@ -148,19 +148,19 @@ ended due dev p = if due then record p { devices = raised_in p.devices dev (slic
 -- The same of a step that is open: the word is that of RAM, once what the step writes is there.
 abbrev pub OpenIsStep : Type 0
 OpenIsStep = (m : Seen) (p next : ParkedSeen) (window after : Memory) (held : List Piece) (dev pick : ℕ) (reply : Reply) (h : IsApplied (back_with p window) (Step dev pick) reply (back_with next after))
-    → IsBytes m.memory.bytes → m.devices ≡ p.devices → m.memory.versions ≡ window.versions → after.versions ≡ next.versions → length window.bytes ≡ length m.memory.bytes → AgreeOn window.bytes m.memory.bytes held
+    → IsBytes m.memory.bytes → m.devices ≡ p.devices → m.memory.versions ≡ window.versions → after.versions ≡ next.memory → length window.bytes ≡ length m.memory.bytes → AgreeOn window.bytes m.memory.bytes held
     → KnowsReads held (state_of (back_with p window)) dev pick → asks_at (step_publishing (state_of (back_with p window)) dev pick h.has.seen reply) after.bytes ≡ false
     → IsStepOf m dev pick reply h.effect (ended (asks_at (step_publishing (state_of (back_with p window)) dev pick h.has.seen reply) (set_all m.memory.bytes h.effect.writes)) dev next)
 
 -- The memory of a machine over a window.
 abbrev pub window_memory : ParkedSeen → Region → Memory
-window_memory p window = given_back window.content (address window) p.versions []
+window_memory p window = given_back window.content (address window) p.memory []
 
 -- A machine whose RAM is lent made a step with this window for RAM, and the window was lent out again.
 pub record IsMadeOver (p : ParkedSeen) (window : Region) (dev pick : ℕ) (reply : Reply) (left : Region) (next : ParkedSeen) : Type 0 where
   pub after : Memory
   pub applied : IsApplied (back_with p (window_memory p window)) (Step dev pick) reply (back_with next after)
-  pub lent : IsLent after left next.versions
+  pub lent : IsLent after left next.memory
 
 -- The same, and a log was told exactly what the step writes into.
 pub record IsLoggedOver {L : Type 0} (taking : L → Item → L) (p : ParkedSeen) (window : Region) (log : L) (dev pick : ℕ) (reply : Reply) (left : Region) (next : ParkedSeen) (new_log : L) : Type 0 where

@@ -16,6 +16,7 @@ pub mod EffectLaws
 pub mod First
 pub mod Footprint
 pub mod Held
+pub mod Known
 pub mod Lacking
 pub mod Layout
 pub mod Limits
@@ -26,6 +27,7 @@ pub mod NextBad
 pub mod Outcome
 pub mod Outside
 pub mod OutsideLaws
+pub mod Over
 pub mod PageLog
 pub mod Parked
 pub mod Serials

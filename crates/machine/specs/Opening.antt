@@ -66,7 +66,7 @@ ApartIsOpen = (p next : ParkedSeen) (window quiet after : Memory) (held : List P
 abbrev pub ApartIsStep : Type 0
 ApartIsStep = (m : Seen) (p next : ParkedSeen) (window quiet after : Memory) (held : List Piece) (dev pick : ℕ) (asking : Option Publishing) (w : Writing) (reply : Reply)
     (h : IsApplied (back_with p quiet) (Step dev pick) reply (back_with next after))
-    → IsBytes m.memory.bytes → m.devices ≡ p.devices → m.memory.versions ≡ quiet.versions → after.versions ≡ next.versions → length window.bytes ≡ length m.memory.bytes → AgreeOn window.bytes m.memory.bytes held
+    → IsBytes m.memory.bytes → m.devices ≡ p.devices → m.memory.versions ≡ quiet.versions → after.versions ≡ next.memory → length window.bytes ≡ length m.memory.bytes → AgreeOn window.bytes m.memory.bytes held
     → IsKnownOver p window held dev pick asking w → IsPutApart window.bytes quiet.bytes held asking w
     → IsStepOf m dev pick reply h.effect (ended (asks_at (published_by reply asking) (set_all m.memory.bytes h.effect.writes)) dev next)
 
@@ -80,7 +80,7 @@ HeldWordIsClosed = (p next : ParkedSeen) (window after : Memory) (held : List Pi
 abbrev pub HeldWordIsStep : Type 0
 HeldWordIsStep = (m : Seen) (p next : ParkedSeen) (window after : Memory) (held : List Piece) (dev pick : ℕ) (asking : Option Publishing) (reply : Reply)
     (h : IsApplied (back_with p window) (Step dev pick) reply (back_with next after))
-    → IsBytes m.memory.bytes → m.devices ≡ p.devices → m.memory.versions ≡ window.versions → after.versions ≡ next.versions → length window.bytes ≡ length m.memory.bytes → AgreeOn window.bytes m.memory.bytes held
+    → IsBytes m.memory.bytes → m.devices ≡ p.devices → m.memory.versions ≡ window.versions → after.versions ≡ next.memory → length window.bytes ≡ length m.memory.bytes → AgreeOn window.bytes m.memory.bytes held
     → KnowsReads held (state_of (back_with p window)) dev pick → StepAsks (state_of (back_with p window)) dev pick asking → Knows held window.bytes (word_of asking)
     → IsStepOf m dev pick reply h.effect next
 
@@ -92,5 +92,5 @@ EmptyIsClosed = (p next : ParkedSeen) (window after : Memory) (dev pick : ℕ) (
 
 abbrev pub EmptyIsStep : Type 0
 EmptyIsStep = (m : Seen) (p next : ParkedSeen) (window after : Memory) (dev pick : ℕ) (q : RingState) (first : Piece) (reply : Reply) (h : IsApplied (back_with p window) (Step dev pick) reply (back_with next after))
-    → IsBytes m.memory.bytes → m.devices ≡ p.devices → m.memory.versions ≡ window.versions → after.versions ≡ next.versions → length window.bytes ≡ length m.memory.bytes → AgreeOn window.bytes m.memory.bytes (first ∷ [])
+    → IsBytes m.memory.bytes → m.devices ≡ p.devices → m.memory.versions ≡ window.versions → after.versions ≡ next.memory → length window.bytes ≡ length m.memory.bytes → AgreeOn window.bytes m.memory.bytes (first ∷ [])
     → StepStores (state_of (back_with p window)) dev pick (an_empty q first) → IsStepOf m dev pick reply h.effect next

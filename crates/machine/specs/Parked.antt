@@ -11,9 +11,8 @@ use Rattle.blk.specs.Sectors.{Sector}
 use Rattle.blk.specs.declared.disk.DiskFault.{DiskFault}
 use Rattle.machine.specs.Applied.{IsApplied, ReadsSector}
 use Rattle.machine.specs.Effect.{items_of}
-use Rattle.machine.specs.EffectLaws.{sector_on}
 use Rattle.machine.specs.Held.{IsHeld}
-use Rattle.machine.specs.Seen.{DeviceSeen, Seen, all_calls, state_of}
+use Rattle.machine.specs.Seen.{DeviceSeen, Seen, SeenOver, all_calls, state_of}
 use Rattle.machine.specs.Sound.{IsSound}
 use Rattle.machine.specs.State.{DeviceState, base_of}
 use Rattle.machine.specs.Unsynced.{FailsFlush, FlushesDisk, flushes_if}
@@ -24,9 +23,8 @@ use Rattle.machine.specs.declared.reply.Reply.TheVariants.{Done}
 use Rattle.machine.specs.declared.shape.Shape.{Shape}
 
 -- The versions of its pages, and its devices with their disks.
-pub record ParkedSeen : Type 0 where
-  pub versions : List ℕ
-  pub devices : List DeviceSeen
+abbrev pub ParkedSeen : Type 0
+ParkedSeen = SeenOver (List ℕ)
 
 -- The machine that it is with such a memory.
 abbrev pub back_with : ParkedSeen → Memory → Seen
@@ -44,7 +42,7 @@ parked_calls p = map (λ d. d.calls) p.devices
 
 -- It is so whatever its RAM holds meanwhile, which has this many pages.
 abbrev pub WhateverRam : ParkedSeen → (Memory → Type 0) → Type 0
-WhateverRam p P = (m : Memory) → IsMemory m → IsBytes m.bytes → length m.versions ≡ length p.versions → P m
+WhateverRam p P = (m : Memory) → IsMemory m → IsBytes m.bytes → length m.versions ≡ length p.memory → P m
 
 -- With any memory of this many pages it is a machine as the code holds it.
 abbrev pub WasHeld : List Shape → ParkedSeen → Type 0
@@ -52,7 +50,7 @@ WasHeld shapes p = WhateverRam p (λ m. IsHeld shapes (back_with p m))
 
 -- Its RAM was lent, and all else of it is kept.
 pub record IsParked (m : Seen) (region : Region) (p : ParkedSeen) : Type 0 where
-  pub lent : IsLent m.memory region p.versions
+  pub lent : IsLent m.memory region p.memory
   pub devices_are : p.devices ≡ m.devices
 
 -- The guest-physical address of a page's first byte.
@@ -68,9 +66,9 @@ AreWritten m (n ∷ pages) bytes next = (mid : Seen) × IsApplied m (MemWrite (p
 -- what the guest's writes of these pages do.
 abbrev pub BackIsWritten : Type 0
 BackIsWritten = (m : Seen) (p : ParkedSeen) (before after : Region) (pages : List ℕ) → IsSound (state_of m) → IsMemory m.memory → IsParked m before p
-    → address after ≡ address before → length after.content ≡ length before.content → IsBytes after.content → AreBelow (length p.versions) pages
+    → address after ≡ address before → length after.content ≡ length before.content → IsBytes after.content → AreBelow (length p.memory) pages
     → ((a : ℕ) → is_named pages (a / PAGE_SIZE) ≡ false → slice_index after.content a ≡ slice_index before.content a)
-    → AreWritten m pages after.content (back_with p (given_back after.content (address after) p.versions pages))
+    → AreWritten m pages after.content (back_with p (given_back after.content (address after) p.memory pages))
 
 -- Where it names other pages, the machine is this one but for the versions.
 pub record IsWrittenBesideVersions (m : Seen) (pages : List ℕ) (bytes : List ℕ) (back : Seen) : Type 0 where
@@ -80,9 +78,9 @@ pub record IsWrittenBesideVersions (m : Seen) (pages : List ℕ) (bytes : List �
 
 abbrev pub UnnamedIsWritten : Type 0
 UnnamedIsWritten = (m : Seen) (p : ParkedSeen) (before after : Region) (written named : List ℕ) → IsSound (state_of m) → IsMemory m.memory → IsParked m before p
-    → address after ≡ address before → length after.content ≡ length before.content → IsBytes after.content → AreBelow (length p.versions) written
+    → address after ≡ address before → length after.content ≡ length before.content → IsBytes after.content → AreBelow (length p.memory) written
     → ((a : ℕ) → is_named written (a / PAGE_SIZE) ≡ false → slice_index after.content a ≡ slice_index before.content a)
-    → IsWrittenBesideVersions m written after.content (back_with p (given_back after.content (address after) p.versions named))
+    → IsWrittenBesideVersions m written after.content (back_with p (given_back after.content (address after) p.memory named))
 
 -- The machine after a mark of these pages: their versions have risen, and nothing else has changed.
 abbrev pub machine_marked : Seen → List ℕ → Seen
@@ -100,7 +98,7 @@ pub record IsAppliedQuietly (old : Seen) (e : Event) (reply : Reply) (new : Seen
 -- An event that needs no RAM was applied to a machine whose RAM is lent: whatever the RAM holds meanwhile, it is that event of the
 -- machine with this RAM, which is left as it is. It called no disk.
 pub record IsAppliedParked (p : ParkedSeen) (e : Event) (reply : Reply) (next : ParkedSeen) : Type 0 where
-  pub versions : next.versions ≡ p.versions
+  pub versions : next.memory ≡ p.memory
   pub sectors : parked_sectors next ≡ parked_sectors p
   pub calls : parked_calls next ≡ parked_calls p
   pub applied : WhateverRam p (λ m. IsAppliedQuietly (back_with p m) e reply (back_with next m))
@@ -108,16 +106,12 @@ pub record IsAppliedParked (p : ParkedSeen) (e : Event) (reply : Reply) (next : 
 -- A flush of a disk beside all steps, of a machine whose RAM is lent: whatever the RAM holds meanwhile, it is that flush of the machine
 -- with this RAM.
 pub record FlushesParked {T E : Type 0} (p : ParkedSeen) (dev : ℕ) (result : Result T E) (next : ParkedSeen) : Type 0 where
-  pub versions : next.versions ≡ p.versions
+  pub versions : next.memory ≡ p.memory
   pub flushes : (m : Memory) → FlushesDisk (back_with p m) dev result (back_with next m)
-
--- The disk of a device has this sector.
-abbrev pub HasSector : ParkedSeen → ℕ → ℕ → Type 0
-HasSector p dev n = (content : Sector) × (sector_on (slice_get (parked_sectors p) dev) n ≡ Some content)
 
 -- A read of a sector, of a machine whose RAM is lent: whatever the RAM holds meanwhile, it is that read of the machine with this RAM.
 pub record ReadsParked {E : Type 0} (p : ParkedSeen) (dev n : ℕ) (bytes : List ℕ) (result : Result Bool E) (next : ParkedSeen) : Type 0 where
-  pub versions : next.versions ≡ p.versions
+  pub versions : next.memory ≡ p.memory
   pub reads : (m : Memory) → ReadsSector (back_with p m) dev n bytes result (back_with next m)
 
 -- The step of this pick flushes a disk.
@@ -127,7 +121,7 @@ makes_flush_parked p dev pick = flushes_if (slice_get (parked_states p) dev) pic
 -- A step that flushes a disk was made as one whose disk failed, and no disk was called: whatever the RAM holds meanwhile, it is that step
 -- of the machine with this RAM, which is left as it is.
 pub record FailsParkedFlush (p : ParkedSeen) (dev pick : ℕ) (next : ParkedSeen) : Type 0 where
-  pub versions : next.versions ≡ p.versions
+  pub versions : next.memory ≡ p.memory
   pub sectors : parked_sectors next ≡ parked_sectors p
   pub calls : parked_calls next ≡ parked_calls p
   pub failed : WhateverRam p (λ m. FailsFlush (back_with p m) dev pick (back_with next m))
@@ -166,5 +160,5 @@ ParkedFlushFails = (m : Seen) (p next : ParkedSeen) (region : Region) (dev pick 
 -- Such an event is also, with its reply, that event of the machine after the return, whatever the guest wrote meanwhile: made before the
 -- return or after it, it leaves the same machine.
 abbrev pub LentIsAfterReturn : Type 0
-LentIsAfterReturn = (p next : ParkedSeen) (region : Region) (pages : List ℕ) (e : Event) (reply : Reply) → 1 ≤ length p.versions → length p.versions ≤ PAGES_GREATEST → length region.content ≡ PAGE_SIZE * length p.versions → IsBytes region.content → IsAppliedParked p e reply next
-    → IsAppliedUncalled (back_with p (given_back region.content (address region) p.versions pages)) e reply (back_with next (given_back region.content (address region) next.versions pages))
+LentIsAfterReturn = (p next : ParkedSeen) (region : Region) (pages : List ℕ) (e : Event) (reply : Reply) → 1 ≤ length p.memory → length p.memory ≤ PAGES_GREATEST → length region.content ≡ PAGE_SIZE * length p.memory → IsBytes region.content → IsAppliedParked p e reply next
+    → IsAppliedUncalled (back_with p (given_back region.content (address region) p.memory pages)) e reply (back_with next (given_back region.content (address region) next.memory pages))

@@ -19,10 +19,22 @@ pub record DeviceSeen : Type 0 where
   pub is_flushed : Bool
   pub calls : Option ℕ
 
--- A machine: its memory with the versions of the pages, and its devices with their disks.
-pub record Seen : Type 0 where
-  pub memory : Memory
+-- A machine, its RAM here or lent: what is known of its memory, and its devices with their disks.
+pub record SeenOver (M : Type 0) : Type 0 where
+  pub memory : M
   pub devices : List DeviceSeen
+
+-- A machine whose RAM is here: its memory with the versions of the pages.
+abbrev pub Seen : Type 0
+Seen = SeenOver Memory
+
+-- The machine that it is with this memory.
+abbrev pub with_ram : {M : Type 0} → SeenOver M → Memory → Seen
+with_ram s m = record { memory = m; devices = s.devices }
+
+-- The states of its devices.
+abbrev pub states_of : {M : Type 0} → SeenOver M → List DeviceState
+states_of s = map (λ d. d.state) s.devices
 
 -- The machine's state: what two equal machines agree on.
 abbrev pub state_of : Seen → MachineState

@@ -15,12 +15,12 @@ ghost use Rattle.machine.specs.Sound.{IsSound};
 ghost use Rattle.machine.specs.declared.event.Event.TheVariants as events;
 
 use crate::event::Event;
-use crate::machine::Machine;
+use crate::machine::MachineOver;
 use crate::reply::{Refusal, Reply};
 use blk::Disk;
-use guestmem::{Bytes, NoLog, NoMemory, TouchLog, access_refusal};
+use guestmem::{Bytes, NoLog, NoMemory, Ram, TouchLog, access_refusal};
 
-impl<D: Disk> Machine<D> {
+impl<D: Disk> MachineOver<D, Ram> {
     /// Applies one event, and returns the reply. After `NoMemory` and `Refused` nothing has changed.
     pub fn apply(&mut self, event: &Event) -> Reply
         ensures applied { IsApplied self.old event.now result self.new }

@@ -8,10 +8,11 @@ ghost use Rattle.machine.specs.NextBad.{IsNextBad, found_good};
 ghost use Rattle.machine.specs.Seen.{state_of};
 ghost use Rattle.machine.specs.Step.{disk_of};
 
-use crate::machine::Machine;
+use crate::machine::MachineOver;
 use blk::{Disk, DiskFault, SECTOR_SIZE};
+use guestmem::Ram;
 
-impl<D: Disk> Machine<D> {
+impl<D: Disk> MachineOver<D, Ram> {
     /// The least bad sector of a device's disk from sector `from` on, or None if there is none. No disk is called.
     pub fn next_bad(&self, dev: u8, from: u64) -> Option<u64>
         requires device { dev < length (state_of self.now).devices }

@@ -12,63 +12,16 @@ ghost use Rattle.machine.specs.Seen.{state_of};
 ghost use Rattle.machine.specs.Stepped.{reply_in};
 ghost use Rattle.machine.specs.declared.event.Event.TheVariants as events;
 
-use crate::machine::Machine;
+use crate::machine::MachineOver;
 use crate::reply::{Refusal, Reply};
 use crate::stepped::Stepped;
 use crate::work::Work;
 use blk::Disk;
 use console::ConsoleSize;
-use guestmem::{NoLog, TouchLog, access_refusal, recall_bytes};
+use guestmem::{NoLog, Ram, TouchLog, access_refusal, recall_bytes};
 use mmio::QUEUE_COUNT_MAX;
 
-impl<D: Disk> Machine<D> {
-    /// The driver reads a register of a device, `width` bytes at an offset of its window (VIRTIO 1.2, 4.2.2).
-    pub fn read_register(&self, dev: u8, offset: u32, width: u8) -> Result<u32, Refusal>
-        ensures { IsApplied self.now (events.RegRead dev offset width) (value_reply result) self.now }
-    {
-        let dev = dev as usize;
-        if dev >= self.devices.len() {
-            return Err(Refusal::NoDevice);
-        }
-        Ok(self.devices[dev].read_register(offset, width))
-    }
-
-    /// The driver writes a register of a device, `width` bytes at an offset of its window (VIRTIO 1.2, 4.2.2). Whether the
-    /// device takes the value is not reported. The result is a byte where one is written into the emergency register of a
-    /// console.
-    pub fn write_register(
-        &mut self,
-        dev: u8,
-        offset: u32,
-        width: u8,
-        value: u32,
-    ) -> Result<Option<u8>, Refusal>
-        ensures applied { IsApplied self.old (events.RegWrite dev offset width value) (written_result result) self.new }
-        ensures calls { HasCalled D.called self.old (events.RegWrite dev offset width value) (written_result result) self.new }
-    {
-        let number = dev as usize;
-        if number >= self.devices.len() {
-            return Err(Refusal::NoDevice);
-        }
-        let device = &mut self.devices[number];
-        Ok(device.write_register(dev, &mut self.rings, offset, width, value))
-    }
-
-    /// The host sets the size of a console, in characters.
-    pub fn resize(&mut self, dev: u8, cols: u16, rows: u16) -> Result<(), Refusal>
-        ensures applied { IsApplied self.old (events.Resize dev cols rows) (done_reply result) self.new }
-        ensures calls { HasCalled D.called self.old (events.Resize dev cols rows) (done_reply result) self.new }
-    {
-        let dev = dev as usize;
-        if dev >= self.devices.len() {
-            return Err(Refusal::NoDevice);
-        }
-        self.devices[dev].resize(ConsoleSize {
-            columns: cols,
-            rows,
-        })
-    }
-
+impl<D: Disk> MachineOver<D, Ram> {
     /// The guest reads RAM from a guest-physical address on into the whole buffer. It takes no memory. A refusal leaves the buffer as
     /// it was.
     pub fn read_ram(&self, addr: u64, buf: &mut [u8]) -> Result<(), Refusal>
@@ -89,33 +42,6 @@ impl<D: Disk> Machine<D> {
         ensures calls { HasCalled D.called self.old (events.MemWrite addr bytes.now) (done_reply result) self.new }
     {
         self.write_ram_logged(addr, bytes, &mut NoLog)
-    }
-
-    /// The host puts bytes in: for an entropy device into its pool, for a console as text, for a network device one frame. It
-    /// returns how many were kept: the first ones, or a whole frame. A block device takes none.
-    pub fn input(&mut self, dev: u8, bytes: &[u8]) -> Result<u32, Refusal>
-        ensures applied { IsApplied self.old (events.Input dev bytes.now) (accepted_reply result) self.new }
-        ensures calls { HasCalled D.called self.old (events.Input dev bytes.now) (accepted_reply result) self.new }
-    {
-        let dev = dev as usize;
-        if dev >= self.devices.len() {
-            return Err(Refusal::NoDevice);
-        }
-        recall_bytes(bytes);
-        self.devices[dev].input(bytes)
-    }
-
-    /// The host drops what it has put in and the guest has not yet taken: the pool of an entropy device, the input of a console,
-    /// the frames of a network device. A block device has none of it.
-    pub fn drop_input(&mut self, dev: u8) -> Result<(), Refusal>
-        ensures applied { IsApplied self.old (events.Drop dev) (done_reply result) self.new }
-        ensures calls { HasCalled D.called self.old (events.Drop dev) (done_reply result) self.new }
-    {
-        let dev = dev as usize;
-        if dev >= self.devices.len() {
-            return Err(Refusal::NoDevice);
-        }
-        self.devices[dev].drop_input()
     }
 
     /// A device does one piece of its work, which the pick names.

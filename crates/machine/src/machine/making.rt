@@ -17,7 +17,7 @@ use crate::board::{Board, RamOf, Unmade};
 use crate::fitting::are_disks_of;
 use crate::limits::Limits;
 use crate::machine::room::Room;
-use crate::machine::{DEVICES_MAX, Machine};
+use crate::machine::{DEVICES_MAX, Machine, MachineOver};
 use crate::new_error::NewError;
 use crate::shape::Shape;
 use crate::state::DeviceState;
@@ -27,7 +27,7 @@ use guestmem::{NoMemory, PAGE_SIZE, Ram, recall_bytes};
 use net::LONG_FRAME_MIN;
 use std::alloc::Global;
 
-impl<D: Disk + Drop> Machine<D> {
+impl<D: Disk + Drop> MachineOver<D, Ram> {
     /// A new machine of `ram_pages` pages of zeros, from the guest-physical address 0 on, and devices of these shapes, whose block
     /// devices get the disks in order. All their sectors are good.
     ///
@@ -155,7 +155,7 @@ impl<D: Disk + Drop> Machine<D> {
         ensures place { result.memory.place ≡ ram.place }
     {
         let (alloc, devices, rings) = room.filled(states, disks, bad);
-        Machine {
+        MachineOver {
             alloc,
             ram,
             shapes,

@@ -17,34 +17,6 @@ use crate::machine::Machine;
 use crate::work::Work;
 use blk::Disk;
 
-impl<D: Disk> Machine<D> {
-    /// A step that has something to do, or `None` where no step of any device has. It is the first in turn after the last
-    /// one: in turn are the picks of a device, and then those of the next device. So no device keeps the others from their
-    /// work.
-    ///
-    /// The step that it names is not idle, or it finds an empty queue and clears its notified flag. A host that makes each
-    /// step that it names, until it names none, has left nothing undone. A guest can arrange that there is always some, as
-    /// its chains may name the rings themselves, so a host bounds how many steps it makes in a row. It reads no RAM.
-    pub fn next_work(&self, last: Work) -> Option<Work>
-        ensures next { result ≡ next_work (state_of self.now).devices last }
-        ensures some { IfSome result (λ work. has_work_at (state_of self.now).devices work ≡ true) }
-        ensures none { result ≡ None → HaveNoWork (state_of self.now).devices }
-    {
-        self.next_work_with_lost(last, &[])
-    }
-
-    /// As `next_work`, where some disks are lost: their bytes did not reach what holds them. A step that ends a write of a driver that
-    /// did not accept FLUSH (`SyncOwed::EndOfWrite`) is passed over then, since that driver would take the write for durable. For each
-    /// device the list says whether its disk is lost; one past its end is not.
-    pub fn next_work_with_lost(&self, last: Work, lost: &[bool]) -> Option<Work>
-        ensures next { result ≡ next_work_with_lost (state_of self.now).devices lost.now last }
-        ensures some { IfSome result (λ work. can_work_at lost.now (state_of self.now).devices work ≡ true) }
-        ensures none { result ≡ None → NoneCanWork lost.now (state_of self.now).devices }
-    {
-        next_in_turn(self.devices.as_slice(), last, lost)
-    }
-}
-
 /// The first step in turn after the last one that has something to do and may be made, of the devices of a machine.
 pub(super) fn next_in_turn<D: Disk>(
     devices: &[Device<D>],

@@ -9,6 +9,7 @@ ghost use Rattle.blk.specs.Outside.{Did, Failed, Gave};
 ghost use Rattle.machine.specs.Applied.{IsApplied, IsAppliedLogged, MayItems};
 ghost use Rattle.machine.specs.Calls.{HasCalled};
 ghost use Rattle.machine.specs.Dropping.{drops_of};
+ghost use Rattle.machine.specs.Over.{AppliesOver, calls_in, sectors_in};
 ghost use Rattle.machine.specs.Outside.{IsFilled, MayAsk, disk_call_of, disk_reply};
 ghost use Rattle.machine.specs.Seen.{state_of};
 ghost use Rattle.machine.specs.Shapes.{made_as};
@@ -17,13 +18,14 @@ ghost use Rattle.machine.specs.declared.event.Event.TheVariants as events;
 ghost use Rattle.machine.specs.declared.shape.Shape.{Shape};
 
 use crate::event::DiskAnswer;
-use crate::machine::Machine;
+use crate::guest_ram::GuestRam;
+use crate::machine::MachineOver;
 use crate::outside_call::OutsideCall;
 use crate::reply::{Refusal, Reply};
 use blk::Disk;
-use guestmem::{NoLog, TouchLog, recall_bytes};
+use guestmem::{NoLog, Ram, TouchLog, recall_bytes};
 
-impl<D: Disk> Machine<D> {
+impl<D: Disk> MachineOver<D, Ram> {
     /// What the request that a pick names asks of a disk outside: all that it has left. `None` if it waits for none.
     ///
     /// Whatever a guest or a stream did, the call has one sector at least, and none past the last; and of a device that is read-only no sector
@@ -52,19 +54,6 @@ impl<D: Disk> Machine<D> {
         self.devices[dev]
             .state()
             .written_bytes(pick, &self.ram, buf)
-    }
-
-    /// Whether this register write would drop requests that may have asked something of a disk outside: a reset of their device, or QueueReady 0
-    /// of their queue. While a call is out for one of them, do not make it (crate `disk_calls`). Nothing is written.
-    pub fn drops_requests(&self, dev: u8, offset: u32, width: u8, value: u32) -> bool
-        ensures { result ≡ drops_of (state_of self.now) dev offset width value }
-    {
-        let dev = dev as usize;
-        if dev >= self.devices.len() {
-            return false;
-        }
-        let state = self.devices[dev].state();
-        state.drops_requests(self.ram.len(), offset, width, value)
     }
 
     /// A disk outside gave these bytes: whole sectors, from the first one that is asked for on. The result says whether the request that the pick
@@ -98,32 +87,6 @@ impl<D: Disk> Machine<D> {
         gave
     }
 
-    /// A disk outside did this many sectors of a write or of a clearing, from the first one that is asked for on; or a flush, which is one. The
-    /// result says whether the request that the pick names awaits this; if not, nothing has changed (`Event::Disk`).
-    pub fn disk_did(&mut self, dev: u8, pick: u8, count: u32) -> Result<bool, Refusal>
-        ensures applied { IsApplied self.old (events.Disk dev pick (answers.Did count)) (disk_reply (Did count) result) self.new }
-        ensures calls { HasCalled D.called self.old (events.Disk dev pick (answers.Did count)) (disk_reply (Did count) result) self.new }
-    {
-        let dev = dev as usize;
-        if dev >= self.devices.len() {
-            return Err(Refusal::NoDevice);
-        }
-        self.devices[dev].disk_did(pick, count)
-    }
-
-    /// A disk outside failed: the request that the pick names ends with an error. The result says whether that request waits for the disk; if
-    /// not, nothing has changed (`Event::Disk`).
-    pub fn disk_failed(&mut self, dev: u8, pick: u8) -> Result<bool, Refusal>
-        ensures applied { IsApplied self.old (events.Disk dev pick answers.Failed) (disk_reply Failed result) self.new }
-        ensures calls { HasCalled D.called self.old (events.Disk dev pick answers.Failed) (disk_reply Failed result) self.new }
-    {
-        let dev = dev as usize;
-        if dev >= self.devices.len() {
-            return Err(Refusal::NoDevice);
-        }
-        self.devices[dev].disk_failed(pick)
-    }
-
     /// Hands an answer in.
     pub(super) fn hand_in<L: TouchLog>(
         &mut self,
@@ -143,5 +106,36 @@ impl<D: Disk> Machine<D> {
             DiskAnswer::Did(count) => Reply::from_moved(self.disk_did(dev, pick, *count)),
             DiskAnswer::Failed => Reply::from_failed(self.disk_failed(dev, pick)),
         }
+    }
+}
+
+// These need no byte of RAM, which may be lent.
+impl<D: Disk, M: GuestRam> MachineOver<D, M> {
+    /// A disk outside did this many sectors of a write or of a clearing, from the first one that is asked for on; or a flush, which is one. The
+    /// result says whether the request that the pick names awaits this; if not, nothing has changed (`Event::Disk`).
+    pub fn disk_did(&mut self, dev: u8, pick: u8, count: u32) -> Result<bool, Refusal>
+        ensures applied { AppliesOver M.known self.old (events.Disk dev pick (answers.Did count)) (disk_reply (Did count) result) self.new }
+        ensures sectors { sectors_in self.new ≡ sectors_in self.old }
+        ensures calls { calls_in self.new ≡ calls_in self.old }
+    {
+        let dev = dev as usize;
+        if dev >= self.devices.len() {
+            return Err(Refusal::NoDevice);
+        }
+        self.devices[dev].disk_did(pick, count)
+    }
+
+    /// A disk outside failed: the request that the pick names ends with an error. The result says whether that request waits for the disk; if
+    /// not, nothing has changed (`Event::Disk`).
+    pub fn disk_failed(&mut self, dev: u8, pick: u8) -> Result<bool, Refusal>
+        ensures applied { AppliesOver M.known self.old (events.Disk dev pick answers.Failed) (disk_reply Failed result) self.new }
+        ensures sectors { sectors_in self.new ≡ sectors_in self.old }
+        ensures calls { calls_in self.new ≡ calls_in self.old }
+    {
+        let dev = dev as usize;
+        if dev >= self.devices.len() {
+            return Err(Refusal::NoDevice);
+        }
+        self.devices[dev].disk_failed(pick)
     }
 }

@@ -5,12 +5,13 @@ ghost use Rattle.machine.specs.MachineTurn.{MakesStep, TakesTurn, devices_in};
 ghost use Rattle.machine.specs.Turn.{Once};
 
 use crate::kind::Kind;
-use crate::machine::Machine;
+use crate::machine::MachineOver;
 use crate::stepped::Stepped;
 use crate::turn::{Turn, TurnEnd, goes_on};
 use blk::{Disk, SyncOwed};
+use guestmem::Ram;
 
-impl<D: Disk> Machine<D> {
+impl<D: Disk> MachineOver<D, Ram> {
     /// The devices' turn: makes the steps that `next_work` names, one after another, until none has something to do, the turn has no
     /// step left, or the host has to do something (`TurnEnd`). Call it again to go on.
     ///

@@ -21,15 +21,14 @@ ghost use Rattle.machine.specs.Seen.{state_of};
 ghost use Rattle.machine.specs.Stepped.{reply_in};
 
 use crate::asking::Asking;
-use crate::machine::Machine;
-use crate::machine::lending::Parked;
+use crate::machine::{MachineOver, Parked};
 use crate::stepped::Stepped;
 use blk::Disk;
 use chains::Piece;
-use guestmem::{NoLog, NoMemory, TouchLog};
+use guestmem::{NoLog, NoMemory, ParkedRam, Ram, TouchLog};
 use region::Region;
 
-impl<D: Disk> Machine<D> {
+impl<D: Disk> MachineOver<D, Ram> {
     /// The first piece of RAM that the step of this pick lacks, where these pieces are held, if it lacks one.
     fn lacks(&self, dev: u8, pick: u8, held: &[Piece]) -> Result<Option<Piece>, NoMemory>
         ensures { IfOk result (LacksOr (length self.now.memory.bytes) held.now (KnowsReads held.now (state_of self.now) dev pick)) }
@@ -57,7 +56,7 @@ impl<D: Disk> Machine<D> {
     }
 }
 
-impl<D: Disk> Parked<D> {
+impl<D: Disk> MachineOver<D, ParkedRam> {
     /// The first piece of RAM that the step of this pick lacks, if it lacks one, where these pieces are held: they were copied into the
     /// window. The driver's word about interrupts is not asked for. Copy the piece, add it to those that are held, and ask again. The piece lies
     /// inside RAM and in none of those that are held, so this comes to an end. Window and machine are handed out as they were. Memory may be
@@ -69,7 +68,7 @@ impl<D: Disk> Parked<D> {
         pick: u8,
         held: &[Piece],
     ) -> (Result<Option<Piece>, NoMemory>, Region, Parked<D>)
-        requires size { length window.content ≡ PAGE_SIZE * length self.versions }
+        requires size { length window.content ≡ PAGE_SIZE * length self.memory }
         ensures lacking { IfOk result.0 (LacksOr (length window.content) held.now (KnowsReads held.now (state_of (back_with self (window_memory self window))) dev pick)) }
         ensures content { result.1.content ≡ window.content }
         ensures place { address result.1 ≡ address window }
@@ -92,7 +91,7 @@ impl<D: Disk> Parked<D> {
         dev: u8,
         pick: u8,
     ) -> (Result<Option<Asking>, NoMemory>, Region, Parked<D>)
-        requires size { length window.content ≡ PAGE_SIZE * length self.versions }
+        requires size { length window.content ≡ PAGE_SIZE * length self.memory }
         ensures asking { IfOk result.0 (λ asking. StepAsks (state_of (back_with self (window_memory self window))) dev pick asking) }
         ensures content { result.1.content ≡ window.content }
         ensures place { address result.1 ≡ address window }
@@ -116,7 +115,7 @@ impl<D: Disk> Parked<D> {
         sent: &mut Vec<u8>,
         log: &mut L,
     ) -> (Stepped, Region, Parked<D>)
-        requires size { length window.content ≡ PAGE_SIZE * length self.versions }
+        requires size { length window.content ≡ PAGE_SIZE * length self.memory }
         requires may { MayItems L.may log.old (state_of (back_with self (window_memory self window))) }
         ensures { IsLoggedOver L.after self window log.old dev pick (reply_in result.0 sent.new.items) result.1 result.2 log.new }
     {

@@ -11,15 +11,15 @@ ghost use Rattle.machine.specs.Seen.{state_of};
 ghost use Rattle.machine.specs.Serials.{touched};
 ghost use Rattle.machine.specs.Stepped.{reply_in};
 
-use crate::machine::lending::Parked;
+use crate::machine::{MachineOver, Parked};
 use crate::pieces::{NotMade, Pieces};
 use crate::serials::Serials;
 use crate::stepped::Stepped;
 use blk::Disk;
-use guestmem::{NoMemory, TouchLog};
+use guestmem::{NoMemory, ParkedRam, TouchLog};
 use region::Region;
 
-impl<D: Disk> Parked<D> {
+impl<D: Disk> MachineOver<D, ParkedRam> {
     /// Makes the step of these pieces with this window for RAM, as `step_over` does, and its device is touched. It is not made where the
     /// pieces are stale, and else where it lacks one; then nothing has changed, and the window is handed out as it was.
     pub fn step_held<L: TouchLog>(
@@ -30,7 +30,7 @@ impl<D: Disk> Parked<D> {
         sent: &mut Vec<u8>,
         log: &mut L,
     ) -> (Result<Stepped, NotMade>, Region, Parked<D>)
-        requires size { length window.content ≡ PAGE_SIZE * length self.versions }
+        requires size { length window.content ≡ PAGE_SIZE * length self.memory }
         requires may { MayItems L.may log.old (state_of (back_with self (window_memory self window))) }
         ensures may_make { IfOk result.0 (λ _. MayMake self window serials.old pieces.now) }
         ensures made { IfOk result.0 (λ stepped. IsLoggedOver L.after self window log.old pieces.now.work.dev pieces.now.work.pick (reply_in stepped sent.new.items) result.1 result.2 log.new) }

@@ -9,14 +9,13 @@ ghost use Rattle.machine.specs.Seen.{state_of};
 ghost use Rattle.machine.specs.Writing.{StepStores};
 
 use crate::any_ring::AnyRing;
-use crate::machine::Machine;
-use crate::machine::lending::Parked;
+use crate::machine::{MachineOver, Parked};
 use crate::stores::{Stores, Target};
 use blk::Disk;
-use guestmem::{NoLog, NoMemory};
+use guestmem::{NoLog, NoMemory, ParkedRam, Ram};
 use region::Region;
 
-impl<D: Disk> Machine<D> {
+impl<D: Disk> MachineOver<D, Ram> {
     /// What determines the writes of the step of this pick.
     fn storing(&self, dev: u8, pick: u8) -> Result<Stores, NoMemory>
         ensures { IfOk result (λ stores. StepStores (state_of self.now) dev pick stores) }
@@ -31,7 +30,7 @@ impl<D: Disk> Machine<D> {
     }
 }
 
-impl<D: Disk> Parked<D> {
+impl<D: Disk> MachineOver<D, ParkedRam> {
     /// What determines the writes of the step of this pick, by the pieces that the window holds: they are all that the step reads (`lacks`).
     /// With the step's answer it hands out the pieces to store in RAM, in order. Window and machine are handed out as they were. Memory may be
     /// refused, as it is for the step, and for the segments of a request.
@@ -41,7 +40,7 @@ impl<D: Disk> Parked<D> {
         dev: u8,
         pick: u8,
     ) -> (Result<Stores, NoMemory>, Region, Parked<D>)
-        requires size { length window.content ≡ PAGE_SIZE * length self.versions }
+        requires size { length window.content ≡ PAGE_SIZE * length self.memory }
         ensures storing { IfOk result.0 (λ stores. StepStores (state_of (back_with self (window_memory self window))) dev pick stores) }
         ensures content { result.1.content ≡ window.content }
         ensures place { address result.1 ≡ address window }

@@ -1,5 +1,0 @@
-use Rattle.std.proofs.Common.{◌∙◌}
-use Rattle.machine.proofs.machine.Machine.new.Goals as goal
-
-pub returns-in-Err-clause-memory : goal.returns-in-Err-clause-memory
-returns-in-Err-clause-memory g c = λ none. c.reason.ensures ∙ c.in-Err.ensures.memory (rw (c.usual.ensures) none)

@@ -1,0 +1,21 @@
+use Rattle.std.proofs.Common.{arith, length}
+use Rattle.machine.proofs.At.{IsAt, own_base, sound_device}
+use Rattle.machine.proofs.Lacking.{if_known, none_read, reads_known}
+use Rattle.machine.proofs.machine.lending.beside.MachineOver+D+Ram.lacks.Goals as goal
+
+pub lacks-requires : goal.lacks-requires
+lacks-requires g c =
+    let i = c.self.inside in
+    let at : IsAt i.devices.items c.args.dev c.index.result.now = record { below = omega arith; is = c.index.ensures } in
+    rw c.state.ensures (record { sound = own_base (length i.ram.bytes) c.index.result.now.state (sound_device i.ram i.devices.items c.args.dev c.index.result.now at c.self.invariant.0.sound) })
+
+pub returns-then-dev-len : goal.returns-then-dev-len
+returns-then-dev-len g c =
+    let i = c.self.inside in
+    rw (← c.self.view_is) (none_read c.args.held.now i.ram i.devices.items c.args.dev c.args.pick (omega arith))
+
+pub returns : goal.returns
+returns g c =
+    let i = c.self.inside in
+    let at : IsAt i.devices.items c.args.dev c.index.result.now = record { below = omega arith; is = c.index.ensures } in
+    rw (← c.self.view_is) (if_known _ _ (length i.ram.bytes) c.args.held.now c.lacks.result (reads_known c.args.held.now i.ram i.devices.items c.args.dev c.args.pick c.index.result.now at) (rw c.state.ensures at c.lacks.ensures))
