@@ -138,7 +138,7 @@ module _ (m : MachineState) (h : History) (out : SinkState) (taken pages : List 
           };
           places = record { sound = places.sound; few = places.few; due_size = places.due_size; dirty_size = places.dirty_size };
           memory = mem;
-          versions = ap (λ (q : ParkedSeen). length q.versions) same;
+          versions = ap (λ (q : ParkedSeen). length q.memory) same;
           goes = failed_goes;
         }
 
@@ -150,7 +150,7 @@ module _ (m : MachineState) (h : History) (out : SinkState) (taken pages : List 
     abbrev content : List ℕ
     content = put_at old.bytes (4096 * n) bytes
 
-    below : n < length old.versions
+    below : n < length old.memory
     below = subst (λ (v : List ℕ). n < length v) lent.parked.lent.versions_are call.below
 
     inside : 4096 * n + length bytes ≤ length old.bytes
@@ -167,7 +167,7 @@ module _ (m : MachineState) (h : History) (out : SinkState) (taken pages : List 
       places = places;
       memory = mem;
       goes = goes;
-      below = one_below n (length old.versions) below;
+      below = one_below n (length old.memory) below;
       long = long;
       are = IsBytes-append (take (4096 * n) old.bytes ++ bytes) (drop (4096 * n + length bytes) old.bytes)
           (IsBytes-append (take (4096 * n) old.bytes) bytes (IsBytes-take (4096 * n) old.bytes places.sound.bytes) call.are) (IsBytes-drop (4096 * n + length bytes) old.bytes places.sound.bytes);
@@ -308,6 +308,6 @@ module _ (m : MachineState) (h : History) (out : SinkState) (taken pages : List 
         dirty_size = length-set l.dirty n false ∙ sym (length-set l.dirty n true) ∙ there.places.dirty_size ∙ ap (λ (x : MachineState). size_of (layout_of x)) (sym same_state);
       };
       memory = record { pages = long ∙ mem.pages; some = mem.some; few = mem.few };
-      versions = ap (λ (q : ParkedSeen). length q.versions) same_parked;
+      versions = ap (λ (q : ParkedSeen). length q.memory) same_parked;
       goes = goes;
     }

@@ -31,7 +31,7 @@ module _ (p next : ParkedSeen) (window left : Region) (dev pick : ℕ) (sent : L
   abbrev seen_as : ParkedSeen → List Bool → Digested → SinkState → LiveParkedSeen
   seen_as q set digest out = record { parked = q; phase = phase; due = due; dirty = set; digest = digest; out = out }
 
-  pub fit_tried : (r : Result Stepped NotMade) → Tried r → length window.content ≡ 4096 * length p.versions → SetsFit (parked_layout next) phase due new.set new.firsts.items at
+  pub fit_tried : (r : Result Stepped NotMade) → Tried r → length window.content ≡ 4096 * length p.memory → SetsFit (parked_layout next) phase due new.set new.firsts.items at
   fit_tried (Ok s) h whole = fit_over p next window left dev pick (reply_in s sent) phase due d new at was h.0 whole
   fit_tried (Err e) h whole = rw (h.1, h.2) was
 

@@ -84,6 +84,6 @@ module _ (m : MachineState) (h : History) (out : SinkState) (taken pages : List 
       };
       places = record { sound = places.sound; few = places.few; due_size = places.due_size; dirty_size = length-with_pages l.dirty marks ∙ places.dirty_size };
       memory = mem;
-      versions = ap (λ (q : ParkedSeen). length q.versions) same_parked;
+      versions = ap (λ (q : ParkedSeen). length q.memory) same_parked;
       goes = goes;
     }

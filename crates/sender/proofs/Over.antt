@@ -27,7 +27,7 @@ use Rattle.sender.specs.declared.phase.Phase.TheVariants as phases
 use Rattle.sender.proofs.Living.{all_noted, closed_refuses, fit_next, guest_free, length-with_items, may_named}
 use Rattle.sender.proofs.Parking.{layout_is}
 
-pub may_over : (m : Seen) (p : ParkedSeen) (phase : Phase) (due : List Bool) (d : Dirty) (at : ℕ) → SetsFit (parked_layout p) phase due d.set d.firsts.items at → length m.memory.bytes ≡ 4096 * length p.versions → m.devices ≡ p.devices → MayItems may_take d (state_of m)
+pub may_over : (m : Seen) (p : ParkedSeen) (phase : Phase) (due : List Bool) (d : Dirty) (at : ℕ) → SetsFit (parked_layout p) phase due d.set d.firsts.items at → length m.memory.bytes ≡ 4096 * length p.memory → m.devices ≡ p.devices → MayItems may_take d (state_of m)
 may_over m p phase due d at was whole devices =
     may_named (state_of m) d phase due at (subst (λ (l : Layout). SetsFit l phase due d.set d.firsts.items at) (sym (layout_is m p whole (sym devices))) was) (omega (arith, whole))
 
@@ -43,12 +43,12 @@ module _ (p next : ParkedSeen) (window left : Region) (dev pick : ℕ) (reply : 
     rest = refl;
   }
 
-  pub fit_over : length window.content ≡ 4096 * length p.versions → SetsFit (parked_layout next) phase due new.set new.firsts.items at
+  pub fit_over : length window.content ≡ 4096 * length p.memory → SetsFit (parked_layout next) phase due new.set new.firsts.items at
   fit_over whole =
       let later = h.made.applied.later in
       let old = back_with p (window_memory p window) in
       let after = back_with next h.made.after in
-      let size : length h.made.after.bytes ≡ 4096 * length next.versions = omega (arith, whole, later.bytes, later.versions, ap length h.made.lent.versions_are) in
+      let size : length h.made.after.bytes ≡ 4096 * length next.memory = omega (arith, whole, later.bytes, later.versions, ap length h.made.lent.versions_are) in
       let same : parked_layout p ≡ parked_layout next = sym (layout_is old p whole refl) ∙ sym (same_layout (state_of old) (state_of after) h.made.applied.shape) ∙ layout_is after next size refl in
       let long : length new.set ≡ length d.set = ap (λ (x : Dirty). length x.set) noted ∙ length-with_items d.firsts.items d.set (items_of h.made.applied.effect) in
       let sets : SetsFit (parked_layout next) phase due d.set d.firsts.items at = subst (λ (l : Layout). SetsFit l phase due d.set d.firsts.items at) same was in

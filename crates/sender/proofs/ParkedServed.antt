@@ -29,7 +29,7 @@ use Rattle.sender.specs.declared.phase.Phase.TheVariants as phases
 use Rattle.sender.proofs.Living.{closed_refuses, guest_free}
 
 -- The sets are those of the pages and of the sectors, which stay.
-pub sets_stay : (p next : ParkedSeen) (phase : Phase) (due dirty : List Bool) (firsts : List ℕ) (at : ℕ) → SetsFit (parked_layout p) phase due dirty firsts at → next.versions ≡ p.versions → parked_sectors next ≡ parked_sectors p
+pub sets_stay : (p next : ParkedSeen) (phase : Phase) (due dirty : List Bool) (firsts : List ℕ) (at : ℕ) → SetsFit (parked_layout p) phase due dirty firsts at → next.memory ≡ p.memory → parked_sectors next ≡ parked_sectors p
     → SetsFit (parked_layout next) phase due dirty firsts at
 sets_stay p next phase due dirty firsts at fit versions sectors =
     let same : parked_layout next ≡ parked_layout p = rw (versions, sectors) refl in

@@ -20,16 +20,16 @@ use Rattle.sender.proofs.Living.{all_noted, fit_next}
 same_parts : (a b : ℕ) (xs ys : List ℕ) → a ≡ b → xs ≡ ys → ◌≡◌ {A = Layout} (record { pages = a; disks = xs }) (record { pages = b; disks = ys })
 same_parts a b xs ys e f = rw (e, f) refl
 
-pub layout_is : (m : Seen) (p : ParkedSeen) → length m.memory.bytes ≡ 4096 * length p.versions → p.devices ≡ m.devices → layout_of (state_of m) ≡ parked_layout p
+pub layout_is : (m : Seen) (p : ParkedSeen) → length m.memory.bytes ≡ 4096 * length p.memory → p.devices ≡ m.devices → layout_of (state_of m) ≡ parked_layout p
 layout_is m p whole devices =
-    same_parts (length m.memory.bytes / 4096) (length p.versions) _ _ (omega (arith, whole)) (ap (λ (ds : List DeviceSeen). map length (map (λ (d : DeviceSeen). d.sectors) ds)) (sym devices))
+    same_parts (length m.memory.bytes / 4096) (length p.memory) _ _ (omega (arith, whole)) (ap (λ (ds : List DeviceSeen). map length (map (λ (d : DeviceSeen). d.sectors) ds)) (sym devices))
 
 -- The sets are those of the same layout, RAM lent or not.
-pub was_live : (m : Seen) (p : ParkedSeen) (phase : Phase) (due dirty : List Bool) (firsts : List ℕ) (at : ℕ) → IsLive m phase due dirty firsts at → IsMemory m.memory → p.versions ≡ m.memory.versions → p.devices ≡ m.devices
+pub was_live : (m : Seen) (p : ParkedSeen) (phase : Phase) (due dirty : List Bool) (firsts : List ℕ) (at : ℕ) → IsLive m phase due dirty firsts at → IsMemory m.memory → p.memory ≡ m.memory.versions → p.devices ≡ m.devices
     → SetsFit (parked_layout p) phase due dirty firsts at
 was_live m p phase due dirty firsts at live mem versions devices = subst (λ l. SetsFit l phase due dirty firsts at) (layout_is m p (omega (arith, mem.pages, ap length versions)) devices) live.sets
 
-pub is_live : (m : Seen) (p : ParkedSeen) (phase : Phase) (due dirty new_dirty : List Bool) (firsts : List ℕ) (at : ℕ) → SetsFit (parked_layout p) phase due dirty firsts at → IsSound (state_of m) → length m.memory.bytes ≡ 4096 * length p.versions → m.devices ≡ p.devices
+pub is_live : (m : Seen) (p : ParkedSeen) (phase : Phase) (due dirty new_dirty : List Bool) (firsts : List ℕ) (at : ℕ) → SetsFit (parked_layout p) phase due dirty firsts at → IsSound (state_of m) → length m.memory.bytes ≡ 4096 * length p.memory → m.devices ≡ p.devices
     → length new_dirty ≡ length dirty → IsLive m phase due new_dirty firsts at
 is_live m p phase due dirty new_dirty firsts at sets sound whole devices long = record {
   sound = sound;
@@ -46,7 +46,7 @@ may_page l phase due d at n fit within =
       few = omega (arith, fit.few, fit.due_size, fit.dirty_size);
     }
 
-pub may_pages : (p : ParkedSeen) (phase : Phase) (due : List Bool) (d : Dirty) (at len : ℕ) → SetsFit (parked_layout p) phase due d.set d.firsts.items at → len ≡ 4096 * length p.versions → MayPages may_take d len
+pub may_pages : (p : ParkedSeen) (phase : Phase) (due : List Bool) (d : Dirty) (at len : ℕ) → SetsFit (parked_layout p) phase due d.set d.firsts.items at → len ≡ 4096 * length p.memory → MayPages may_take d len
 may_pages p phase due d at len was whole n inside = may_page (parked_layout p) phase due d at n was (omega (arith, whole, inside))
 
 -- The set after it.
@@ -62,7 +62,7 @@ length-with_pages s [] = refl
 length-with_pages s (n ∷ pages) = length-with_pages (set s n true) pages ∙ length-set s n true
 
 -- Pages of its RAM have a place in the set.
-pub marks_fit : (p : ParkedSeen) (phase : Phase) (due : List Bool) (d : Dirty) (at : ℕ) (pages : List ℕ) → SetsFit (parked_layout p) phase due d.set d.firsts.items at → AreBelow (length p.versions) pages → AreBelow (length d.set) pages
+pub marks_fit : (p : ParkedSeen) (phase : Phase) (due : List Bool) (d : Dirty) (at : ℕ) (pages : List ℕ) → SetsFit (parked_layout p) phase due d.set d.firsts.items at → AreBelow (length p.memory) pages → AreBelow (length d.set) pages
 marks_fit p phase due d at pages was below k x lt = (may_page (parked_layout p) phase due d at (get_or pages k x) was (below k x lt)).place
 
 -- So may that of a machine whose RAM is not lent.

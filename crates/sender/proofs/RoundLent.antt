@@ -54,7 +54,7 @@ module _ (m : MachineState) (h : History) (out : SinkState) (taken pages : List 
   pub round_ended : (reply : LiveReply) → EndsLent p reply mid → MayEnd pages (a_round_end reply) → GoesOnLent m h out taken pages before (a_round_end reply) p mid
   round_ended reply call may =
       let kept : IsKeptLent p mid = record {
-        versions = ap (λ (q : ParkedSeen). q.versions) call.parked;
+        versions = ap (λ (q : ParkedSeen). q.memory) call.parked;
         states = ap parked_states call.parked;
         sectors = ap parked_sectors call.parked;
         due_size = call.due_size;

@@ -8,7 +8,8 @@ use Rattle.guestmem.specs.Item as items
 use Rattle.guestmem.specs.Memory.{IsMemory, Memory}
 use Rattle.machine.specs.Applied.{ReadsSector}
 use Rattle.machine.specs.Layout.{IsItemIn, Layout, item_at, layout_of, sector_from, size_of}
-use Rattle.machine.specs.Parked.{HasSector, ParkedSeen, ReadsParked, WhateverRam, back_with, parked_sectors, parked_states}
+use Rattle.machine.specs.Over.{HasSector}
+use Rattle.machine.specs.Parked.{ParkedSeen, ReadsParked, WhateverRam, back_with, parked_sectors, parked_states}
 use Rattle.machine.specs.Seen.{Seen, state_of}
 use Rattle.machine.specs.State.{MachineState}
 use Rattle.machine.proofs.Numbering.{either_way, has_item, item_there}
@@ -39,7 +40,7 @@ abbrev some_memory : Memory
 some_memory = record { bytes = []; versions = []; place = None }
 
 -- With whatever RAM the machine has the same layout.
-pub layout_back : (p : ParkedSeen) (m : Memory) → IsMemory m → length m.versions ≡ length p.versions → layout_of (state_of (back_with p m)) ≡ parked_layout p
+pub layout_back : (p : ParkedSeen) (m : Memory) → IsMemory m → length m.versions ≡ length p.memory → layout_of (state_of (back_with p m)) ≡ parked_layout p
 layout_back p m mem count = layout_is (back_with p m) p (omega (arith, mem.pages, count)) refl
 
 -- An item that is a page has the number of the page.
@@ -108,7 +109,7 @@ goes_after phase errors.StreamFailed goes is = cc
 goes_after phase _ goes is = goes is
 
 module _ {E : Type 0} (p next : LiveParkedSeen) (i dev n : ℕ) (buf : List ℕ) (read : Result Bool E) (reads : ReadsParked p.parked dev n buf read next.parked) (is : items.sector dev n ≡ item_at (parked_layout p.parked) i) where
-  at_back : (m : Memory) → IsMemory m → length m.versions ≡ length p.parked.versions → items.sector dev n ≡ item_at (layout_of (now (live_back p m []))) i
+  at_back : (m : Memory) → IsMemory m → length m.versions ≡ length p.parked.memory → items.sector dev n ≡ item_at (layout_of (now (live_back p m []))) i
   at_back m mem count = is ∙ ap (λ (l : Layout). item_at l i) (sym (layout_back p.parked m mem count))
 
   kept : length next.due ≡ length p.due → length next.dirty ≡ length p.dirty → (p.phase ≢ phases.Stopped → next.phase ≢ phases.Stopped) → IsKeptLent p next

@@ -34,7 +34,7 @@ pub record LiveParkedSeen : Type 0 where
 
 -- The layout of a machine whose RAM is lent.
 abbrev pub parked_layout : ParkedSeen → Layout
-parked_layout p = record { pages = length p.versions; disks = map length (map (λ d. d.sectors) p.devices) }
+parked_layout p = record { pages = length p.memory; disks = map length (map (λ d. d.sectors) p.devices) }
 
 -- Its RAM was lent, and all else of it is kept.
 pub record IsLiveParked (l : LiveSeen) (region : Region) (p : LiveParkedSeen) : Type 0 where
@@ -74,8 +74,8 @@ pub record KeepsWord (before after : Region) (count : ℕ) (pages : List ℕ) : 
 
 -- Where the caller keeps its word, the machine is as if the guest had written these pages by calls of it.
 abbrev pub LiveBackIsServed : Type 0
-LiveBackIsServed = (l : LiveSeen) (p : LiveParkedSeen) (before after : Region) (pages : List ℕ) → HasPlaces l → IsMemory l.machine.memory → l.phase ≢ phases.Stopped → IsLiveParked l before p → KeepsWord before after (length p.parked.versions) pages
-    → AreServed l (page_writes (live_base l) pages after.content) (live_back p (given_back after.content (address after) p.parked.versions pages) pages)
+LiveBackIsServed = (l : LiveSeen) (p : LiveParkedSeen) (before after : Region) (pages : List ℕ) → HasPlaces l → IsMemory l.machine.memory → l.phase ≢ phases.Stopped → IsLiveParked l before p → KeepsWord before after (length p.parked.memory) pages
+    → AreServed l (page_writes (live_base l) pages after.content) (live_back p (given_back after.content (address after) p.parked.memory pages) pages)
 
 -- The history goes on by these events of the guest, and nothing is written meanwhile.
 pub record BackGoesOn (m : MachineState) (h : History) (out : SinkState) (events : List Event) (new : LiveSeen) : Type 0 where
@@ -87,5 +87,5 @@ pub record BackGoesOn (m : MachineState) (h : History) (out : SinkState) (events
 -- So its history goes on by these writes, and all that is promised of a history holds of it.
 abbrev pub LiveBackFollows : Type 0
 LiveBackFollows = (m : MachineState) (h : History) (out : SinkState) (l : LiveSeen) (p : LiveParkedSeen) (before after : Region) (pages : List ℕ) → Relates m h out l → HasPlaces l → IsMemory l.machine.memory → l.phase ≢ phases.Stopped
-    → IsLiveParked l before p → KeepsWord before after (length p.parked.versions) pages
-    → BackGoesOn m h out (page_writes (live_base l) pages after.content) (live_back p (given_back after.content (address after) p.parked.versions pages) pages)
+    → IsLiveParked l before p → KeepsWord before after (length p.parked.memory) pages
+    → BackGoesOn m h out (page_writes (live_base l) pages after.content) (live_back p (given_back after.content (address after) p.parked.memory pages) pages)

@@ -112,7 +112,7 @@ LiveParkedFlushFails = (l : LiveSeen) (p next : LiveParkedSeen) (region : Region
 
 -- A step was made beside the guest, and RAM was as these bytes then: it is the step of the machine with this RAM.
 abbrev pub MakesBeside : ParkedSeen → List ℕ → ℕ → ℕ → Reply → Effect → ParkedSeen → Type 0
-MakesBeside p seen dev pick reply effect next = (m : Seen) → m.devices ≡ p.devices → m.memory.versions ≡ p.versions → m.memory.bytes ≡ seen → IsBytes seen → IsStepOf m dev pick reply effect next
+MakesBeside p seen dev pick reply effect next = (m : Seen) → m.devices ≡ p.devices → m.memory.versions ≡ p.memory → m.memory.bytes ≡ seen → IsBytes seen → IsStepOf m dev pick reply effect next
 
 -- Exactly the items that it writes into became dirty, and nothing else changed.
 pub record StepsBeside (p : LiveParkedSeen) (seen : List ℕ) (dev pick : ℕ) (reply : Reply) (effect : Effect) (next : LiveParkedSeen) : Type 0 where
@@ -122,7 +122,7 @@ pub record StepsBeside (p : LiveParkedSeen) (seen : List ℕ) (dev pick : ℕ) (
 
 -- These pages became dirty, and nothing else changed.
 pub record MarksParked (p : LiveParkedSeen) (marks : List ℕ) (next : LiveParkedSeen) : Type 0 where
-  pub below : AreBelow (length p.parked.versions) marks
+  pub below : AreBelow (length p.parked.memory) marks
   pub rest : next ≡ record p { dirty = with_pages p.dirty marks }
 
 -- The end of a round reads no byte of RAM: it is that call of the machine with whatever RAM, and the guest may still run after it.
@@ -273,5 +273,5 @@ pub record LentGoesOn (m : MachineState) (h : History) (out : SinkState) (events
 -- the history, and those that the guest had written before a step. Bytes may have been taken before, and meanwhile.
 abbrev pub LentFollows : Type 0
 LentFollows = (m : MachineState) (h : History) (out : SinkState) (taken : List ℕ) (l : LiveSeen) (p next : LiveParkedSeen) (before after : Region) (calls : List LentCall) (pages : List ℕ) → Relates m h out (untaken taken l) → HasPlaces l → IsMemory l.machine.memory
-    → l.phase ≢ phases.Stopped → IsLiveParked l before p → AreLentCalls p calls next → AreSeen before (length p.parked.versions) calls → MayEndAll [] calls → KeepsWord (over_with_all before calls) after (length p.parked.versions) pages → ((n : ℕ) → is_named (missing_among [] calls) n ≡ true → is_named pages n ≡ true)
-    → LentGoesOn m h out (events_among calls ++ page_writes (parked_base next) pages after.content) (sent_among calls) (untaken (taken ++ bytes_among calls) (live_back next (given_back after.content (address after) next.parked.versions pages) pages))
+    → l.phase ≢ phases.Stopped → IsLiveParked l before p → AreLentCalls p calls next → AreSeen before (length p.parked.memory) calls → MayEndAll [] calls → KeepsWord (over_with_all before calls) after (length p.parked.memory) pages → ((n : ℕ) → is_named (missing_among [] calls) n ≡ true → is_named pages n ≡ true)
+    → LentGoesOn m h out (events_among calls ++ page_writes (parked_base next) pages after.content) (sent_among calls) (untaken (taken ++ bytes_among calls) (live_back next (given_back after.content (address after) next.parked.memory pages) pages))

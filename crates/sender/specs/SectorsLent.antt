@@ -33,7 +33,7 @@ IsNextDue pages due next_due.Nothing = HasNone due
 -- The devices stay as they are, but for the marks and the calls of their disks, and each set has as many entries as before. The guest may
 -- still run.
 pub record IsKeptLent (p next : LiveParkedSeen) : Type 0 where
-  pub versions : next.parked.versions ≡ p.parked.versions
+  pub versions : next.parked.memory ≡ p.parked.memory
   pub states : parked_states next.parked ≡ parked_states p.parked
   pub sectors : parked_sectors next.parked ≡ parked_sectors p.parked
   pub due_size : length next.due ≡ length p.due
@@ -49,7 +49,7 @@ pub record CopiesLent (p : LiveParkedSeen) (reply : LiveReply) (next : LiveParke
 pub record IsPageDue (p : LiveParkedSeen) (page : ℕ) (next : LiveParkedSeen) : Type 0 where
   pub free : refusal_for p.phase Copy ≡ None
   pub least : IsLeast p.due 0 page
-  pub below : page < length p.parked.versions
+  pub below : page < length p.parked.memory
   pub same : next ≡ p
 
 -- No item is due.

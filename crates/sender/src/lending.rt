@@ -55,7 +55,7 @@ impl<D: Disk, W: Digesting> Model for LiveParked<D, W> {
 impl<D: Disk, W: Digesting> LiveParked<D, W> {
     /// How many pages its RAM has, at least one.
     pub fn pages(&self) -> usize
-        ensures { result ≡ length self.now.parked.versions }
+        ensures { result ≡ length self.now.parked.memory }
     {
         self.parked.pages()
     }
@@ -80,11 +80,11 @@ impl<D: Disk, W: Digesting> LiveParked<D, W> {
 
     /// What `remaining` counts, with pages and sectors apart. It looks at the place of each page in both sets.
     pub fn left(&self) -> Left
-        ensures due_pages { result.due_pages ≡ member_count (take (length self.now.parked.versions) self.now.due) }
-        ensures due_sectors { result.due_sectors ≡ member_count (drop (length self.now.parked.versions) self.now.due) }
-        ensures dirty_pages { result.dirty_pages ≡ member_count (take (length self.now.parked.versions) self.now.dirty) }
-        ensures dirty_sectors { result.dirty_sectors ≡ member_count (drop (length self.now.parked.versions) self.now.dirty) }
-        ensures few_pages { result.due_pages + result.dirty_pages ≤ 2 * length self.now.parked.versions }
+        ensures due_pages { result.due_pages ≡ member_count (take (length self.now.parked.memory) self.now.due) }
+        ensures due_sectors { result.due_sectors ≡ member_count (drop (length self.now.parked.memory) self.now.due) }
+        ensures dirty_pages { result.dirty_pages ≡ member_count (take (length self.now.parked.memory) self.now.dirty) }
+        ensures dirty_sectors { result.dirty_sectors ≡ member_count (drop (length self.now.parked.memory) self.now.dirty) }
+        ensures few_pages { result.due_pages + result.dirty_pages ≤ 2 * length self.now.parked.memory }
         ensures pages_fit { result.due_pages + result.dirty_pages ≤ 8589934590 }
         ensures few_sectors { result.due_sectors + result.dirty_sectors < 2 ^ 38 }
     {
@@ -111,9 +111,9 @@ impl<D: Disk, W: Digesting> LiveParked<D, W> {
 
     /// The machine whose RAM is given back, as `Parked::give_back` does. The pages that were written meanwhile are dirty.
     pub fn give_back(self, region: Region, pages: &[u32]) -> LiveOver<D, W>
-        requires size { length region.content ≡ PAGE_SIZE * length self.parked.versions }
-        requires below { AreBelow (length self.parked.versions) pages.now }
-        ensures { result ≡ live_back self (given_back region.content (address region) self.parked.versions pages.now) pages.now }
+        requires size { length region.content ≡ PAGE_SIZE * length self.parked.memory }
+        requires below { AreBelow (length self.parked.memory) pages.now }
+        ensures { result ≡ live_back self (given_back region.content (address region) self.parked.memory pages.now) pages.now }
     {
         let LiveParked {
             parked,

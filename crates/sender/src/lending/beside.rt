@@ -32,7 +32,7 @@ impl<D: Disk, W: Digesting> LiveParked<D, W> {
         pick: u8,
         held: &[Piece],
     ) -> (Result<Option<Piece>, NoMemory>, Region, LiveParked<D, W>)
-        requires size { length window.content ≡ PAGE_SIZE * length self.parked.versions }
+        requires size { length window.content ≡ PAGE_SIZE * length self.parked.memory }
         ensures lacking { IfOk result.0 (LacksOr (length window.content) held.now (KnowsReads held.now (state_of (back_with self.parked (window_memory self.parked window))) dev pick)) }
         ensures content { result.1.content ≡ window.content }
         ensures place { address result.1 ≡ address window }
@@ -51,7 +51,7 @@ impl<D: Disk, W: Digesting> LiveParked<D, W> {
         dev: u8,
         pick: u8,
     ) -> (Result<Option<Asking>, NoMemory>, Region, LiveParked<D, W>)
-        requires size { length window.content ≡ PAGE_SIZE * length self.parked.versions }
+        requires size { length window.content ≡ PAGE_SIZE * length self.parked.memory }
         ensures asking { IfOk result.0 (λ asking. StepAsks (state_of (back_with self.parked (window_memory self.parked window))) dev pick asking) }
         ensures content { result.1.content ≡ window.content }
         ensures place { address result.1 ≡ address window }
@@ -69,7 +69,7 @@ impl<D: Disk, W: Digesting> LiveParked<D, W> {
         dev: u8,
         pick: u8,
     ) -> (Result<Stores, NoMemory>, Region, LiveParked<D, W>)
-        requires size { length window.content ≡ PAGE_SIZE * length self.parked.versions }
+        requires size { length window.content ≡ PAGE_SIZE * length self.parked.memory }
         ensures storing { IfOk result.0 (λ stores. StepStores (state_of (back_with self.parked (window_memory self.parked window))) dev pick stores) }
         ensures content { result.1.content ≡ window.content }
         ensures place { address result.1 ≡ address window }
@@ -90,7 +90,7 @@ impl<D: Disk, W: Digesting> LiveParked<D, W> {
         pick: u8,
         sent: &mut Vec<u8>,
     ) -> (Result<Stepped, MigError>, Region, LiveParked<D, W>)
-        requires size { length window.content ≡ PAGE_SIZE * length self.parked.versions }
+        requires size { length window.content ≡ PAGE_SIZE * length self.parked.memory }
         ensures { TriesOver self window dev pick result.0 sent.new.items result.1 result.2 }
     {
         if let Err(error) = self.running() {
@@ -108,7 +108,7 @@ impl<D: Disk, W: Digesting> LiveParked<D, W> {
         pick: u8,
         sent: &mut Vec<u8>,
     ) -> (Stepped, Region, LiveParked<D, W>)
-        requires size { length window.content ≡ PAGE_SIZE * length self.parked.versions }
+        requires size { length window.content ≡ PAGE_SIZE * length self.parked.memory }
         ensures { IsLiveMadeOver self window dev pick (reply_in result.0 sent.new.items) result.1 result.2 }
     {
         let mut dirty = self.dirty;

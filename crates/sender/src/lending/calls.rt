@@ -134,7 +134,7 @@ impl<D: Disk, W: Digesting> LiveParked<D, W> {
 
     /// The least due item, if it is a page: the one that `copy_page` takes next. `next_item` says too whether sectors are due.
     pub fn next_due(&self) -> Option<u32>
-        ensures { IsNextPage (length self.now.parked.versions) self.now.due result }
+        ensures { IsNextPage (length self.now.parked.memory) self.now.due result }
     {
         match self.next_item() {
             NextDue::Page(page) => Some(page),
@@ -147,7 +147,7 @@ impl<D: Disk, W: Digesting> LiveParked<D, W> {
     /// is among those that were written.
     pub fn copy_page(&mut self, page: u32, bytes: &[u8; 4096]) -> Result<(), MigError>
         requires next { IsLeast self.old.due 0 page }
-        requires inside { page < length self.old.parked.versions }
+        requires inside { page < length self.old.parked.memory }
         ensures { HandsInPage self.old page bytes.now result self.new }
     {
         if let Some(error) = copy_refusal(self.phase) {
@@ -168,7 +168,7 @@ impl<D: Disk, W: Digesting> LiveParked<D, W> {
     /// there by the history: as it was lent, or as the page was handed in, or as a step beside the guest saw it. A page that may have other
     /// bytes at the return is named there too, as if it had not been marked. No byte is read or written, and no version rises.
     pub fn mark(&mut self, pages: &[u32])
-        requires below { AreBelow (length self.old.parked.versions) pages.now }
+        requires below { AreBelow (length self.old.parked.memory) pages.now }
         ensures { self.new ≡ record self.old { dirty = with_pages self.old.dirty pages.now } }
     {
         self.parked.recall();

@@ -33,7 +33,7 @@ impl<D: Disk, W: Digesting> LiveParked<D, W> {
         Region,
         LiveParked<D, W>,
     )
-        requires size { length window.content ≡ PAGE_SIZE * length self.parked.versions }
+        requires size { length window.content ≡ PAGE_SIZE * length self.parked.memory }
         ensures runs { IfOk result.0 (λ _. refusal_for self.phase (Guest (events.Step pieces.now.work.dev pieces.now.work.pick)) ≡ None) }
         ensures refused { IfErr result.0 (λ x. refusal_for self.phase (Guest (events.Step pieces.now.work.dev pieces.now.work.pick)) ≡ Some x) }
         ensures may_make { IfMade result.0 (λ _. MayMake self.parked window serials.old pieces.now) }
@@ -61,7 +61,7 @@ impl<D: Disk, W: Digesting> LiveParked<D, W> {
         serials: &mut Serials,
         sent: &mut Vec<u8>,
     ) -> (Result<Stepped, NotMade>, Region, LiveParked<D, W>)
-        requires size { length window.content ≡ PAGE_SIZE * length self.parked.versions }
+        requires size { length window.content ≡ PAGE_SIZE * length self.parked.memory }
         ensures may_make { IfOk result.0 (λ _. MayMake self.parked window serials.old pieces.now) }
         ensures made { IfOk result.0 (λ stepped. IsLiveMadeOver self window pieces.now.work.dev pieces.now.work.pick (reply_in stepped sent.new.items) result.1 result.2) }
         ensures touched { IfOk result.0 (λ _. serials.new ≡ touched serials.old pieces.now.work.dev) }

@@ -21,7 +21,7 @@ use wire::Digesting;
 impl<D: Disk, W: Digesting> LiveParked<D, W> {
     /// What is sent next: a page by `copy_page`, a sector by `copy_sector`.
     pub fn next_item(&self) -> NextDue
-        ensures { IsNextDue (length self.now.parked.versions) self.now.due result }
+        ensures { IsNextDue (length self.now.parked.memory) self.now.due result }
     {
         self.parked.recall();
         let Some(number) = self.due.first_from(self.at) else {

@@ -1,4 +1,5 @@
 use Rattle.std.proofs.Common.{refl}
+use Rattle.machine.proofs.ParkedCalls.{applied_parked}
 use Rattle.sender.proofs.ParkedServed.{served_parked, sets_stay}
 use Rattle.sender.proofs.lending.LiveParked.input.Goals as goal
 
@@ -6,9 +7,9 @@ pub invariant_of-self : goal.invariant_of-self
 invariant_of-self g c =
     let i = c.self.inside in
     let was = c.input-answer in
-    sets_stay i.parked was.new.self i.phase i.due i.dirty.set i.dirty.firsts.items i.at c.self.invariant was.ensures.versions was.ensures.sectors
+    sets_stay i.parked was.new.self i.phase i.due i.dirty.set i.dirty.firsts.items i.at c.self.invariant was.ensures.applied.0 was.ensures.sectors
 
 pub returns : goal.returns
 returns g c =
     let still = rw (← c.self.view_is) at c.in_ok-running.ensures.open in
-    rw (← c.self.view_is, c.from_accepted.ensures) (served_parked _ _ _ _ still c.input-answer.ensures refl)
+    rw (← c.self.view_is, c.from_accepted.ensures) (served_parked _ _ _ _ still (applied_parked _ _ _ _ tt c.input-answer.ensures.applied c.input-answer.ensures.sectors c.input-answer.ensures.calls) refl)

@@ -8,7 +8,7 @@ use Rattle.sender.proofs.lending.LiveParked.mark.Goals as goal
 pub insert_each-requires : goal.insert_each-requires
 insert_each-requires g c =
     let i = c.self.inside in
-    marks_fit i.parked i.phase i.due i.dirty i.at c.args.pages.now c.self.invariant (subst (λ (v : LiveParkedSeen). AreBelow (length v.parked.versions) c.args.pages.now) (sym c.self.view_is) c.requires.below)
+    marks_fit i.parked i.phase i.due i.dirty i.at c.args.pages.now c.self.invariant (subst (λ (v : LiveParkedSeen). AreBelow (length v.parked.memory) c.args.pages.now) (sym c.self.view_is) c.requires.below)
 
 pub invariant_of-self : goal.invariant_of-self
 invariant_of-self g c =
