@@ -1,5 +1,5 @@
 -- What is so for each RAM that may be there.
-use Rattle.std.proofs.Common.{◌≡◌, ℕ, List, length, refl, sym, ap, subst, ◌∙◌}
+use Rattle.std.proofs.Common.{◌≡◌, length, refl, sym, ap, subst, ◌∙◌}
 use Rattle.guestmem.specs.Memory.{Memory}
 use Rattle.machine.specs.Known.{Between, Here, Known, Lent, MayBe, Whatever}
 

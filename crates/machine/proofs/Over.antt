@@ -1,5 +1,5 @@
 -- Calls that need no byte of RAM, of a machine whose RAM is here or lent.
-use Rattle.std.proofs.Common.{◌≡◌, ℕ, ◌≤◌, List, length, map, set, refl, ap}
+use Rattle.std.proofs.Common.{◌≡◌, ℕ, List, length, map, set, refl, ap}
 use Rattle.guestmem.specs.Memory.{Memory}
 use Rattle.machine.specs.Applied.{FailsOnlyUnsteady, IsApplied, marks_after}
 use Rattle.machine.specs.Held.{IsHeld}

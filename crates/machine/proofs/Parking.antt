@@ -14,7 +14,6 @@ use Rattle.machine.specs.declared.any_ring.AnyRing.{AnyRing}
 use Rattle.machine.specs.Sound.{AreSoundDevices, IsSoundDevice}
 use Rattle.machine.specs.declared.machine.TheConstants.{DEVICES_MAX}
 use Rattle.machine.specs.declared.shape.Shape.{Shape}
-use Rattle.machine.specs.Shapes.{made_as}
 use Rattle.machine.specs.State.{base_of}
 use Rattle.machine.proofs.Over.{AreKept, IsKept}
 

@@ -1,17 +1,15 @@
 -- A turn beside the guest is a turn.
-use Rattle.std.proofs.Common.{◌≡◌, ◌≢◌, ℕ, Bool, true, false, List, [], Some, None, slice_get, refl}
+use Rattle.std.proofs.Common.{◌≡◌, ℕ, Bool, true, false, List, slice_get, refl}
 use Rattle.machine.specs.Parked.{ParkedSeen, parked_states}
 use Rattle.machine.specs.Stepped.{reply_in}
 use Rattle.machine.specs.Turn.{MakesNext, Once, counted, goes_on, is_entropy, step_of}
 use Rattle.machine.specs.TurnBeside.{BesideIsOnce, IsPlanned, MakesBeside, end_after, turn_after}
-use Rattle.machine.specs.declared.event.Event.{Event}
 use Rattle.machine.specs.declared.reply.Reply.{Reply}
 use Rattle.machine.specs.declared.reply.Reply.TheVariants as replies
 use Rattle.machine.specs.declared.stepped.Stepped.{Stepped}
 use Rattle.machine.specs.declared.stepped.Stepped.TheVariants as stepped
 use Rattle.machine.specs.declared.turn.Plan.{Plan}
 use Rattle.machine.specs.declared.turn.Turn.{Turn}
-use Rattle.machine.specs.declared.turn.TurnEnd.TheVariants as ends
 
 module _ (old new : ParkedSeen) (turn : Turn) (plan : Plan) (sent : List ℕ) (planned : IsPlanned (parked_states old) turn plan) where
   next : (reply : Reply) → MakesBeside old (step_of plan.work) reply new → MakesNext parked_states MakesBeside old turn.last plan.work reply new

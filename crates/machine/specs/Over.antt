@@ -1,7 +1,6 @@
 -- What the calls do that need no byte of RAM: said once, of a machine whose RAM is here or lent. Where it is here, each is what that call of
 -- the machine does; where it is lent, it is so whatever it holds meanwhile.
 use Rattle.std.specs.Prelude.{◌≡◌, ℕ, Bool, List, Option, Some, Result, map, slice_get, if◌then◌else◌}
-use Rattle.guestmem.specs.Memory.{Memory}
 use Rattle.blk.specs.Sectors.{Sector}
 use Rattle.machine.specs.Applied.{IsApplied, ReadsSector}
 use Rattle.machine.specs.EffectLaws.{HasSectorsOf, sector_on}

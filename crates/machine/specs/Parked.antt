@@ -1,5 +1,5 @@
 -- What contracts see of a machine whose RAM is lent.
-use Rattle.std.specs.Prelude.{◌≡◌, ℕ, ◌+◌, ◌*◌, ◌/◌, ◌≤◌, List, [], ◌∷◌, Bool, true, false, Option, Some, Result, length, map, slice_get, slice_index}
+use Rattle.std.specs.Prelude.{◌≡◌, ℕ, ◌+◌, ◌*◌, ◌/◌, ◌≤◌, List, [], ◌∷◌, Bool, true, false, Option, Result, length, map, slice_get, slice_index}
 use Rattle.region.specs.Address.{address}
 use Rattle.region.specs.declared.region.Region.{Region}
 use Rattle.guestmem.specs.Lent.{AreBelow, IsLent, given_back, is_named, marked}
@@ -12,7 +12,7 @@ use Rattle.blk.specs.declared.disk.DiskFault.{DiskFault}
 use Rattle.machine.specs.Applied.{IsApplied, ReadsSector}
 use Rattle.machine.specs.Effect.{items_of}
 use Rattle.machine.specs.Held.{IsHeld}
-use Rattle.machine.specs.Seen.{DeviceSeen, Seen, SeenOver, all_calls, state_of}
+use Rattle.machine.specs.Seen.{Seen, SeenOver, all_calls, state_of}
 use Rattle.machine.specs.Sound.{IsSound}
 use Rattle.machine.specs.State.{DeviceState, base_of}
 use Rattle.machine.specs.Unsynced.{FailsFlush, FlushesDisk, flushes_if}

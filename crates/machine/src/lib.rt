@@ -69,12 +69,14 @@
 //!   they keep, so a page that was written and not named is never read as it was: then too it is what the guest's writes are, but for the
 //!   versions (`laws::unnamed_is_written`). `mark` names pages later; it is the guest's writes of these pages with the bytes that lie there
 //!   (`laws::mark_is_written`).
-//! - What needs no byte of RAM can be done while it is lent: register accesses, input, a size of a console, flushes of disks, reads of
-//!   their sectors, the next work, the lines, the states of the devices, and answers of disks outside that touch no RAM (`Parked::disk_did`, `disk_failed`). Each is
-//!   that of the machine with whatever its RAM holds meanwhile, and so of the machine as it was lent (`laws::parked_is_applied`,
-//!   `parked_is_flushed`, `parked_is_read`, `parked_flush_fails`) and of the machine after the return (`laws::lent_call_is_made_after_the_return`): it makes no
-//!   difference whether the guest wrote before or after. RAM accesses, bytes that a disk outside gave and what hands the machine on want the
-//!   RAM back, and so do steps, but for those that are made over a window.
+//! - A machine is written over its RAM (`MachineOver<D, M: GuestRam>`): `Machine` has it here, `Parked` has lent it. What needs no byte of RAM is
+//!   written once, over both: register accesses, input, a size of a console, flushes of disks, reads of their sectors, the next work, the
+//!   lines, the states of the devices, and answers of disks outside that touch no RAM (`disk_did`, `disk_failed`). Such a contract is said of
+//!   each RAM that may be there (`specs/Known`, `Over`): of a `Machine` it is what stands above, and of a `Parked` machine the call is that of
+//!   the machine with whatever its RAM holds meanwhile, and so of the machine as it was lent (`laws::parked_is_applied`,
+//!   `parked_is_flushed`, `parked_is_read`, `parked_flush_fails`) and of the machine after the return
+//!   (`laws::lent_call_is_made_after_the_return`): it makes no difference whether the guest wrote before or after. RAM accesses, bytes that a
+//!   disk outside gave and what hands the machine on want the RAM back, and so do steps, but for those that are made over a window.
 //! - A step may be made while the RAM is lent and the guest runs: over a window, a second memory of RAM's size into which the caller copies
 //!   the pieces for which `Parked::lacks` asks. `Parked::asking` says before it which word of the driver is read last, which word is quiet
 //!   meanwhile, and whether the true one asks for an interrupt; `Parked::step_over` makes the step, and `Parked::end` ends it. It is that step

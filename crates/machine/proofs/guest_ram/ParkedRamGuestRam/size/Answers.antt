@@ -1,4 +1,4 @@
-use Rattle.std.proofs.Common.{arith, refl}
+use Rattle.std.proofs.Common.{arith}
 use Rattle.machine.proofs.Parking.{may_be_zeros}
 use Rattle.machine.proofs.guest_ram.ParkedRamGuestRam.size.Goals as goal
 

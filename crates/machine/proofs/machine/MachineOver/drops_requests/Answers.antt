@@ -1,6 +1,5 @@
-use Rattle.std.proofs.Common.{arith, length, subst}
-use Rattle.machine.specs.Sound.{IsSoundDevice}
-use Rattle.machine.proofs.At.{IsAt, found, own_base, seen_base, sound_device}
+use Rattle.std.proofs.Common.{arith, length}
+use Rattle.machine.proofs.At.{IsAt, found, own_base, sound_device}
 use Rattle.machine.proofs.Over.{held_at}
 use Rattle.machine.proofs.machine.MachineOver.drops_requests.Goals as goal
 

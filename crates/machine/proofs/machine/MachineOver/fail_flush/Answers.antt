@@ -1,9 +1,9 @@
-use Rattle.std.proofs.Common.{◌∙◌, ap, arith, refl, sym}
-use Rattle.machine.specs.Seen.{DeviceSeen, SeenOver}
-use Rattle.machine.proofs.At.{IsAt, found, map-set_same}
+use Rattle.std.proofs.Common.{◌∙◌, ap, arith, sym}
+use Rattle.machine.specs.Seen.{DeviceSeen}
+use Rattle.machine.proofs.At.{IsAt, map-set_same}
 use Rattle.machine.proofs.Keeping.{rings_stay}
 use Rattle.machine.proofs.Known.{between_same, for_each}
-use Rattle.machine.proofs.Over.{held_at, keeps_disk, kept_at}
+use Rattle.machine.proofs.Over.{held_at, kept_at}
 use Rattle.machine.proofs.Unsynced.{flushes_there, held_tried, same_devices, tried}
 use Rattle.machine.proofs.machine.MachineOver.fail_flush.Goals as goal
 

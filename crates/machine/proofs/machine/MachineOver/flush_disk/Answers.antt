@@ -1,6 +1,6 @@
 use Rattle.std.proofs.Common.{arith}
 use Rattle.machine.proofs.At.{IsAt}
-use Rattle.machine.proofs.Flushing.{IsCalled, flushes_disk}
+use Rattle.machine.proofs.Flushing.{flushes_disk}
 use Rattle.machine.proofs.Keeping.{rings_stay}
 use Rattle.machine.proofs.Known.{between_same, for_each}
 use Rattle.machine.proofs.Missing.{missing_flush, missing_over}

@@ -1,4 +1,4 @@
-use Rattle.std.proofs.Common.{arith, refl}
+use Rattle.std.proofs.Common.{arith}
 use Rattle.machine.specs.Step.{out_reply, written_out}
 use Rattle.machine.specs.declared.event.Event.TheVariants as events
 use Rattle.machine.proofs.At.{IsAt, register_step, missing_write}
