@@ -87,7 +87,7 @@ back_is_behind m h out pages l p before after written named rest b places mem go
     let q : LiveParkedSeen = record p { dirty = with_pages p.dirty late } in
     let there : IsLiveParked (if_dirty late l) before q = record { parked = lent.parked; rest = ap (λ (x : LiveParkedSeen). record x { dirty = with_pages x.dirty late }) lent.rest } in
     let gone = live_back_follows m h out (if_dirty late l) q before after written b.relates (places_late l late places) mem goes there word in
-    let new : LiveSeen = live_back p (given_back after.content (address after) p.parked.memory named) named in
+    let new : LiveSeen = live_back p (given_back after.content (address after) p.machine.memory named) named in
     let still = beside named (late ++ written) in
     let dirty : with_pages (with_pages p.dirty named) still ≡ with_pages (with_pages p.dirty late) written =
     beside_late p.dirty named (late ++ written)
@@ -98,7 +98,7 @@ back_is_behind m h out pages l p before after written named rest b places mem go
       behind = record {
         late = still;
         among = caught (pages ++ written) (late ++ written) named rest (joined late pages written b.among) all;
-        relates = subst P (sym dirty) (relates_with m gone.history out (live_back q (given_back after.content (address after) p.parked.memory written) written) new.machine gone.relates refl gone.relates.honest);
+        relates = subst P (sym dirty) (relates_with m gone.history out (live_back q (given_back after.content (address after) p.machine.memory written) written) new.machine gone.relates refl gone.relates.honest);
       };
       came = gone.came;
       text_is = gone.text_is;

@@ -77,7 +77,7 @@ module _ (m : MachineState) (h : History) (out : SinkState) (taken pages : List 
     goes = subst (λ (f : Phase). f ≢ phases.Stopped) (sym one.phase) goes;
   }
 
-  goes_on : (c : LentCall) → IsLentCall p c mid → IsSeen before (length p.parked.memory) c → MayEnd pages c → GoesOnLent m h out taken pages before c p mid
+  goes_on : (c : LentCall) → IsLentCall p c mid → IsSeen before (length p.machine.memory) c → MayEnd pages c → GoesOnLent m h out taken pages before c p mid
   goes_on (an_event e reply) call saw may =
       let one : IsDoneLiveLent l before mid (IsServedUncalled l e (r.Guest reply)) = live_parked_is_served l p mid before e (r.Guest reply) places mem lent call in
       let gone = taken_stays_behind m h out taken pages (Guest e) (r.Guest reply) l one.after b places (may_guest pages e) one.done.serves in
@@ -103,12 +103,12 @@ module _ (m : MachineState) (h : History) (out : SinkState) (taken pages : List 
         came = sym (append-nil (guest_events h));
         text_is = sym (append-nil (text m h));
         parked = record {
-          parked = subst (λ (q : ParkedSeen). IsParked l.machine before q) (sym (ap (λ (x : LiveParkedSeen). x.parked) call.rest)) lent.parked;
-          rest = ap (λ (x : LiveParkedSeen). record x { parked = mid.parked }) call.rest ∙ ap (λ (x : LiveParkedSeen). record x { parked = mid.parked; digest = mid.digest; out = mid.out }) lent.rest;
+          parked = subst (λ (q : ParkedSeen). IsParked l.machine before q) (sym (ap (λ (x : LiveParkedSeen). x.machine) call.rest)) lent.parked;
+          rest = ap (λ (x : LiveParkedSeen). record x { machine = mid.machine }) call.rest ∙ ap (λ (x : LiveParkedSeen). record x { machine = mid.machine; digest = mid.digest; out = mid.out }) lent.rest;
         };
         places = record { sound = places.sound; few = places.few; due_size = places.due_size; dirty_size = places.dirty_size };
         memory = mem;
-        versions = ap (λ (q : ParkedSeen). length q.memory) (ap (λ (x : LiveParkedSeen). x.parked) call.rest);
+        versions = ap (λ (q : ParkedSeen). length q.memory) (ap (λ (x : LiveParkedSeen). x.machine) call.rest);
         goes = goes;
       }
   goes_on (a_step base wrote seen dev pick reply effect) call saw may = goes_beside m h out taken pages l p mid before b places mem goes lent base wrote seen dev pick reply effect call.0 call.1 saw
@@ -126,18 +126,18 @@ word_on before after a b pages is word = rw is word
 pub lent_is_behind : LentIsBehind
 lent_is_behind m h out taken pages l p next before after [] written named rest b places mem goes lent called saw may word few all =
     let gone = back m h out taken pages l p before after written named rest b places mem goes lent word few all in
-    subst (λ (x : LiveParkedSeen). BehindSends m h out (page_writes (parked_base x) written after.content) [] rest (untaken (taken ++ []) (live_back x (given_back after.content (address after) x.parked.memory named) named))) (sym called)
-    (subst (λ (t : List ℕ). BehindSends m h out (page_writes (parked_base p) written after.content) [] rest (untaken t (live_back p (given_back after.content (address after) p.parked.memory named) named))) (sym (append-nil taken))
+    subst (λ (x : LiveParkedSeen). BehindSends m h out (page_writes (parked_base x) written after.content) [] rest (untaken (taken ++ []) (live_back x (given_back after.content (address after) x.machine.memory named) named))) (sym called)
+    (subst (λ (t : List ℕ). BehindSends m h out (page_writes (parked_base p) written after.content) [] rest (untaken t (live_back p (given_back after.content (address after) p.machine.memory named) named))) (sym (append-nil taken))
     (record { history = gone.history; behind = gone.behind; came = gone.came; text_is = gone.text_is ∙ sym (append-nil (text m h)) }))
 lent_is_behind m h out taken pages l p next before after (c ∷ cs) written named rest b places mem goes lent called saw may word few all =
     let mid = called.0 in
     let one : GoesOnLent m h out taken pages before c p mid = goes_on m h out taken pages l p mid before b places mem goes lent c called.1 saw.0 may.0 in
     let more = lent_is_behind m one.history out (taken ++ bytes_in c) (missing_in pages c) one.after mid next (over_with before c) after cs written named rest one.behind one.places one.memory one.goes one.parked called.2
-    (subst (λ (k : ℕ). AreSeen (over_with before c) k cs) (sym one.versions) saw.1) may.1 (word_on (over_with_all (over_with before c) cs) after (length p.parked.memory) (length mid.parked.memory) written one.versions word) few all in
+    (subst (λ (k : ℕ). AreSeen (over_with before c) k cs) (sym one.versions) saw.1) may.1 (word_on (over_with_all (over_with before c) cs) after (length p.machine.memory) (length mid.machine.memory) written one.versions word) few all in
     let writes = page_writes (parked_base next) written after.content in
     record {
       history = more.history;
-      behind = subst (λ (t : List ℕ). IsBehind m more.history out rest (untaken t (live_back next (given_back after.content (address after) next.parked.memory named) named))) (append_assoc taken (bytes_in c) (bytes_among cs)) more.behind;
+      behind = subst (λ (t : List ℕ). IsBehind m more.history out rest (untaken t (live_back next (given_back after.content (address after) next.machine.memory named) named))) (append_assoc taken (bytes_in c) (bytes_among cs)) more.behind;
       came = more.came ∙ ap (λ (es : List Event). es ++ (events_among cs ++ writes)) one.came ∙ append_assoc (guest_events h) (events_in c) (events_among cs ++ writes) ∙ ap (λ (es : List Event). guest_events h ++ es) (sym (append_assoc (events_in c) (events_among cs) writes));
       text_is = more.text_is ∙ ap (λ (x : List ℕ). x ++ sent_among cs) one.text_is ∙ append_assoc (text m h) (sent_in c) (sent_among cs);
     }
@@ -152,7 +152,7 @@ lent_follows m h out taken l p next before after calls pages rel places mem goes
     (λ n is. rw (append-nil pages) (or_none (is_named (missing_among [] calls) n) (is_named pages n) (all n) (sym (named_both n (missing_among [] calls) pages) ∙ is))) in
     record {
       history = gone.history;
-      relates = (behind_by_none m gone.history out (untaken (taken ++ bytes_among calls) (live_back next (given_back after.content (address after) next.parked.memory pages) pages))).0 gone.behind;
+      relates = (behind_by_none m gone.history out (untaken (taken ++ bytes_among calls) (live_back next (given_back after.content (address after) next.machine.memory pages) pages))).0 gone.behind;
       came = gone.came;
       text_is = gone.text_is;
     }

@@ -125,7 +125,7 @@ module _ (m : MachineState) (h : History) (out : SinkState) (taken pages : List 
     handing_failed =
         let gone = taken_stays_behind m h out taken pages Copy (r.Mig errors.StreamFailed) l failed b places (may_copy pages) serves_failed in
         let next : History = then_came h Copy (r.Mig errors.StreamFailed) gone.effect in
-        let same : mid.parked ≡ p.parked = ap (λ (x : LiveParkedSeen). x.parked) call.rest in
+        let same : mid.machine ≡ p.machine = ap (λ (x : LiveParkedSeen). x.machine) call.rest in
         record {
           history = next;
           after = failed;
@@ -134,7 +134,7 @@ module _ (m : MachineState) (h : History) (out : SinkState) (taken pages : List 
           text_is = no_texts (text m h);
           parked = record {
             parked = subst (λ (q : ParkedSeen). IsParked l.machine before q) (sym same) lent.parked;
-            rest = ap (λ (x : LiveParkedSeen). record x { parked = mid.parked }) call.rest ∙ ap (λ (x : LiveParkedSeen). record x { parked = mid.parked; phase = phases.Failed; digest = mid.digest; out = mid.out }) lent.rest;
+            rest = ap (λ (x : LiveParkedSeen). record x { machine = mid.machine }) call.rest ∙ ap (λ (x : LiveParkedSeen). record x { machine = mid.machine; phase = phases.Failed; digest = mid.digest; out = mid.out }) lent.rest;
           };
           places = record { sound = places.sound; few = places.few; due_size = places.due_size; dirty_size = places.dirty_size };
           memory = mem;
@@ -264,8 +264,8 @@ module _ (m : MachineState) (h : History) (out : SinkState) (taken pages : List 
           relates = subst P cleared (relates_with m second out (if_dirty still (untaken taken copied)) after.machine step_two.relates same_state step_two.relates.honest);
         }
 
-    same_parked : mid.parked ≡ p.parked
-    same_parked = ap (λ (x : LiveParkedSeen). x.parked) call.rest
+    same_parked : mid.machine ≡ p.machine
+    same_parked = ap (λ (x : LiveParkedSeen). x.machine) call.rest
 
     parked : IsLiveParked after (over_with before (a_page addr n bytes)) mid
     parked = record {
@@ -277,8 +277,8 @@ module _ (m : MachineState) (h : History) (out : SinkState) (taken pages : List 
         };
         devices_are = lent.parked.devices_are;
       });
-      rest = ap (λ (x : LiveParkedSeen). record x { parked = mid.parked }) call.rest
-          ∙ ap (λ (x : LiveParkedSeen). record x { parked = mid.parked; due = set x.due n false; dirty = set x.dirty n false; digest = mid.digest; out = mid.out }) lent.rest;
+      rest = ap (λ (x : LiveParkedSeen). record x { machine = mid.machine }) call.rest
+          ∙ ap (λ (x : LiveParkedSeen). record x { machine = mid.machine; due = set x.due n false; dirty = set x.dirty n false; digest = mid.digest; out = mid.out }) lent.rest;
     }
 
     base_too : page_address l.machine n ≡ addr

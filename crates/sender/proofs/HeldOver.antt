@@ -3,6 +3,7 @@ use Rattle.std.proofs.Common.{◌≡◌, ◌≢◌, ℕ, ◌*◌, Bool, List, le
 use Rattle.std.specs.Prelude.{Err, IfErr, IfOk, None, Ok, Result, Some}
 use Rattle.region.specs.declared.region.Region.{Region}
 use Rattle.machine.specs.Beside.{IsLoggedOver}
+use Rattle.machine.specs.Known.{IsSomeRam, Lent}
 use Rattle.machine.specs.Parked.{ParkedSeen}
 use Rattle.machine.specs.Stepped.{reply_in}
 use Rattle.machine.specs.declared.event.Event.TheVariants.{Step}
@@ -21,7 +22,7 @@ use Rattle.sender.specs.declared.mig_error.MigError.TheVariants.{AlreadyStopped}
 use Rattle.sender.specs.declared.phase.Phase.{Phase}
 use Rattle.sender.specs.declared.phase.Phase.TheVariants as phases
 use Rattle.sender.proofs.Living.{closed_refuses, guest_free}
-use Rattle.sender.proofs.Over.{fit_over, made_over}
+use Rattle.sender.proofs.Over.{fit_over, made_over, some_over}
 
 module _ (p next : ParkedSeen) (window left : Region) (dev pick : ℕ) (sent : List ℕ) (phase : Phase) (due : List Bool) (d new : Dirty) (at : ℕ) (was : SetsFit (parked_layout p) phase due d.set d.firsts.items at) where
   -- The call, as far as the pieces go: the step was made, or nothing has changed.
@@ -29,11 +30,15 @@ module _ (p next : ParkedSeen) (window left : Region) (dev pick : ℕ) (sent : L
   Tried r = IfOk r (λ s. IsLoggedOver after_taking p window d dev pick (reply_in s sent) left next new) × IfErr r (λ _. next ≡ p) × IfErr r (λ _. new ≡ d)
 
   abbrev seen_as : ParkedSeen → List Bool → Digested → SinkState → LiveParkedSeen
-  seen_as q set digest out = record { parked = q; phase = phase; due = due; dirty = set; digest = digest; out = out }
+  seen_as q set digest out = record { machine = q; phase = phase; due = due; dirty = set; digest = digest; out = out }
 
   pub fit_tried : (r : Result Stepped NotMade) → Tried r → length window.content ≡ 4096 * length p.memory → SetsFit (parked_layout next) phase due new.set new.firsts.items at
   fit_tried (Ok s) h whole = fit_over p next window left dev pick (reply_in s sent) phase due d new at was h.0 whole
   fit_tried (Err e) h whole = rw (h.1, h.2) was
+
+  pub some_tried : (r : Result Stepped NotMade) → Tried r → IsSomeRam (Lent p.memory) → IsSomeRam (Lent next.memory)
+  some_tried (Ok s) h some = some_over p next window left dev pick (reply_in s sent) phase due d new at was h.0 some
+  some_tried (Err e) h some = rw h.1 some
 
   pub made_tried : (r : Result Stepped NotMade) → Tried r → (digest : Digested) (out : SinkState)
       → IfOk r (λ s. IsLiveMadeOver (seen_as p d.set digest out) window dev pick (reply_in s sent) left (seen_as next new.set digest out))

@@ -136,7 +136,7 @@ same_live : (ds es : List DeviceSeen) (x y : Memory) (a b : Phase) (due left : L
     → ◌≡◌ {A = LiveSeen} (record { machine = record { memory = y; devices = ds }; phase = a; due = due; dirty = with_pages s pages; digest = g; out = o }) (record { machine = record { memory = x; devices = es }; phase = b; due = left; dirty = with_pages t pages; digest = k; out = q })
 same_live ds es x y a b due left s t g k o q pages d e f u v w z = rw (d, e, f, u, v, w, z) refl
 
-module _ (l : LiveSeen) (p : LiveParkedSeen) (before after : Region) (pages : List ℕ) (places : HasPlaces l) (mem : IsMemory l.machine.memory) (goes : l.phase ≢ phases.Stopped) (lent : IsLiveParked l before p) (word : KeepsWord before after (length p.parked.memory) pages) where
+module _ (l : LiveSeen) (p : LiveParkedSeen) (before after : Region) (pages : List ℕ) (places : HasPlaces l) (mem : IsMemory l.machine.memory) (goes : l.phase ≢ phases.Stopped) (lent : IsLiveParked l before p) (word : KeepsWord before after (length p.machine.memory) pages) where
   pub ready : IsReady l after.content pages
   ready = record {
     places = places;
@@ -147,10 +147,10 @@ module _ (l : LiveSeen) (p : LiveParkedSeen) (before after : Region) (pages : Li
     are = word.bytes;
   }
 
-  is_back : with_all l after.content pages ≡ live_back p (given_back after.content (address after) p.parked.memory pages) pages
+  is_back : with_all l after.content pages ≡ live_back p (given_back after.content (address after) p.machine.memory pages) pages
   is_back =
-      same_live l.machine.devices p.parked.devices (given_back after.content (address after) p.parked.memory pages) (pages_written l.machine.memory pages after.content) l.phase p.phase l.due p.due l.dirty p.dirty l.digest p.digest l.out p.out pages
-      lent.parked.devices_are (memory_back l.machine p.parked before after pages mem lent.parked word.place word.size word.below word.others) (ap (λ (x : LiveParkedSeen). x.phase) lent.rest) (ap (λ (x : LiveParkedSeen). x.due) lent.rest) (ap (λ (x : LiveParkedSeen). x.dirty) lent.rest)
+      same_live l.machine.devices p.machine.devices (given_back after.content (address after) p.machine.memory pages) (pages_written l.machine.memory pages after.content) l.phase p.phase l.due p.due l.dirty p.dirty l.digest p.digest l.out p.out pages
+      lent.parked.devices_are (memory_back l.machine p.machine before after pages mem lent.parked word.place word.size word.below word.others) (ap (λ (x : LiveParkedSeen). x.phase) lent.rest) (ap (λ (x : LiveParkedSeen). x.due) lent.rest) (ap (λ (x : LiveParkedSeen). x.dirty) lent.rest)
       (ap (λ (x : LiveParkedSeen). x.digest) lent.rest) (ap (λ (x : LiveParkedSeen). x.out) lent.rest)
 
 pub live_back_is_served : LiveBackIsServed

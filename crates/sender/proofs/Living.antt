@@ -13,6 +13,7 @@ use Rattle.machine.specs.State.{MachineState}
 use Rattle.machine.specs.declared.event.Event.{Event}
 use Rattle.machine.specs.declared.reply.Reply.{Reply}
 use Rattle.machine.proofs.Numbering.{in_layout, number_below, same_layout}
+use Rattle.machine.proofs.ParkedCalls.{untouched}
 use Rattle.machine.proofs.Quiet.{IsQuiet, unlogged}
 use Rattle.wire.specs.Sinks.{Digested, SinkState}
 use Rattle.sender.specs.Calls.{EndsRound, Serves, with_items}
@@ -180,15 +181,16 @@ module _ (machine next : Seen) (d new : Dirty) (phase : Phase) (due : List Bool)
   })
 
 -- What an event that writes into no item makes of it.
-module _ (machine next : Seen) (d : Dirty) (phase : Phase) (due : List Bool) (at : ℕ) (e : Event) (reply : Reply) (live : IsLive machine phase due d.set d.firsts.items at) (h : IsApplied machine e reply next) (quiet : IsQuiet e) where
-  noted_none : IsAppliedLogged after_taking machine d e reply next d
-  noted_none = unlogged after_taking machine next d e reply quiet h
+pub live_quiet : (machine next : Seen) (d : Dirty) (phase : Phase) (due : List Bool) (at : ℕ) (e : Event) (reply : Reply) → IsLive machine phase due d.set d.firsts.items at → IsApplied machine e reply next → IsQuiet e → IsLive next phase due d.set d.firsts.items at
+live_quiet machine next d phase due at e reply live h quiet = live_guest machine next d d phase due at e reply live (unlogged after_taking machine next d e reply quiet h)
 
-  pub live_quiet : IsLive next phase due d.set d.firsts.items at
-  live_quiet = live_guest machine next d d phase due at e reply live noted_none
-
-  pub quiet_served : (digest : Digested) (out : SinkState) → phase ≢ phases.Stopped → Serves (record { machine = machine; phase = phase; due = due; dirty = d.set; digest = digest; out = out }) (Guest e) (r.Guest reply) (record { machine = next; phase = phase; due = due; dirty = d.set; digest = digest; out = out })
-  quiet_served = guest_served machine next d d phase due at e reply live noted_none
+pub quiet_served : (machine next : Seen) (phase : Phase) (due dirty : List Bool) (digest : Digested) (out : SinkState) (e : Event) (reply : Reply) → IsApplied machine e reply next → IsQuiet e → phase ≢ phases.Stopped
+    → Serves (record { machine = machine; phase = phase; due = due; dirty = dirty; digest = digest; out = out }) (Guest e) (r.Guest reply) (record { machine = next; phase = phase; due = due; dirty = dirty; digest = digest; out = out })
+quiet_served machine next phase due dirty digest out e reply h quiet open_still = rw (guest_free phase e open_still) (record {
+  is_applied = h;
+  dirty = rw (untouched machine next e reply quiet h).untouched refl;
+  rest = refl;
+})
 
 -- The end of a round.
 no_members : (s : List Bool) (n : ℕ) → length s ≡ n → HasNone s → s ≡ replicate n false

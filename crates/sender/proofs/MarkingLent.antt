@@ -64,8 +64,8 @@ module _ (m : MachineState) (h : History) (out : SinkState) (taken pages : List 
       relates = relates_with m caught.history out (if_dirty caught.behind.late (live_marked (untaken taken l) marks)) l.machine caught.behind.relates refl caught.behind.relates.honest;
     }
 
-    same_parked : mid.parked ≡ p.parked
-    same_parked = ap (λ (x : LiveParkedSeen). x.parked) call.rest
+    same_parked : mid.machine ≡ p.machine
+    same_parked = ap (λ (x : LiveParkedSeen). x.machine) call.rest
 
     -- The guest's writes.
     same_writes : page_writes (live_base l) marks l.machine.memory.bytes ≡ page_writes base marks bytes
@@ -80,7 +80,7 @@ module _ (m : MachineState) (h : History) (out : SinkState) (taken pages : List 
       text_is = caught.text_is ∙ sym (append-nil (text m h));
       parked = record {
         parked = subst (λ (q : ParkedSeen). IsParked l.machine before q) (sym same_parked) lent.parked;
-        rest = ap (λ (x : LiveParkedSeen). record x { parked = mid.parked }) call.rest ∙ ap (λ (x : LiveParkedSeen). record x { parked = mid.parked; dirty = with_pages x.dirty marks }) lent.rest;
+        rest = ap (λ (x : LiveParkedSeen). record x { machine = mid.machine }) call.rest ∙ ap (λ (x : LiveParkedSeen). record x { machine = mid.machine; dirty = with_pages x.dirty marks }) lent.rest;
       };
       places = record { sound = places.sound; few = places.few; due_size = places.due_size; dirty_size = length-with_pages l.dirty marks ∙ places.dirty_size };
       memory = mem;

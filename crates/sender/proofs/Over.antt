@@ -5,6 +5,7 @@ use Rattle.region.specs.declared.region.Region.{Region}
 use Rattle.machine.specs.Applied.{MayItems}
 use Rattle.machine.specs.Beside.{IsLoggedOver, window_memory}
 use Rattle.machine.specs.Effect.{items_of}
+use Rattle.machine.specs.Known.{IsSomeRam, Lent}
 use Rattle.machine.specs.Layout.{Layout}
 use Rattle.machine.specs.Parked.{ParkedSeen, back_with}
 use Rattle.machine.specs.Seen.{Seen, state_of}
@@ -25,7 +26,7 @@ use Rattle.sender.specs.declared.mig_error.MigError.TheVariants.{AlreadyStopped}
 use Rattle.sender.specs.declared.phase.Phase.{Phase}
 use Rattle.sender.specs.declared.phase.Phase.TheVariants as phases
 use Rattle.sender.proofs.Living.{all_noted, closed_refuses, fit_next, guest_free, length-with_items, may_named}
-use Rattle.sender.proofs.Parking.{layout_is}
+use Rattle.sender.proofs.Parking.{layout_is, some_still}
 
 pub may_over : (m : Seen) (p : ParkedSeen) (phase : Phase) (due : List Bool) (d : Dirty) (at : ℕ) → SetsFit (parked_layout p) phase due d.set d.firsts.items at → length m.memory.bytes ≡ 4096 * length p.memory → m.devices ≡ p.devices → MayItems may_take d (state_of m)
 may_over m p phase due d at was whole devices =
@@ -36,7 +37,7 @@ module _ (p next : ParkedSeen) (window left : Region) (dev pick : ℕ) (reply : 
   noted = h.logged ∙ all_noted d (items_of h.made.applied.effect)
 
   pub made_over : (digest : Digested) (out : SinkState)
-      → IsLiveMadeOver (record { parked = p; phase = phase; due = due; dirty = d.set; digest = digest; out = out }) window dev pick reply left (record { parked = next; phase = phase; due = due; dirty = new.set; digest = digest; out = out })
+      → IsLiveMadeOver (record { machine = p; phase = phase; due = due; dirty = d.set; digest = digest; out = out }) window dev pick reply left (record { machine = next; phase = phase; due = due; dirty = new.set; digest = digest; out = out })
   made_over digest out = record {
     made = h.made;
     dirty = ap (λ (x : Dirty). x.set) noted ∙ ap (λ (fs : List ℕ). with_items fs d.set (items_of h.made.applied.effect)) was.firsts_are;
@@ -53,6 +54,9 @@ module _ (p next : ParkedSeen) (window left : Region) (dev pick : ℕ) (reply : 
       let long : length new.set ≡ length d.set = ap (λ (x : Dirty). length x.set) noted ∙ length-with_items d.firsts.items d.set (items_of h.made.applied.effect) in
       let sets : SetsFit (parked_layout next) phase due d.set d.firsts.items at = subst (λ (l : Layout). SetsFit l phase due d.set d.firsts.items at) same was in
       fit_next (parked_layout next) phase phase due due d.set new.set d.firsts.items new.firsts.items at at sets refl long (ap (λ (x : Dirty). x.firsts.items) noted) sets.round sets.reached sets.passed
+
+  pub some_over : IsSomeRam (Lent p.memory) → IsSomeRam (Lent next.memory)
+  some_over some = some_still p.memory next.memory (omega (arith, h.made.applied.later.versions, ap length h.made.lent.versions_are)) some
 
 -- The call: refused by the phase, or made.
 pub over_refused : (p : LiveParkedSeen) (window : Region) (dev pick : ℕ) (sent : List ℕ) (x : MigError) → (x ≡ AlreadyStopped) × (p.phase ≡ phases.Stopped) → TriesOver p window dev pick (Err x) sent window p

@@ -70,14 +70,14 @@ module _ (p : ParkedSeen) (pages : ℕ) (shapes : List Shape) (some : 1 ≤ leng
   parked_by_shapes = sym (layout_is (with_zeros p) p (length-replicate (4096 * length p.memory) 0) refl) ∙ layout_by_shapes pages shapes (state_of (with_zeros p)) parked_shapes
 
 -- A stop, if no further page were dirty.
-pub stop_parked : (p : LiveParkedSeen) (firsts : List ℕ) (at : ℕ) (m : Memory) (next : LiveSeen) (pages sectors : ℕ) (b : List ℕ) (devices : ℕ) → SetsFit (parked_layout p.parked) p.phase p.due p.dirty firsts at → IsMemory m → length m.versions ≡ length p.parked.memory
-    → IsSound (state_of (back_with p.parked m)) → devices ≡ length (device_texts 0 (parked_states p.parked)) → IsTrue p.out.honest → Covers p.digest b → Stops (live_back p m []) pages sectors next
-    → length next.out.held ≤ length p.out.held + (4101 * (member_count (take (length p.parked.memory) p.due) + member_count (take (length p.parked.memory) p.dirty))
-    + 519 * (member_count (drop (length p.parked.memory) p.due) + member_count (drop (length p.parked.memory) p.dirty)) + devices + 33)
+pub stop_parked : (p : LiveParkedSeen) (firsts : List ℕ) (at : ℕ) (m : Memory) (next : LiveSeen) (pages sectors : ℕ) (b : List ℕ) (devices : ℕ) → SetsFit (parked_layout p.machine) p.phase p.due p.dirty firsts at → IsMemory m → length m.versions ≡ length p.machine.memory
+    → IsSound (state_of (back_with p.machine m)) → devices ≡ length (device_texts 0 (parked_states p.machine)) → IsTrue p.out.honest → Covers p.digest b → Stops (live_back p m []) pages sectors next
+    → length next.out.held ≤ length p.out.held + (4101 * (member_count (take (length p.machine.memory) p.due) + member_count (take (length p.machine.memory) p.dirty))
+    + 519 * (member_count (drop (length p.machine.memory) p.due) + member_count (drop (length p.machine.memory) p.dirty)) + devices + 33)
 stop_parked p firsts at m next pages sectors b devices sets mem count sound states honest covers stops =
     let l : LiveSeen = live_back p m [] in
-    let whole : length m.bytes ≡ 4096 * length p.parked.memory = omega (arith, mem.pages, count) in
-    let same : layout_of (now l) ≡ parked_layout p.parked = layout_is l.machine p.parked whole refl in
+    let whole : length m.bytes ≡ 4096 * length p.machine.memory = omega (arith, mem.pages, count) in
+    let same : layout_of (now l) ≡ parked_layout p.machine = layout_is l.machine p.machine whole refl in
     let places : HasPlaces l = record { sound = sound; few = sets.few; due_size = sets.due_size ∙ ap size_of (sym same); dirty_size = sets.dirty_size ∙ ap size_of (sym same) } in
-    let count_is : length m.bytes / 4096 ≡ length p.parked.memory = omega (arith, whole) in
+    let count_is : length m.bytes / 4096 ≡ length p.machine.memory = omega (arith, whole) in
     rw count_is at (stop_short l next pages sectors b devices places states honest covers stops)

@@ -2,9 +2,11 @@
 use Rattle.std.proofs.Common.{◌≡◌, ◌≢◌, ℕ, Bool, true, false, List, [], refl, sym, ap, subst, ◌∙◌}
 use Rattle.std.specs.Prelude.{MatchOption, Option, Some, None, Err, Ok, Result}
 use Rattle.region.specs.declared.region.Region.{Region}
-use Rattle.guestmem.specs.Memory.{IsMemory}
+use Rattle.guestmem.specs.Memory.{IsMemory, Memory}
+use Rattle.machine.specs.Applied.{IsApplied}
+use Rattle.machine.specs.Known.{Lent}
 use Rattle.machine.specs.Layout.{Layout, layout_of, size_of}
-use Rattle.machine.specs.Parked.{FailsParkedFlushIf, FlushesParked, IsAppliedParked, IsAppliedUncalled, IsDoneLent, ParkedSeen, makes_flush_parked, parked_sectors}
+use Rattle.machine.specs.Parked.{IsAppliedUncalled, IsDoneLent, ParkedSeen, back_with, parked_sectors}
 use Rattle.machine.specs.Seen.{Seen, state_of}
 use Rattle.machine.specs.Sound.{IsSound}
 use Rattle.machine.specs.State.{MachineState}
@@ -13,12 +15,15 @@ use Rattle.machine.specs.declared.event.Event.{Event}
 use Rattle.machine.specs.declared.event.Event.TheVariants.{Step}
 use Rattle.machine.specs.declared.reply.Reply.{Reply}
 use Rattle.machine.proofs.Numbering.{same_layout}
-use Rattle.machine.proofs.ParkedCalls.{parked_flush_fails, parked_is_applied, parked_is_flushed}
-use Rattle.sender.specs.LiveState.{HasPlaces, LiveSeen, now, refusal_for}
+use Rattle.machine.proofs.ParkedCalls.{parked_flush_fails, parked_is_applied, parked_is_flushed, untouched}
+use Rattle.machine.proofs.Quiet.{IsQuiet}
+use Rattle.sender.specs.Calls.{Serves, guest_reply}
+use Rattle.sender.specs.LiveOver.{FlushesLiveOver, LeavesRest, SaysWhether, ServesOver, TriesFlushOver}
+use Rattle.sender.specs.LiveState.{HasPlaces, LiveSeen, live_with, now, refusal_for}
 use Rattle.sender.specs.Parked.{IsLiveParked, LiveParkedSeen, parked_layout}
-use Rattle.sender.specs.ParkedCalls.{AfterParked, FailsLiveParkedIf, GuestsParked, IsDoneLiveLent, IsServedUncalled, LiveParkedFlushFails, LiveParkedIsFlushed, LiveParkedIsServed, ServesParked, TriesParkedFlush}
+use Rattle.sender.specs.ParkedCalls.{AfterParked, FlushesLiveParked, GuestsParked, IsDoneLiveLent, IsServedUncalled, LiveParkedFlushFails, LiveParkedIsFlushed, LiveParkedIsServed, ServesParked, TriesParkedFlush}
 use Rattle.sender.specs.Stopping.{SetsFit}
-use Rattle.sender.specs.Unsynced.{FailsLiveFlush, FlushesLiveDisk}
+use Rattle.sender.specs.Unsynced.{FailsLiveFlush, FlushesLiveDisk, TriesFlush}
 use Rattle.sender.specs.declared.event.LiveEvent.TheVariants.{Guest}
 use Rattle.sender.specs.declared.event.LiveReply.{LiveReply}
 use Rattle.sender.specs.declared.event.LiveReply.TheVariants as r
@@ -35,41 +40,54 @@ sets_stay p next phase due dirty firsts at fit versions sectors =
     let same : parked_layout next ≡ parked_layout p = rw (versions, sectors) refl in
     subst (λ (l : Layout). SetsFit l phase due dirty firsts at) (sym same) fit
 
-pub sectors_flushed : {T E : Type 0} (p next : ParkedSeen) (dev : ℕ) (result : Result T E) → FlushesParked p dev result next → parked_sectors next ≡ parked_sectors p
-sectors_flushed p next dev result f = ap (λ (m : MachineState). m.disks) (f.flushes (record { bytes = []; versions = []; place = None })).state
+applied_in : (l next : LiveSeen) (e : Event) (reply : Reply) → l.phase ≢ phases.Stopped → Serves l (Guest e) (r.Guest reply) next → IsApplied l.machine e reply next.machine
+applied_in l next e reply goes serves = (rw (guest_free l.phase e goes) at serves).is_applied
 
-pub sets_tried : (p next : ParkedSeen) (phase : Phase) (due dirty : List Bool) (firsts : List ℕ) (at dev pick : ℕ) (was : Bool) → SetsFit (parked_layout p) phase due dirty firsts at → FailsParkedFlushIf was p dev pick next → SetsFit (parked_layout next) phase due dirty firsts at
-sets_tried p next phase due dirty firsts at dev pick true fit f = sets_stay p next phase due dirty firsts at fit f.versions f.sectors
-sets_tried p next phase due dirty firsts at dev pick false fit f = subst (λ (x : ParkedSeen). SetsFit (parked_layout x) phase due dirty firsts at) (sym f) fit
+failed_in : (l next : LiveSeen) (dev pick : ℕ) → l.phase ≢ phases.Stopped → TriesFlush l dev pick (Ok true) next → FailsFlush l.machine dev pick next.machine
+failed_in l next dev pick goes tries = (rw (guest_free l.phase (Step dev pick) goes) at tries).1.failed
 
--- A call that is not refused.
-pub served_parked : (p next : LiveParkedSeen) (e : Event) (reply : Reply) → p.phase ≢ phases.Stopped → IsAppliedParked p.parked e reply next.parked → next ≡ record p { parked = next.parked } → ServesParked p e (r.Guest reply) next
-served_parked p next e reply goes applied rest = rw (guest_free p.phase e goes) (record { applied = applied; rest = rest })
+-- A call whose clauses are said of a machine here or lent, where it is lent.
+pub served_parked : (p next : LiveParkedSeen) (e : Event) (result : Result Reply MigError) → IsQuiet e → ServesOver Lent p e (guest_reply result) next → LeavesRest p result next → ServesParked p e (guest_reply result) next
+served_parked p next e (Ok reply) quiet h left =
+    let goes : p.phase ≢ phases.Stopped = left.runs in
+    rw (guest_free p.phase e goes) (record {
+      applied = record {
+        versions = h.0;
+        sectors = left.sectors;
+        calls = left.calls;
+        applied = λ m mem bytes count. untouched (back_with p.machine m) (back_with next.machine m) e reply quiet (applied_in (live_with p m) (live_with next m) e reply goes (h.1 m mem bytes count));
+      };
+      rest = left.rest;
+    })
+served_parked p next e (Err x) quiet h left = rw (closed_refuses p.phase e left.refused.1) (ap (λ (y : MigError). r.Mig y) left.refused.0, left.refused.2)
 
--- After a stop that closed the stream each is refused.
-pub parked_refused : (p : LiveParkedSeen) (e : Event) (x : MigError) → (x ≡ AlreadyStopped) × (p.phase ≡ phases.Stopped) → ServesParked p e (r.Mig x) p
-parked_refused p e x closed =
-    rw (closed_refuses p.phase e closed.1) (ap (λ (y : MigError). r.Mig y) closed.0, refl)
+pub flushed_parked : {T E : Type 0} (p next : LiveParkedSeen) (dev : ℕ) (result : Result T E) → FlushesLiveOver Lent p dev result next → ((m : Memory) → FlushesLiveDisk (live_with p m) dev result (live_with next m)) → next ≡ record p { machine = next.machine } → FlushesLiveParked p dev result next
+flushed_parked p next dev result h whatever rest = record { flushes = record { versions = h.0; flushes = λ m. (whatever m).flushes }; rest = rest }
 
-pub parked_flush_refused : (p : LiveParkedSeen) (dev pick : ℕ) (x : MigError) → (x ≡ AlreadyStopped) × (p.phase ≡ phases.Stopped) → TriesParkedFlush p dev pick (Err x) p
-parked_flush_refused p dev pick x closed =
+pub tried_parked : (p next : LiveParkedSeen) (dev pick : ℕ) (result : Result Bool MigError) → TriesFlushOver Lent p dev pick result next → LeavesRest p result next → SaysWhether p dev pick result next → TriesParkedFlush p dev pick result next
+tried_parked p next dev pick (Ok true) h left says =
+    let goes : p.phase ≢ phases.Stopped = left.runs in
+    rw (guest_free p.phase (Step dev pick) goes) (
+      says.0,
+      record {
+        failed = record { versions = h.0; sectors = left.sectors; calls = left.calls; failed = λ m mem bytes count. failed_in (live_with p m) (live_with next m) dev pick goes (h.1 m mem bytes count) };
+        rest = left.rest;
+      },
+    )
+tried_parked p next dev pick (Ok false) h left says =
+    let goes : p.phase ≢ phases.Stopped = left.runs in
+    rw (guest_free p.phase (Step dev pick) goes) (says.0, says.1 refl)
+tried_parked p next dev pick (Err x) h left says =
     let P : MigError → Result Bool MigError = λ y. Err y in
-    rw (closed_refuses p.phase (Step dev pick) closed.1) (ap P closed.0, refl)
-
-answered_by : (p : LiveParkedSeen) (next : ParkedSeen) (dev pick : ℕ) (was : Bool) → FailsParkedFlushIf was p.parked dev pick next → FailsLiveParkedIf was p dev pick (record p { parked = next })
-answered_by p next dev pick true f = record { failed = f; rest = refl }
-answered_by p next dev pick false f = ap (λ (x : ParkedSeen). record p { parked = x }) f
-
-pub parked_answered : (p : LiveParkedSeen) (next : ParkedSeen) (dev pick : ℕ) (was : Bool) → p.phase ≢ phases.Stopped → was ≡ makes_flush_parked p.parked dev pick → FailsParkedFlushIf was p.parked dev pick next → TriesParkedFlush p dev pick (Ok was) (record p { parked = next })
-parked_answered p next dev pick was goes is f = rw (guest_free p.phase (Step dev pick) goes) (is, answered_by p next dev pick was f)
+    rw (closed_refuses p.phase (Step dev pick) left.refused.1) (ap P left.refused.0, left.refused.2)
 
 -- What was done with the machine that was lent was done with the one that is sent.
-done_live : (l : LiveSeen) (p next : LiveParkedSeen) (region : Region) (does : Seen → Type 0) (does_live : LiveSeen → Type 0) → HasPlaces l → IsLiveParked l region p → next ≡ record p { parked = next.parked } → (was : IsDoneLent l.machine region next.parked does) → IsSound (state_of was.after)
+done_live : (l : LiveSeen) (p next : LiveParkedSeen) (region : Region) (does : Seen → Type 0) (does_live : LiveSeen → Type 0) → HasPlaces l → IsLiveParked l region p → next ≡ record p { machine = next.machine } → (was : IsDoneLent l.machine region next.machine does) → IsSound (state_of was.after)
     → layout_of (state_of was.after) ≡ layout_of (now l) → does_live (record l { machine = was.after }) → IsDoneLiveLent l region next does_live
 done_live l p next region does does_live places lent rest was sound same done = record {
   after = record l { machine = was.after };
   done = done;
-  parked = record { parked = was.parked; rest = rest ∙ ap (λ (x : LiveParkedSeen). record x { parked = next.parked }) lent.rest };
+  parked = record { parked = was.parked; rest = rest ∙ ap (λ (x : LiveParkedSeen). record x { machine = next.machine }) lent.rest };
   places = record { sound = sound; few = places.few; due_size = places.due_size ∙ ap size_of (sym same); dirty_size = places.dirty_size ∙ ap size_of (sym same) };
   memory = was.memory;
   phase = refl;
@@ -78,7 +96,7 @@ done_live l p next region does does_live places lent rest was sound same done = 
 done_lent : (l : LiveSeen) (p next : LiveParkedSeen) (region : Region) (e : Event) (reply : Reply) → HasPlaces l → IsMemory l.machine.memory → IsLiveParked l region p → refusal_for l.phase (Guest e) ≡ None → AfterParked p e reply next
     → IsDoneLiveLent l region next (IsServedUncalled l e (r.Guest reply))
 done_lent l p next region e reply places mem lent free did =
-    let was : IsDoneLent l.machine region next.parked (IsAppliedUncalled l.machine e reply) = parked_is_applied l.machine p.parked next.parked region e reply mem places.sound.bytes lent.parked did.applied in
+    let was : IsDoneLent l.machine region next.machine (IsAppliedUncalled l.machine e reply) = parked_is_applied l.machine p.machine next.machine region e reply mem places.sound.bytes lent.parked did.applied in
     let applied = was.done.quietly.applied in
     done_live l p next region (IsAppliedUncalled l.machine e reply) (IsServedUncalled l e (r.Guest reply)) places lent did.rest was applied.sound (same_layout (now l) (state_of was.after) applied.shape) (record {
       serves = rw free (record {
@@ -118,10 +136,10 @@ live_parked_is_served l p next region e reply places mem lent serves =
 
 pub live_parked_is_flushed : LiveParkedIsFlushed
 live_parked_is_flushed l p next region dev result places lent f =
-    let was : IsDoneLent l.machine region next.parked (FlushesDisk l.machine dev result) = parked_is_flushed l.machine p.parked next.parked region dev result lent.parked f.flushes in
+    let was : IsDoneLent l.machine region next.machine (FlushesDisk l.machine dev result) = parked_is_flushed l.machine p.machine next.machine region dev result lent.parked f.flushes in
     done_live l p next region (FlushesDisk l.machine dev result) (FlushesLiveDisk l dev result) places lent f.rest was (rw was.done.state places.sound) (ap layout_of was.done.state) (record { flushes = was.done; rest = refl })
 
 pub live_parked_flush_fails : LiveParkedFlushFails
 live_parked_flush_fails l p next region dev pick places mem lent f =
-    let was : IsDoneLent l.machine region next.parked (FailsFlush l.machine dev pick) = parked_flush_fails l.machine p.parked next.parked region dev pick mem places.sound.bytes lent.parked f.failed in
+    let was : IsDoneLent l.machine region next.machine (FailsFlush l.machine dev pick) = parked_flush_fails l.machine p.machine next.machine region dev pick mem places.sound.bytes lent.parked f.failed in
     done_live l p next region (FailsFlush l.machine dev pick) (FailsLiveFlush l dev pick) places lent f.rest was was.done.sound (same_layout (now l) (state_of was.after) was.done.shape) (record { failed = was.done; rest = refl })

@@ -4,6 +4,7 @@ use Rattle.std.proofs.lemmas.List.{length-set}
 use Rattle.guestmem.specs.Item.{MayPages, after_all, page}
 use Rattle.guestmem.specs.Lent.{AreBelow, page_items}
 use Rattle.guestmem.specs.Memory.{IsMemory}
+use Rattle.machine.specs.Known.{IsSomeRam, Lent}
 use Rattle.machine.specs.Layout.{Layout, layout_of, size_of}
 use Rattle.machine.specs.Parked.{ParkedSeen, machine_marked}
 use Rattle.machine.specs.Seen.{DeviceSeen, Seen, state_of}
@@ -35,6 +36,10 @@ is_live m p phase due dirty new_dirty firsts at sets sound whole devices long = 
   sound = sound;
   sets = subst (λ l. SetsFit l phase due new_dirty firsts at) (sym (layout_is m p whole (sym devices))) (fit_next (parked_layout p) phase phase due due dirty new_dirty firsts firsts at at sets refl long refl sets.round sets.reached sets.passed);
 }
+
+-- As many versions are those of a RAM too.
+pub some_still : (v w : List ℕ) → length w ≡ length v → IsSomeRam (Lent v) → IsSomeRam (Lent w)
+some_still v w same some = (some.0, (some.1.0, some.1.1, some.1.2 ∙ sym same))
 
 -- The log may be told of every page.
 may_page : (l : Layout) (phase : Phase) (due : List Bool) (d : Dirty) (at n : ℕ) → SetsFit l phase due d.set d.firsts.items at → n < l.pages → may_take d (page n)

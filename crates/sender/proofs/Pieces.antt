@@ -33,7 +33,7 @@ pub over_is_lent : OverIsLentCall
 over_is_lent p next window left held dev pick reply h wrote seen same agree reads word = (
   refl,
   record {
-    makes = over_is_beside p.parked next.parked window left held dev pick reply h.made seen same agree reads word;
+    makes = over_is_beside p.machine next.machine window left held dev pick reply h.made seen same agree reads word;
     dirty = h.dirty;
     rest = h.rest;
   },
@@ -41,13 +41,13 @@ over_is_lent p next window left held dev pick reply h wrote seen same agree read
 
 pub open_is_lent : OpenIsLentCall
 open_is_lent p next window left held dev pick reply h wrote seen same agree reads quiet =
-    let told = step_publishing (state_of (back_with p.parked (window_memory p.parked window))) dev pick h.made.applied.has.seen reply in
+    let told = step_publishing (state_of (back_with p.machine (window_memory p.machine window))) dev pick h.made.applied.has.seen reply in
     let due = asks_at told (set_all seen h.made.applied.effect.writes) in (
       refl,
       record {
-        makes = open_is_beside p.parked next.parked window left held dev pick reply h.made seen same agree reads quiet;
+        makes = open_is_beside p.machine next.machine window left held dev pick reply h.made seen same agree reads quiet;
         dirty = h.dirty;
-        rest = ap (λ (x : LiveParkedSeen). record x { parked = ended due dev next.parked }) h.rest;
+        rest = ap (λ (x : LiveParkedSeen). record x { machine = ended due dev next.machine }) h.rest;
       },
     )
 

@@ -35,12 +35,12 @@ no_records = refl
 
 module _ (m : MachineState) (h : History) (out : SinkState) (taken pages : List ℕ) (l : LiveSeen) (p mid : LiveParkedSeen) (before : Region) (b : IsBehind m h out pages (untaken taken l)) (places : HasPlaces l) (mem : IsMemory l.machine.memory) (goes : l.phase ≢ phases.Stopped) (lent : IsLiveParked l before p) where
   -- The sector is by the history what it is on the disk.
-  there_after : (dev n : ℕ) (content : Sector) → sector_on (slice_get (parked_sectors p.parked) dev) n ≡ Some content → sector_on (slice_get (machine_after m h).disks dev) n ≡ Some content
+  there_after : (dev n : ℕ) (content : Sector) → sector_on (slice_get (parked_sectors p.machine) dev) n ≡ Some content → sector_on (slice_get (machine_after m h).disks dev) n ≡ Some content
   there_after dev n content there =
       ap (λ (x : MachineState). sector_on (slice_get x.disks dev) n) (sym b.relates.follows.machine)
       ∙ subst (λ (ds : List DeviceSeen). sector_on (slice_get (map (λ (d : DeviceSeen). d.sectors) ds) dev) n ≡ Some content) lent.parked.devices_are there
 
-  pub sector_sent : (dev n : ℕ) (content : Sector) → sector_on (slice_get (parked_sectors p.parked) dev) n ≡ Some content → CopiesLent p (r.Copied (sent.Sector dev n)) mid → GoesOnLent m h out taken pages before (a_sector dev n content) p mid
+  pub sector_sent : (dev n : ℕ) (content : Sector) → sector_on (slice_get (parked_sectors p.machine) dev) n ≡ Some content → CopiesLent p (r.Copied (sent.Sector dev n)) mid → GoesOnLent m h out taken pages before (a_sector dev n content) p mid
   sector_sent dev n content there call =
       let says : texts (record_of (machine_after m h) (items.sector dev n) ∷ []) ≡ spelled_record (sector dev n content) =
       one_text (record_of (machine_after m h) (items.sector dev n)) ∙ ap (λ found. spelled_record (sector dev n (content_of found))) (there_after dev n content there) in

@@ -108,15 +108,15 @@ goes_after : (phase : Phase) (e : MigError) → phase ≢ phases.Stopped → pha
 goes_after phase errors.StreamFailed goes is = cc
 goes_after phase _ goes is = goes is
 
-module _ {E : Type 0} (p next : LiveParkedSeen) (i dev n : ℕ) (buf : List ℕ) (read : Result Bool E) (reads : ReadsParked p.parked dev n buf read next.parked) (is : items.sector dev n ≡ item_at (parked_layout p.parked) i) where
-  at_back : (m : Memory) → IsMemory m → length m.versions ≡ length p.parked.memory → items.sector dev n ≡ item_at (layout_of (now (live_back p m []))) i
-  at_back m mem count = is ∙ ap (λ (l : Layout). item_at l i) (sym (layout_back p.parked m mem count))
+module _ {E : Type 0} (p next : LiveParkedSeen) (i dev n : ℕ) (buf : List ℕ) (read : Result Bool E) (reads : ReadsParked p.machine dev n buf read next.machine) (is : items.sector dev n ≡ item_at (parked_layout p.machine) i) where
+  at_back : (m : Memory) → IsMemory m → length m.versions ≡ length p.machine.memory → items.sector dev n ≡ item_at (layout_of (now (live_back p m []))) i
+  at_back m mem count = is ∙ ap (λ (l : Layout). item_at l i) (sym (layout_back p.machine m mem count))
 
   kept : length next.due ≡ length p.due → length next.dirty ≡ length p.dirty → (p.phase ≢ phases.Stopped → next.phase ≢ phases.Stopped) → IsKeptLent p next
   kept due dirty goes = record {
     versions = reads.versions;
-    states = states_read p.parked next.parked dev n buf read reads;
-    sectors = sectors_read p.parked next.parked dev n buf read reads;
+    states = states_read p.machine next.machine dev n buf read reads;
+    sectors = sectors_read p.machine next.machine dev n buf read reads;
     due_size = due;
     dirty_size = dirty;
     goes = goes;
@@ -126,14 +126,14 @@ module _ {E : Type 0} (p next : LiveParkedSeen) (i dev n : ℕ) (buf : List ℕ)
       → ((old new : Seen) → ReadsSector old dev n buf read new → AddsItem old (items.sector dev n) p.out p.digest next.out next.digest)
       → next.phase ≡ p.phase → next.due ≡ set p.due i false → next.dirty ≡ set p.dirty i false → SendsLent p i dev n (Ok (tt {0})) next
   sent_lent done sends adds phase due dirty = record {
-    sends = λ m mem bytes count. item_sent (live_back p m []) (live_back next m []) i (Sector dev n) done (at_back m mem count) (sends (back_with p.parked m) (back_with next.parked m) (reads.reads m)) (adds (back_with p.parked m) (back_with next.parked m) (reads.reads m)) phase due dirty;
+    sends = λ m mem bytes count. item_sent (live_back p m []) (live_back next m []) i (Sector dev n) done (at_back m mem count) (sends (back_with p.machine m) (back_with next.machine m) (reads.reads m)) (adds (back_with p.machine m) (back_with next.machine m) (reads.reads m)) phase due dirty;
     kept = kept (ap length due ∙ length-set p.due i false) (ap length dirty ∙ length-set p.dirty i false) (subst (λ (f : Phase). p.phase ≢ phases.Stopped → f ≢ phases.Stopped) (sym phase) (λ goes. goes));
   }
 
   pub unsent_lent : {A : Type 0} (e : MigError) → ((old new : Seen) → ReadsSector old dev n buf read new → Sends {A = A} old p.out (spelled_record (record_of (state_of old) (items.sector dev n))) (Err e) new next.out)
       → NamesItem (items.sector dev n) e p.out next.out p.digest next.digest → next.phase ≡ phase_after p.phase e → next.due ≡ p.due → next.dirty ≡ p.dirty → SendsLent p i dev n (Err e) next
   unsent_lent e sends names phase due dirty = record {
-    sends = λ m mem bytes count. item_not_sent (live_back p m []) (live_back next m []) i (Sector dev n) e (spelled_record (record_of (state_of (back_with p.parked m)) (items.sector dev n))) (at_back m mem count) (sends (back_with p.parked m) (back_with next.parked m) (reads.reads m)) names phase due dirty;
+    sends = λ m mem bytes count. item_not_sent (live_back p m []) (live_back next m []) i (Sector dev n) e (spelled_record (record_of (state_of (back_with p.machine m)) (items.sector dev n))) (at_back m mem count) (sends (back_with p.machine m) (back_with next.machine m) (reads.reads m)) names phase due dirty;
     kept = kept (ap length due) (ap length dirty) (subst (λ (f : Phase). p.phase ≢ phases.Stopped → f ≢ phases.Stopped) (sym phase) (goes_after p.phase e));
   }
 
@@ -152,9 +152,9 @@ pub none_due : (p : LiveParkedSeen) → refusal_for p.phase Copy ≡ None → Ha
 none_due p free none = record { free = free; none = none; same = refl }
 
 -- A page is due.
-pub page_due : (p : LiveParkedSeen) (i n : ℕ) → refusal_for p.phase Copy ≡ None → IsLeast p.due 0 i → items.page n ≡ item_at (parked_layout p.parked) i → IsPageDue p n p
+pub page_due : (p : LiveParkedSeen) (i n : ℕ) → refusal_for p.phase Copy ≡ None → IsLeast p.due 0 i → items.page n ≡ item_at (parked_layout p.machine) i → IsPageDue p n p
 page_due p i n free least is =
-    let here = page_at_number (parked_layout p.parked) i n is in
+    let here = page_at_number (parked_layout p.machine) i n is in
     record { free = free; least = subst (λ (k : ℕ). IsLeast p.due 0 k) (sym here.same) least; below = here.below; same = refl }
 
 -- The sector was sent, or not.
@@ -171,12 +171,12 @@ sector_failed p next i dev n e free least sent = record {
 }
 
 -- The disk that it called.
-module _ (called : ℕ → ℕ) (p next : LiveParkedSeen) (i dev n : ℕ) (free : refusal_for p.phase Copy ≡ None) (least : IsLeast p.due 0 i) (is : items.sector dev n ≡ item_at (parked_layout p.parked) i)
-    (reads : WhateverRam p.parked (λ m. ReadsItem called (back_with p.parked m) (items.sector dev n) (back_with next.parked m))) where
-  read_at : WhateverRam p.parked (λ m. ReadsItem called (back_with p.parked m) (item_at (layout_of (now (live_back p m []))) i) (back_with next.parked m))
+module _ (called : ℕ → ℕ) (p next : LiveParkedSeen) (i dev n : ℕ) (free : refusal_for p.phase Copy ≡ None) (least : IsLeast p.due 0 i) (is : items.sector dev n ≡ item_at (parked_layout p.machine) i)
+    (reads : WhateverRam p.machine (λ m. ReadsItem called (back_with p.machine m) (items.sector dev n) (back_with next.machine m))) where
+  read_at : WhateverRam p.machine (λ m. ReadsItem called (back_with p.machine m) (item_at (layout_of (now (live_back p m []))) i) (back_with next.machine m))
   read_at m mem bytes count =
-      let at : items.sector dev n ≡ item_at (layout_of (now (live_back p m []))) i = is ∙ ap (λ (l : Layout). item_at l i) (sym (layout_back p.parked m mem count)) in
-      subst (λ (x : items.Item). ReadsItem called (back_with p.parked m) x (back_with next.parked m)) at (reads m mem bytes count)
+      let at : items.sector dev n ≡ item_at (layout_of (now (live_back p m []))) i = is ∙ ap (λ (l : Layout). item_at l i) (sym (layout_back p.machine m mem count)) in
+      subst (λ (x : items.Item). ReadsItem called (back_with p.machine m) x (back_with next.machine m)) at (reads m mem bytes count)
 
   pub sector_called : CallsLent called p (r.Copied (Sector dev n)) next
   sector_called m mem bytes count = copied_called called (live_back p m []) (live_back next m []) i (Sector dev n) free least (read_at m mem bytes count)

@@ -30,7 +30,7 @@ same_state : (ram : List ℕ) (a b : List DeviceState) (x y : List (List Sector)
 same_state ram a b x y e f = rw (e, f) refl
 
 module _ (m : MachineState) (h : History) (out : SinkState) (taken pages : List ℕ) (l : LiveSeen) (p mid : LiveParkedSeen) (before : Region) (b : IsBehind m h out pages (untaken taken l)) (places : HasPlaces l) (mem : IsMemory l.machine.memory) (goes : l.phase ≢ phases.Stopped) (lent : IsLiveParked l before p)
-    (e : LiveEvent) (reply : LiveReply) (c : LentCall) (serves : WhateverRam p.parked (λ ram. Serves (live_back p ram []) e reply (live_back mid ram []))) (kept : IsKeptLent p mid) (may : MayCall pages e) (still : still_behind reply pages ≡ missing_in pages c) (none_taken : bytes_in c ≡ [])
+    (e : LiveEvent) (reply : LiveReply) (c : LentCall) (serves : WhateverRam p.machine (λ ram. Serves (live_back p ram []) e reply (live_back mid ram []))) (kept : IsKeptLent p mid) (may : MayCall pages e) (still : still_behind reply pages ≡ missing_in pages c) (none_taken : bytes_in c ≡ [])
     (same_ram : over_with before c ≡ before) (no_guest : (f : Effect) → guest_events (then_came h e reply f) ≡ guest_events h) (no_events : events_in c ≡ []) (says : written (text m h) (machine_after m h) (is_stale (layout_of m) h) e reply ≡ sent_in c) where
   was : live_back p l.machine.memory [] ≡ l
   was = ap (λ (x : LiveParkedSeen). live_back x l.machine.memory []) lent.rest ∙ ap (λ (ds : List DeviceSeen). record l { machine = record { memory = l.machine.memory; devices = ds } }) lent.parked.devices_are
@@ -42,7 +42,7 @@ module _ (m : MachineState) (h : History) (out : SinkState) (taken pages : List 
   it_serves = subst (λ (x : LiveSeen). Serves x e reply after) was (serves l.machine.memory mem places.sound.bytes (ap length (sym lent.parked.lent.versions_are)))
 
   stays : now after ≡ now l
-  stays = same_state l.machine.memory.bytes (parked_states mid.parked) (parked_states p.parked) (parked_sectors mid.parked) (parked_sectors p.parked) kept.states kept.sectors ∙ ap now was
+  stays = same_state l.machine.memory.bytes (parked_states mid.machine) (parked_states p.machine) (parked_sectors mid.machine) (parked_sectors p.machine) kept.states kept.sectors ∙ ap now was
 
   due_is : p.due ≡ l.due
   due_is = ap (λ (x : LiveParkedSeen). x.due) lent.rest

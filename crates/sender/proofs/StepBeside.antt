@@ -51,7 +51,7 @@ pub record GoesOnLent (m : MachineState) (h : History) (out : SinkState) (taken 
   pub parked : IsLiveParked after (over_with before c) mid
   pub places : HasPlaces after
   pub memory : IsMemory after.machine.memory
-  pub versions : length mid.parked.memory ≡ length p.parked.memory
+  pub versions : length mid.machine.memory ≡ length p.machine.memory
   pub goes : after.phase ≢ phases.Stopped
 
 pub base_is : (l : LiveSeen) (p : LiveParkedSeen) (region : Region) → IsLiveParked l region p → live_base l ≡ parked_base p
@@ -59,23 +59,23 @@ base_is l p region lent = ap (λ (ds : List DeviceSeen). base_of (map (λ (d : D
 
 -- The RAM is given back.
 pub back : (m : MachineState) (h : History) (out : SinkState) (taken pages : List ℕ) (l : LiveSeen) (p : LiveParkedSeen) (before after : Region) (written named rest : List ℕ) → IsBehind m h out pages (untaken taken l) → HasPlaces l → IsMemory l.machine.memory → l.phase ≢ phases.Stopped
-    → IsLiveParked l before p → KeepsWord before after (length p.parked.memory) written → AreAmong named written → AreAmong (pages ++ written) (named ++ rest)
-    → BehindGoesOn m h out (page_writes (parked_base p) written after.content) rest (untaken taken (live_back p (given_back after.content (address after) p.parked.memory named) named))
+    → IsLiveParked l before p → KeepsWord before after (length p.machine.memory) written → AreAmong named written → AreAmong (pages ++ written) (named ++ rest)
+    → BehindGoesOn m h out (page_writes (parked_base p) written after.content) rest (untaken taken (live_back p (given_back after.content (address after) p.machine.memory named) named))
 back m h out taken pages l p before after written named rest b places mem goes lent word few all =
     let q : LiveParkedSeen = record p { out = record p.out { held = taken ++ p.out.held } } in
     let there : IsLiveParked (untaken taken l) before q = record { parked = lent.parked; rest = ap (λ (x : LiveParkedSeen). record x { out = record x.out { held = taken ++ x.out.held } }) lent.rest } in
     let gone = back_is_behind m h out pages (untaken taken l) q before after written named rest b (places_untaken taken l places) mem goes there word few all in
-    subst (λ (base : ℕ). BehindGoesOn m h out (page_writes base written after.content) rest (untaken taken (live_back p (given_back after.content (address after) p.parked.memory named) named))) (base_is l p before lent) gone
+    subst (λ (base : ℕ). BehindGoesOn m h out (page_writes base written after.content) rest (untaken taken (live_back p (given_back after.content (address after) p.machine.memory named) named))) (base_is l p before lent) gone
 
 same_now : (x y : Memory) (ds es : List DeviceSeen) → x.bytes ≡ y.bytes → ds ≡ es → state_of (record { memory = x; devices = ds }) ≡ state_of (record { memory = y; devices = es })
 same_now x y ds es bytes devices =
     ap (λ (b : List ℕ). state_of (record { memory = record { bytes = b; versions = y.versions; place = y.place }; devices = ds })) bytes ∙ ap (λ (d : List DeviceSeen). state_of (record { memory = y; devices = d })) devices
 
 module _ (m : MachineState) (h : History) (out : SinkState) (taken pages : List ℕ) (l : LiveSeen) (p mid : LiveParkedSeen) (before : Region) (b : IsBehind m h out pages (untaken taken l)) (places : HasPlaces l) (mem : IsMemory l.machine.memory) (goes : l.phase ≢ phases.Stopped) (lent : IsLiveParked l before p)
-    (base : ℕ) (wrote seen : List ℕ) (dev pick : ℕ) (reply : Reply) (effect : Effect) (base_at : base ≡ parked_base p) (call : StepsBeside p seen dev pick reply effect mid) (word : KeepsWord before (with_content before seen) (length p.parked.memory) wrote) where
+    (base : ℕ) (wrote seen : List ℕ) (dev pick : ℕ) (reply : Reply) (effect : Effect) (base_at : base ≡ parked_base p) (call : StepsBeside p seen dev pick reply effect mid) (word : KeepsWord before (with_content before seen) (length p.machine.memory) wrote) where
   -- The machine with RAM as the step saw it, and the versions that it had.
   abbrev ram : Memory
-  ram = given_back seen (address before) p.parked.memory []
+  ram = given_back seen (address before) p.machine.memory []
 
   abbrev put : LiveSeen
   put = live_back p ram []
@@ -90,10 +90,10 @@ module _ (m : MachineState) (h : History) (out : SinkState) (taken pages : List 
   filled_places = (ready_all l seen wrote (ready l p before (with_content before seen) wrote places mem goes lent word)).places
 
   bytes_are : seen ≡ (pages_written l.machine.memory wrote seen).bytes
-  bytes_are = ap (λ (x : Memory). x.bytes) (memory_back l.machine p.parked before (with_content before seen) wrote mem lent.parked word.place word.size word.below word.others)
+  bytes_are = ap (λ (x : Memory). x.bytes) (memory_back l.machine p.machine before (with_content before seen) wrote mem lent.parked word.place word.size word.below word.others)
 
   state_is : now put ≡ now filled
-  state_is = same_now ram (pages_written l.machine.memory wrote seen) p.parked.devices l.machine.devices bytes_are lent.parked.devices_are
+  state_is = same_now ram (pages_written l.machine.memory wrote seen) p.machine.devices l.machine.devices bytes_are lent.parked.devices_are
 
   due_is : p.due ≡ l.due
   due_is = ap (λ (x : LiveParkedSeen). x.due) lent.rest
@@ -112,7 +112,7 @@ module _ (m : MachineState) (h : History) (out : SinkState) (taken pages : List 
     dirty_size = ap length dirty_is ∙ sym (length-with_pages l.dirty wrote) ∙ filled_places.dirty_size ∙ ap (λ (x : MachineState). size_of (layout_of x)) (sym state_is);
   }
 
-  whole : length seen ≡ 4096 * length p.parked.memory
+  whole : length seen ≡ 4096 * length p.machine.memory
   whole = omega (arith, word.size, ap length lent.parked.lent.bytes, mem.pages, ap length lent.parked.lent.versions_are)
 
   put_memory : IsMemory ram
@@ -126,19 +126,19 @@ module _ (m : MachineState) (h : History) (out : SinkState) (taken pages : List 
   put_goes = subst (λ (f : Phase). f ≢ phases.Stopped) (sym phase_is) goes
 
   -- The step.
-  made : IsStepOf put.machine dev pick reply effect mid.parked
+  made : IsStepOf put.machine dev pick reply effect mid.machine
   made = call.makes put.machine refl refl refl word.bytes
 
   abbrev stepped : LiveSeen
   stepped = record put { machine = made.after; dirty = mid.dirty }
 
-  layout : layout_of (now put) ≡ parked_layout p.parked
-  layout = layout_is put.machine p.parked whole refl
+  layout : layout_of (now put) ≡ parked_layout p.machine
+  layout = layout_is put.machine p.machine whole refl
 
   does : AfterGuest put (Step dev pick) reply stepped
   does = record {
     is_applied = made.applied;
-    dirty = call.dirty ∙ ap (λ (is : List Item). with_items (firsts_of (parked_layout p.parked)) p.dirty is) (sym made.items) ∙ ap (λ (y : Layout). with_items (firsts_of y) p.dirty (items_of made.applied.effect)) (sym layout);
+    dirty = call.dirty ∙ ap (λ (is : List Item). with_items (firsts_of (parked_layout p.machine)) p.dirty is) (sym made.items) ∙ ap (λ (y : Layout). with_items (firsts_of y) p.dirty (items_of made.applied.effect)) (sym layout);
     rest = refl;
   }
 
@@ -172,7 +172,7 @@ module _ (m : MachineState) (h : History) (out : SinkState) (taken pages : List 
           sound = made.applied.sound;
           few = put_places.few;
           due_size = put_places.due_size ∙ ap size_of (sym same);
-          dirty_size = ap length call.dirty ∙ length-with_items (firsts_of (parked_layout p.parked)) p.dirty (items_of effect) ∙ put_places.dirty_size ∙ ap size_of (sym same);
+          dirty_size = ap length call.dirty ∙ length-with_items (firsts_of (parked_layout p.machine)) p.dirty (items_of effect) ∙ put_places.dirty_size ∙ ap size_of (sym same);
         };
         memory = still_memory ram made.after.memory put_memory made.applied.later;
         versions = ap length (sym made.versions) ∙ made.applied.later.versions;

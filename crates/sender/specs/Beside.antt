@@ -41,9 +41,9 @@ OpenIsBeside = (p next : ParkedSeen) (window left : Region) (held : List Piece) 
 
 -- A machine that is being migrated, and whose RAM is lent, made a step over a window: exactly the items that the step writes into became dirty.
 pub record IsLiveMadeOver (p : LiveParkedSeen) (window : Region) (dev pick : ℕ) (reply : Reply) (left : Region) (next : LiveParkedSeen) : Type 0 where
-  pub made : IsMadeOver p.parked window dev pick reply left next.parked
-  pub dirty : next.dirty ≡ with_items (firsts_of (parked_layout p.parked)) p.dirty (items_of made.applied.effect)
-  pub rest : next ≡ record p { parked = next.parked; dirty = next.dirty }
+  pub made : IsMadeOver p.machine window dev pick reply left next.machine
+  pub dirty : next.dirty ≡ with_items (firsts_of (parked_layout p.machine)) p.dirty (items_of made.applied.effect)
+  pub rest : next ≡ record p { machine = next.machine; dirty = next.dirty }
 
 -- The call: the phase refuses it as it refuses the step, and nothing changes, or it is made.
 abbrev pub AnswersOver : LiveParkedSeen → Region → ℕ → ℕ → Result Stepped MigError → List ℕ → Region → LiveParkedSeen → Type 0
@@ -57,19 +57,19 @@ TriesOver p window dev pick result sent left next =
 -- A step that is made is a call of the loan, whatever RAM was elsewhere.
 abbrev pub OverIsLentCall : Type 0
 OverIsLentCall = (p next : LiveParkedSeen) (window left : Region) (held : List Piece) (dev pick : ℕ) (reply : Reply) (h : IsLiveMadeOver p window dev pick reply left next) (wrote seen : List ℕ) → length window.content ≡ length seen → AgreeOn window.content seen held
-    → KnowsReads held (state_of (back_with p.parked (window_memory p.parked window))) dev pick → KnowsWord held (state_of (back_with p.parked (window_memory p.parked window))) dev pick
+    → KnowsReads held (state_of (back_with p.machine (window_memory p.machine window))) dev pick → KnowsWord held (state_of (back_with p.machine (window_memory p.machine window))) dev pick
     → IsLentCall p (a_step (parked_base p) wrote seen dev pick reply h.made.applied.effect) next
 
 -- A step that is open is one once it is ended.
 abbrev pub live_ended : Bool → ℕ → LiveParkedSeen → LiveParkedSeen
-live_ended due dev p = record p { parked = ended due dev p.parked }
+live_ended due dev p = record p { machine = ended due dev p.machine }
 
 abbrev pub OpenIsLentCall : Type 0
 OpenIsLentCall = (p next : LiveParkedSeen) (window left : Region) (held : List Piece) (dev pick : ℕ) (reply : Reply) (h : IsLiveMadeOver p window dev pick reply left next) (wrote seen : List ℕ) → length window.content ≡ length seen → AgreeOn window.content seen held
-    → KnowsReads held (state_of (back_with p.parked (window_memory p.parked window))) dev pick
-    → asks_at (step_publishing (state_of (back_with p.parked (window_memory p.parked window))) dev pick h.made.applied.has.seen reply) h.made.after.bytes ≡ false
+    → KnowsReads held (state_of (back_with p.machine (window_memory p.machine window))) dev pick
+    → asks_at (step_publishing (state_of (back_with p.machine (window_memory p.machine window))) dev pick h.made.applied.has.seen reply) h.made.after.bytes ≡ false
     → IsLentCall p (a_step (parked_base p) wrote seen dev pick reply h.made.applied.effect)
-    (live_ended (asks_at (step_publishing (state_of (back_with p.parked (window_memory p.parked window))) dev pick h.made.applied.has.seen reply) (set_all seen h.made.applied.effect.writes)) dev next)
+    (live_ended (asks_at (step_publishing (state_of (back_with p.machine (window_memory p.machine window))) dev pick h.made.applied.has.seen reply) (set_all seen h.made.applied.effect.writes)) dev next)
 
 -- RAM by the history, with the bytes of the window in these pieces, is RAM as a step saw it that holds them.
 pub record IsPut (region : Region) (window : List ℕ) (held : List Piece) (count : ℕ) (wrote : List ℕ) : Type 0 where

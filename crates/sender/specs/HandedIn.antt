@@ -25,7 +25,7 @@ page_text n bytes = spelled_record (page_record 2 n bytes)
 pub record HandsIn (p : LiveParkedSeen) (n : ℕ) (bytes : List ℕ) (next : LiveParkedSeen) : Type 0 where
   pub free : refusal_for p.phase Copy ≡ None
   pub least : IsLeast p.due 0 n
-  pub below : n < length p.parked.memory
+  pub below : n < length p.machine.memory
   pub size : length bytes ≡ PAGE_SIZE
   pub are : IsBytes bytes
   pub count : next.out.failures ≡ p.out.failures

@@ -2,8 +2,9 @@
 use Rattle.std.specs.Prelude.{◌≡◌, ℕ, zero, suc, ◌+◌, ◌<◌, ◌^◌, ◌++◌, ◌==◌, ◌&&◌, not, if◌then◌else◌, nat_lt, List, [], ◌∷◌, length, map, Bool, Option, Some, None}
 use Rattle.sha2.specs.Sha256.{sha256}
 use Rattle.guestmem.specs.Item as items
+use Rattle.guestmem.specs.Memory.{Memory}
 use Rattle.machine.specs.Layout.{Layout, item_at, layout_of, pages_of, size_of}
-use Rattle.machine.specs.Seen.{Seen, state_of}
+use Rattle.machine.specs.Seen.{SeenOver, state_of, with_ram}
 use Rattle.machine.specs.Sound.{IsSound}
 use Rattle.machine.specs.State.{MachineState}
 use Rattle.wire.specs.Header.{header, opening_of}
@@ -19,15 +20,23 @@ use Rattle.sender.specs.declared.phase.Phase.TheVariants as phases
 use Rattle.sender.specs.declared.mig_error.MigError.{MigError}
 use Rattle.sender.specs.declared.mig_error.MigError.TheVariants.{AlreadyBegun, AlreadyStopped, NotBegun, RoundsEnded, StreamFailed}
 
--- The machine, the phase of its migration, the items that are due and those that are dirty, the digest of what was written,
--- and the writer.
-pub record LiveSeen : Type 0 where
-  pub machine : Seen
+-- The machine, its RAM here or lent, the phase of its migration, the items that are due and those that are dirty, the digest of what was
+-- written, and the writer.
+pub record LiveSeenOver (M : Type 0) : Type 0 where
+  pub machine : SeenOver M
   pub phase : Phase
   pub due : List Bool
   pub dirty : List Bool
   pub digest : Digested
   pub out : SinkState
+
+-- One whose RAM is here.
+abbrev pub LiveSeen : Type 0
+LiveSeen = LiveSeenOver Memory
+
+-- What it is with this memory.
+abbrev pub live_with : {M : Type 0} → LiveSeenOver M → Memory → LiveSeen
+live_with l m = record { machine = with_ram l.machine m; phase = l.phase; due = l.due; dirty = l.dirty; digest = l.digest; out = l.out }
 
 abbrev pub now : LiveSeen → MachineState
 now s = state_of s.machine

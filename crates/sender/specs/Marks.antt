@@ -57,8 +57,8 @@ pub record BehindGoesOn (m : MachineState) (h : History) (out : SinkState) (even
 -- behind by no page but those that are still to be named, of these and of those that it was behind by.
 abbrev pub BackIsBehind : Type 0
 BackIsBehind = (m : MachineState) (h : History) (out : SinkState) (pages : List ℕ) (l : LiveSeen) (p : LiveParkedSeen) (before after : Region) (written named rest : List ℕ) → IsBehind m h out pages l → HasPlaces l → IsMemory l.machine.memory
-    → l.phase ≢ phases.Stopped → IsLiveParked l before p → KeepsWord before after (length p.parked.memory) written → AreAmong named written
-    → AreAmong (pages ++ written) (named ++ rest) → BehindGoesOn m h out (page_writes (live_base l) written after.content) rest (live_back p (given_back after.content (address after) p.parked.memory named) named)
+    → l.phase ≢ phases.Stopped → IsLiveParked l before p → KeepsWord before after (length p.machine.memory) written → AreAmong named written
+    → AreAmong (pages ++ written) (named ++ rest) → BehindGoesOn m h out (page_writes (live_base l) written after.content) rest (live_back p (given_back after.content (address after) p.machine.memory named) named)
 
 -- The same, and these bytes are written meanwhile.
 pub record BehindSends (m : MachineState) (h : History) (out : SinkState) (events : List Event) (bytes pages : List ℕ) (new : LiveSeen) : Type 0 where
@@ -71,9 +71,9 @@ pub record BehindSends (m : MachineState) (h : History) (out : SinkState) (event
 -- events of these calls first. The pages that the guest had written before a step are to be named too.
 abbrev pub LentIsBehind : Type 0
 LentIsBehind = (m : MachineState) (h : History) (out : SinkState) (taken pages : List ℕ) (l : LiveSeen) (p next : LiveParkedSeen) (before after : Region) (calls : List LentCall) (written named rest : List ℕ) → IsBehind m h out pages (untaken taken l) → HasPlaces l
-    → IsMemory l.machine.memory → l.phase ≢ phases.Stopped → IsLiveParked l before p → AreLentCalls p calls next → AreSeen before (length p.parked.memory) calls → MayEndAll pages calls → KeepsWord (over_with_all before calls) after (length p.parked.memory) written
+    → IsMemory l.machine.memory → l.phase ≢ phases.Stopped → IsLiveParked l before p → AreLentCalls p calls next → AreSeen before (length p.machine.memory) calls → MayEndAll pages calls → KeepsWord (over_with_all before calls) after (length p.machine.memory) written
     → AreAmong named written → AreAmong (missing_among pages calls ++ written) (named ++ rest)
-    → BehindSends m h out (events_among calls ++ page_writes (parked_base next) written after.content) (sent_among calls) rest (untaken (taken ++ bytes_among calls) (live_back next (given_back after.content (address after) next.parked.memory named) named))
+    → BehindSends m h out (events_among calls ++ page_writes (parked_base next) written after.content) (sent_among calls) rest (untaken (taken ++ bytes_among calls) (live_back next (given_back after.content (address after) next.machine.memory named) named))
 
 -- A round is ended, and a stop made, only of a machine that is behind by no page: these two send by the set of dirty items.
 abbrev pub MayCall : List ℕ → LiveEvent → Type 0

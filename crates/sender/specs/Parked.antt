@@ -13,24 +13,18 @@ use Rattle.machine.specs.State.{MachineState, base_of}
 use Rattle.machine.specs.declared.event.Event.{Event}
 use Rattle.machine.specs.declared.event.Event.TheVariants.{MemWrite}
 use Rattle.machine.specs.declared.reply.Reply.TheVariants.{Done}
-use Rattle.wire.specs.Sinks.{Digested, SinkState}
+use Rattle.wire.specs.Sinks.{SinkState}
 use Rattle.sender.specs.Calls.{Serves}
 use Rattle.sender.specs.Follows.{Relates}
 use Rattle.sender.specs.History.{History, guest_events, text}
-use Rattle.sender.specs.LiveState.{HasPlaces, LiveSeen, now}
+use Rattle.sender.specs.LiveState.{HasPlaces, LiveSeen, LiveSeenOver, now}
 use Rattle.sender.specs.declared.event.LiveEvent.TheVariants.{Guest}
 use Rattle.sender.specs.declared.event.LiveReply.TheVariants as r
-use Rattle.sender.specs.declared.phase.Phase.{Phase}
 use Rattle.sender.specs.declared.phase.Phase.TheVariants as phases
 
 -- The machine whose RAM is lent, and all else of a machine that is being migrated.
-pub record LiveParkedSeen : Type 0 where
-  pub parked : ParkedSeen
-  pub phase : Phase
-  pub due : List Bool
-  pub dirty : List Bool
-  pub digest : Digested
-  pub out : SinkState
+abbrev pub LiveParkedSeen : Type 0
+LiveParkedSeen = LiveSeenOver (List ℕ)
 
 -- The layout of a machine whose RAM is lent.
 abbrev pub parked_layout : ParkedSeen → Layout
@@ -38,8 +32,8 @@ parked_layout p = record { pages = length p.memory; disks = map length (map (λ 
 
 -- Its RAM was lent, and all else of it is kept.
 pub record IsLiveParked (l : LiveSeen) (region : Region) (p : LiveParkedSeen) : Type 0 where
-  pub parked : IsParked l.machine region p.parked
-  pub rest : p ≡ record { parked = p.parked; phase = l.phase; due = l.due; dirty = l.dirty; digest = l.digest; out = l.out }
+  pub parked : IsParked l.machine region p.machine
+  pub rest : p ≡ record { machine = p.machine; phase = l.phase; due = l.due; dirty = l.dirty; digest = l.digest; out = l.out }
 
 -- These pages are dirty too.
 abbrev pub with_pages : List Bool → List ℕ → List Bool
@@ -48,7 +42,7 @@ with_pages dirty (n ∷ pages) = with_pages (slice_set dirty n true) pages
 
 -- It has such a memory, and these pages are dirty.
 abbrev pub live_back : LiveParkedSeen → Memory → List ℕ → LiveSeen
-live_back p m pages = record { machine = back_with p.parked m; phase = p.phase; due = p.due; dirty = with_pages p.dirty pages; digest = p.digest; out = p.out }
+live_back p m pages = record { machine = back_with p.machine m; phase = p.phase; due = p.due; dirty = with_pages p.dirty pages; digest = p.digest; out = p.out }
 
 -- The guest's writes of these pages, whole, one after another, where RAM begins at this base.
 abbrev pub page_writes : ℕ → List ℕ → List ℕ → List Event
@@ -74,8 +68,8 @@ pub record KeepsWord (before after : Region) (count : ℕ) (pages : List ℕ) : 
 
 -- Where the caller keeps its word, the machine is as if the guest had written these pages by calls of it.
 abbrev pub LiveBackIsServed : Type 0
-LiveBackIsServed = (l : LiveSeen) (p : LiveParkedSeen) (before after : Region) (pages : List ℕ) → HasPlaces l → IsMemory l.machine.memory → l.phase ≢ phases.Stopped → IsLiveParked l before p → KeepsWord before after (length p.parked.memory) pages
-    → AreServed l (page_writes (live_base l) pages after.content) (live_back p (given_back after.content (address after) p.parked.memory pages) pages)
+LiveBackIsServed = (l : LiveSeen) (p : LiveParkedSeen) (before after : Region) (pages : List ℕ) → HasPlaces l → IsMemory l.machine.memory → l.phase ≢ phases.Stopped → IsLiveParked l before p → KeepsWord before after (length p.machine.memory) pages
+    → AreServed l (page_writes (live_base l) pages after.content) (live_back p (given_back after.content (address after) p.machine.memory pages) pages)
 
 -- The history goes on by these events of the guest, and nothing is written meanwhile.
 pub record BackGoesOn (m : MachineState) (h : History) (out : SinkState) (events : List Event) (new : LiveSeen) : Type 0 where
@@ -87,5 +81,5 @@ pub record BackGoesOn (m : MachineState) (h : History) (out : SinkState) (events
 -- So its history goes on by these writes, and all that is promised of a history holds of it.
 abbrev pub LiveBackFollows : Type 0
 LiveBackFollows = (m : MachineState) (h : History) (out : SinkState) (l : LiveSeen) (p : LiveParkedSeen) (before after : Region) (pages : List ℕ) → Relates m h out l → HasPlaces l → IsMemory l.machine.memory → l.phase ≢ phases.Stopped
-    → IsLiveParked l before p → KeepsWord before after (length p.parked.memory) pages
-    → BackGoesOn m h out (page_writes (live_base l) pages after.content) (live_back p (given_back after.content (address after) p.parked.memory pages) pages)
+    → IsLiveParked l before p → KeepsWord before after (length p.machine.memory) pages
+    → BackGoesOn m h out (page_writes (live_base l) pages after.content) (live_back p (given_back after.content (address after) p.machine.memory pages) pages)

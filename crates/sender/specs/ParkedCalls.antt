@@ -42,8 +42,8 @@ use Rattle.sender.specs.declared.phase.Phase.TheVariants as phases
 
 -- An event that needs no RAM was applied to the machine. It wrote no item, so none became dirty, and nothing else changed.
 pub record AfterParked (p : LiveParkedSeen) (e : Event) (reply : Reply) (next : LiveParkedSeen) : Type 0 where
-  pub applied : IsAppliedParked p.parked e reply next.parked
-  pub rest : next ≡ record p { parked = next.parked }
+  pub applied : IsAppliedParked p.machine e reply next.machine
+  pub rest : next ≡ record p { machine = next.machine }
 
 abbrev pub GuestsParked : LiveParkedSeen → Event → LiveReply → LiveParkedSeen → Type 0
 GuestsParked p e (r.Guest reply) next = AfterParked p e reply next
@@ -55,20 +55,20 @@ ServesParked p e reply next = MatchOption (refusal_for p.phase (Guest e)) (Guest
 
 -- One flush of the disk of a device, beside all steps, in each phase.
 pub record FlushesLiveParked {T E : Type 0} (p : LiveParkedSeen) (dev : ℕ) (result : Result T E) (next : LiveParkedSeen) : Type 0 where
-  pub flushes : FlushesParked p.parked dev result next.parked
-  pub rest : next ≡ record p { parked = next.parked }
+  pub flushes : FlushesParked p.machine dev result next.machine
+  pub rest : next ≡ record p { machine = next.machine }
 
 -- A flush failed in place of its step.
 pub record FailsLiveParked (p : LiveParkedSeen) (dev pick : ℕ) (next : LiveParkedSeen) : Type 0 where
-  pub failed : FailsParkedFlush p.parked dev pick next.parked
-  pub rest : next ≡ record p { parked = next.parked }
+  pub failed : FailsParkedFlush p.machine dev pick next.machine
+  pub rest : next ≡ record p { machine = next.machine }
 
 abbrev pub FailsLiveParkedIf : Bool → LiveParkedSeen → ℕ → ℕ → LiveParkedSeen → Type 0
 FailsLiveParkedIf true p dev pick next = FailsLiveParked p dev pick next
 FailsLiveParkedIf false p dev pick next = next ≡ p
 
 abbrev pub AnswersParkedFlush : LiveParkedSeen → ℕ → ℕ → Result Bool MigError → LiveParkedSeen → Type 0
-AnswersParkedFlush p dev pick (Ok was) next = (was ≡ makes_flush_parked p.parked dev pick) × FailsLiveParkedIf was p dev pick next
+AnswersParkedFlush p dev pick (Ok was) next = (was ≡ makes_flush_parked p.machine dev pick) × FailsLiveParkedIf was p dev pick next
 AnswersParkedFlush p dev pick (Err e) next = ⊥
 
 -- The call: the phase refuses it as it refuses the step, and nothing changes, or it is answered.
@@ -116,19 +116,19 @@ MakesBeside p seen dev pick reply effect next = (m : Seen) → m.devices ≡ p.d
 
 -- Exactly the items that it writes into became dirty, and nothing else changed.
 pub record StepsBeside (p : LiveParkedSeen) (seen : List ℕ) (dev pick : ℕ) (reply : Reply) (effect : Effect) (next : LiveParkedSeen) : Type 0 where
-  pub makes : MakesBeside p.parked seen dev pick reply effect next.parked
-  pub dirty : next.dirty ≡ with_items (firsts_of (parked_layout p.parked)) p.dirty (items_of effect)
-  pub rest : next ≡ record p { parked = next.parked; dirty = next.dirty }
+  pub makes : MakesBeside p.machine seen dev pick reply effect next.machine
+  pub dirty : next.dirty ≡ with_items (firsts_of (parked_layout p.machine)) p.dirty (items_of effect)
+  pub rest : next ≡ record p { machine = next.machine; dirty = next.dirty }
 
 -- These pages became dirty, and nothing else changed.
 pub record MarksParked (p : LiveParkedSeen) (marks : List ℕ) (next : LiveParkedSeen) : Type 0 where
-  pub below : AreBelow (length p.parked.memory) marks
+  pub below : AreBelow (length p.machine.memory) marks
   pub rest : next ≡ record p { dirty = with_pages p.dirty marks }
 
 -- The end of a round reads no byte of RAM: it is that call of the machine with whatever RAM, and the guest may still run after it.
 pub record EndsLent (p : LiveParkedSeen) (reply : LiveReply) (next : LiveParkedSeen) : Type 0 where
-  pub serves : WhateverRam p.parked (λ m. Serves (live_back p m []) EndRound reply (live_back next m []))
-  pub parked : next.parked ≡ p.parked
+  pub serves : WhateverRam p.machine (λ m. Serves (live_back p m []) EndRound reply (live_back next m []))
+  pub parked : next.machine ≡ p.machine
   pub due_size : length next.due ≡ length p.due
   pub dirty_size : length next.dirty ≡ length p.dirty
   pub goes : p.phase ≢ phases.Stopped → next.phase ≢ phases.Stopped
@@ -153,7 +153,7 @@ pub data LentCall : Type 0 where
 
 -- The address at which its RAM begins.
 abbrev pub parked_base : LiveParkedSeen → ℕ
-parked_base p = base_of (parked_states p.parked)
+parked_base p = base_of (parked_states p.machine)
 
 abbrev pub IsLentCall : LiveParkedSeen → LentCall → LiveParkedSeen → Type 0
 IsLentCall p (an_event e reply) next = ServesParked p e (r.Guest reply) next
@@ -165,7 +165,7 @@ IsLentCall p (a_page addr n bytes) next = (addr ≡ parked_base p + PAGE_SIZE * 
 IsLentCall p a_failed_page next = HandingFails p next
 IsLentCall p (a_mark base bytes marks) next = (base ≡ parked_base p) × MarksParked p marks next
 IsLentCall p (a_round_end reply) next = EndsLent p reply next
-IsLentCall p (a_sector dev n content) next = (sector_on (slice_get (parked_sectors p.parked) dev) n ≡ Some content) × CopiesLent p (r.Copied (items.Sector dev n)) next
+IsLentCall p (a_sector dev n content) next = (sector_on (slice_get (parked_sectors p.machine) dev) n ≡ Some content) × CopiesLent p (r.Copied (items.Sector dev n)) next
 IsLentCall p (an_unsent_sector e) next = CopiesLent p (r.Mig e) next
 
 -- Calls, one after another.
@@ -273,5 +273,5 @@ pub record LentGoesOn (m : MachineState) (h : History) (out : SinkState) (events
 -- the history, and those that the guest had written before a step. Bytes may have been taken before, and meanwhile.
 abbrev pub LentFollows : Type 0
 LentFollows = (m : MachineState) (h : History) (out : SinkState) (taken : List ℕ) (l : LiveSeen) (p next : LiveParkedSeen) (before after : Region) (calls : List LentCall) (pages : List ℕ) → Relates m h out (untaken taken l) → HasPlaces l → IsMemory l.machine.memory
-    → l.phase ≢ phases.Stopped → IsLiveParked l before p → AreLentCalls p calls next → AreSeen before (length p.parked.memory) calls → MayEndAll [] calls → KeepsWord (over_with_all before calls) after (length p.parked.memory) pages → ((n : ℕ) → is_named (missing_among [] calls) n ≡ true → is_named pages n ≡ true)
-    → LentGoesOn m h out (events_among calls ++ page_writes (parked_base next) pages after.content) (sent_among calls) (untaken (taken ++ bytes_among calls) (live_back next (given_back after.content (address after) next.parked.memory pages) pages))
+    → l.phase ≢ phases.Stopped → IsLiveParked l before p → AreLentCalls p calls next → AreSeen before (length p.machine.memory) calls → MayEndAll [] calls → KeepsWord (over_with_all before calls) after (length p.machine.memory) pages → ((n : ℕ) → is_named (missing_among [] calls) n ≡ true → is_named pages n ≡ true)
+    → LentGoesOn m h out (events_among calls ++ page_writes (parked_base next) pages after.content) (sent_among calls) (untaken (taken ++ bytes_among calls) (live_back next (given_back after.content (address after) next.machine.memory pages) pages))

@@ -33,23 +33,23 @@ IsNextDue pages due next_due.Nothing = HasNone due
 -- The devices stay as they are, but for the marks and the calls of their disks, and each set has as many entries as before. The guest may
 -- still run.
 pub record IsKeptLent (p next : LiveParkedSeen) : Type 0 where
-  pub versions : next.parked.memory ≡ p.parked.memory
-  pub states : parked_states next.parked ≡ parked_states p.parked
-  pub sectors : parked_sectors next.parked ≡ parked_sectors p.parked
+  pub versions : next.machine.memory ≡ p.machine.memory
+  pub states : parked_states next.machine ≡ parked_states p.machine
+  pub sectors : parked_sectors next.machine ≡ parked_sectors p.machine
   pub due_size : length next.due ≡ length p.due
   pub dirty_size : length next.dirty ≡ length p.dirty
   pub goes : p.phase ≢ phases.Stopped → next.phase ≢ phases.Stopped
 
 -- A copy with this reply: whatever the RAM holds meanwhile, it is that copy of the machine with this RAM.
 pub record CopiesLent (p : LiveParkedSeen) (reply : LiveReply) (next : LiveParkedSeen) : Type 0 where
-  pub serves : WhateverRam p.parked (λ m. Serves (live_back p m []) Copy reply (live_back next m []))
+  pub serves : WhateverRam p.machine (λ m. Serves (live_back p m []) Copy reply (live_back next m []))
   pub kept : IsKeptLent p next
 
 -- The least due item is this page: nothing was sent.
 pub record IsPageDue (p : LiveParkedSeen) (page : ℕ) (next : LiveParkedSeen) : Type 0 where
   pub free : refusal_for p.phase Copy ≡ None
   pub least : IsLeast p.due 0 page
-  pub below : page < length p.parked.memory
+  pub below : page < length p.machine.memory
   pub same : next ≡ p
 
 -- No item is due.
@@ -67,12 +67,12 @@ CopiesSector p (Err e) next = CopiesLent p (r.Mig e) next
 
 -- The calls of disks that it has made: those of that copy, whatever the RAM holds meanwhile.
 abbrev pub CallsLent : (ℕ → ℕ) → LiveParkedSeen → LiveReply → LiveParkedSeen → Type 0
-CallsLent called p reply next = WhateverRam p.parked (λ m. HasLiveCalled called (live_back p m []) Copy reply (live_back next m []))
+CallsLent called p reply next = WhateverRam p.machine (λ m. HasLiveCalled called (live_back p m []) Copy reply (live_back next m []))
 
 abbrev pub HasSectorCalled : (ℕ → ℕ) → LiveParkedSeen → Result SectorAnswer MigError → LiveParkedSeen → Type 0
 HasSectorCalled called p (Ok (answers.Copied dev n)) next = CallsLent called p (r.Copied (Sector dev n)) next
-HasSectorCalled called p (Ok (answers.PageDue page)) next = parked_calls next.parked ≡ parked_calls p.parked
-HasSectorCalled called p (Ok answers.RoundDone) next = parked_calls next.parked ≡ parked_calls p.parked
+HasSectorCalled called p (Ok (answers.PageDue page)) next = parked_calls next.machine ≡ parked_calls p.machine
+HasSectorCalled called p (Ok answers.RoundDone) next = parked_calls next.machine ≡ parked_calls p.machine
 HasSectorCalled called p (Err e) next = CallsLent called p (r.Mig e) next
 
 -- The part of it that sends the sector with this number.
@@ -81,5 +81,5 @@ sent_as item (Ok x) = Ok item
 sent_as item (Err e) = Err e
 
 pub record SendsLent (p : LiveParkedSeen) (number dev n : ℕ) (result : Result (Unit {0}) MigError) (next : LiveParkedSeen) : Type 0 where
-  pub sends : WhateverRam p.parked (λ m. SendsItem (live_back p m []) number (sent_as (Sector dev n) result) (live_back next m []))
+  pub sends : WhateverRam p.machine (λ m. SendsItem (live_back p m []) number (sent_as (Sector dev n) result) (live_back next m []))
   pub kept : IsKeptLent p next

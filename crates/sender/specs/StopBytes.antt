@@ -21,4 +21,4 @@ IsStopBytes l bytes = StopsWithin l bytes × (bytes ≡ longest_stop (pages_of (
 
 -- The same while RAM is lent, if no further page is named.
 abbrev pub IsStopBytesLent : LiveParkedSeen → ℕ → Type 0
-IsStopBytesLent l bytes = WhateverRam l.parked (λ m. StopsWithin (live_back l m []) bytes) × (bytes ≡ longest_stop (length l.parked.memory) l.due l.dirty (parked_states l.parked))
+IsStopBytesLent l bytes = WhateverRam l.machine (λ m. StopsWithin (live_back l m []) bytes) × (bytes ≡ longest_stop (length l.machine.memory) l.due l.dirty (parked_states l.machine))

@@ -4,19 +4,16 @@
 
 ghost use Rattle.std.specs.Prelude.{◌≡◌, ◌<◌, length, map};
 ghost use Rattle.machine.specs.Outside.{asking_requests};
-ghost use Rattle.machine.specs.Parked.{parked_states};
-ghost use Rattle.disk_calls.specs.Machines.{asked_of};
-ghost use Rattle.sender.specs.LiveState.{now};
+ghost use Rattle.machine.specs.Seen.{states_of};
 
-use crate::lending::LiveParked;
 use crate::live::LiveOver;
 use blk::Request;
 use disk_calls::Asks;
-use machine::Disk;
+use machine::{Disk, GuestRam};
 use wire::Digesting;
 
-impl<D: Disk, W: Digesting> Asks for LiveOver<D, W> {
-    ghost asked = { λ l. asked_of (now l) };
+impl<D: Disk, W: Digesting, M: GuestRam> Asks for LiveOver<D, W, M> {
+    ghost asked = { λ l. map asking_requests (states_of l.machine) };
 
     fn devices(&self) -> usize {
         Asks::devices(&self.machine)
@@ -24,17 +21,5 @@ impl<D: Disk, W: Digesting> Asks for LiveOver<D, W> {
 
     fn requests(&self, dev: usize) -> &[Request] {
         self.machine.requests(dev)
-    }
-}
-
-impl<D: Disk, W: Digesting> Asks for LiveParked<D, W> {
-    ghost asked = { λ l. map asking_requests (parked_states l.parked) };
-
-    fn devices(&self) -> usize {
-        Asks::devices(&self.parked)
-    }
-
-    fn requests(&self, dev: usize) -> &[Request] {
-        self.parked.requests(dev)
     }
 }

@@ -2,6 +2,7 @@
 
 use crate::live::LiveOver;
 use crate::mig_error::MigError;
+use guestmem::Ram;
 use machine::{Disk, DiskFault, Event, Machine, Reply, Stepped, Turn, TurnEnd};
 use wire::Digesting;
 
@@ -186,7 +187,7 @@ impl<D: Disk> Guest<D> for Machine<D> {
 }
 
 /// While a machine is being migrated, what an event writes into becomes dirty, and is sent again.
-impl<D: Disk, W: Digesting> Guest<D> for LiveOver<D, W> {
+impl<D: Disk, W: Digesting> Guest<D> for LiveOver<D, W, Ram> {
     ghost use Rattle.sender.specs.Guests.{IsServedLive};
     ghost use Rattle.sender.specs.Turns.{TakesLiveTurn};
     ghost use Rattle.sender.specs.Unsynced.{TriesFlush};

@@ -114,8 +114,7 @@ pub use event::{
     CopyAnswer, End, Item, Left, LiveEvent, LiveReply, NextDue, Remaining, SectorAnswer, Stopped,
 };
 pub use guest::Guest;
-pub use lending::LiveParked;
-pub use live::{Live, LiveOver, LiveTold, LiveWaiting};
+pub use live::{Live, LiveOver, LiveParked, LiveTold, LiveWaiting};
 pub use measuring::saved_len;
 pub use mig_error::MigError;
 pub use phase::Phase;

@@ -6,41 +6,35 @@
 //! A stop goes over its two sets side by side, and searches each on only from the member that it has just sent: a search of
 //! both from each item on would go over the rest of a set that has one late member for each item of the other.
 
+mod calls;
 mod told;
 
 ghost use Rattle.std.specs.Prelude.{◌≡◌, ◌≢◌, ◌<◌, ◌^◌, ◌-◌, ◌+◌, ◌*◌, ◌≤◌, ◌++◌, IfOk, IfErr, None, OnOk, Some, [], drop, false, length, min, take, true};
 ghost use Rattle.guestmem.specs.Lent.{AreBelow};
-ghost use Rattle.dirtylog.specs.Members.{HasNone, IsLeastFrom, member_count};
+ghost use Rattle.dirtylog.specs.Members.{HasNone, IsLeastFrom};
 ghost use Rattle.machine.specs.declared.event.Event.TheVariants as events;
-ghost use Rattle.machine.specs.Calls.{CallsDisk};
 ghost use Rattle.machine.specs.Stepped.{reply_in};
-ghost use Rattle.machine.specs.Layout.{item_at, layout_of, pages_of, size_of};
-ghost use Rattle.wire.specs.Sinks.{Covers, Takes, over_writer};
+ghost use Rattle.machine.specs.Layout.{item_at, layout_of, size_of};
+ghost use Rattle.wire.specs.Sinks.{Covers};
 ghost use Rattle.sender.specs.LiveState.{HasPlaces, now, refusal_for};
 ghost use Rattle.sender.specs.Calls.{Serves, begun_reply, copied_reply, ended_reply, guest_reply, stepped_result, stopped_reply};
 ghost use Rattle.sender.specs.Marks.{live_marked};
 ghost use Rattle.sender.specs.Parked.{IsLiveParked};
 ghost use Rattle.sender.specs.Reads.{HasLiveCalled, ReadsItem, SendCalls};
 ghost use Rattle.sender.specs.Uncalled.{CallsNone};
-ghost use Rattle.sender.specs.StopBytes.{IsStopBytes};
-ghost use Rattle.sender.specs.SectorsLent.{IsNextDue};
-ghost use Rattle.sender.specs.Unsynced.{FlushesLiveDisk, TriesFlush};
 ghost use Rattle.sender.specs.Stopping.{ClosesStream, HasNoneUpTo, IsLive, SendsAll, SendsItem, lesser, one_more, phase_after};
 
 use crate::dirty::{Dirty, Logs};
 use crate::event::{
-    CopyAnswer, End, Item, Left, LiveEvent, LiveReply, NextDue, Remaining, Stopped,
+    CopyAnswer, End, Item, LiveEvent, LiveReply, Stopped,
 };
-use crate::left::{left_of, most_bytes};
-use crate::lending::LiveParked;
-use crate::measuring::devices_len;
 use crate::mig_error::MigError;
 use crate::numbering::{item_at, number_items, page_count};
 use crate::phase::Phase;
 use crate::saving::{send_item, write_devices, write_seal};
 use dirtylog::BitSet;
-use guestmem::Both;
-use machine::{Disk, DiskFault, Event, Machine, Reply, Stepped};
+use guestmem::{Both, ParkedRam, Ram};
+use machine::{Disk, Event, GuestRam, Machine, MachineOver, Reply, Stepped};
 use region::Region;
 use std::alloc::{AllocError, Global};
 use std::marker::Model;
@@ -49,10 +43,11 @@ use wire::{Digesting, Eager, Sink, Told, Waiting, encode_header, encode_round};
 /// The last round that the record of a round's end can number. It can't be ended.
 pub(crate) const LAST_ROUND: u32 = u32::MAX;
 
-/// A machine, the stream that is written of it, and what is still to be sent. The writer digests what it takes, when it will, or is told the digest.
+/// A machine, its RAM here or lent, the stream that is written of it, and what is still to be sent. The writer digests what it takes, when it will,
+/// or is told the digest.
 #[derive(Drop)]
-pub struct LiveOver<D: Disk, W: Digesting> {
-    pub(crate) machine: Machine<D>,
+pub struct LiveOver<D: Disk, W: Digesting, M: GuestRam> {
+    pub(crate) machine: MachineOver<D, M>,
     pub(crate) writer: W,
     pub(crate) phase: Phase,
     pub(crate) due: BitSet,
@@ -63,27 +58,31 @@ pub struct LiveOver<D: Disk, W: Digesting> {
 }
 
 /// One whose writer is any sink. What is written is digested at once.
-pub type Live<D, W> = LiveOver<D, Eager<W>>;
+pub type Live<D, W> = LiveOver<D, Eager<W>, Ram>;
 
 /// One whose bytes wait in memory until they are taken, and are digested no sooner than they must.
-pub type LiveWaiting<D> = LiveOver<D, Waiting>;
+pub type LiveWaiting<D> = LiveOver<D, Waiting, Ram>;
 
 /// One whose bytes wait in memory until they are taken, and whose digest is told by whoever takes them.
-pub type LiveTold<D> = LiveOver<D, Told>;
+pub type LiveTold<D> = LiveOver<D, Told, Ram>;
 
-impl<D: Disk, W: Digesting> Model for LiveOver<D, W> {
-    ghost use Rattle.sender.specs.LiveState.{LiveSeen};
+/// One whose RAM is lent. What needs none of its bytes can be done to it, and what was written can be taken. Its sectors are sent as ever, and its
+/// pages with bytes that the caller copied out of the RAM.
+pub type LiveParked<D, W> = LiveOver<D, W, ParkedRam>;
 
-    ghost Value = { LiveSeen };
+impl<D: Disk, W: Digesting, M: GuestRam> Model for LiveOver<D, W, M> {
+    ghost use Rattle.sender.specs.LiveState.{LiveSeenOver};
 
-    ghost use Rattle.sender.specs.Stopping.{IsLive};
+    ghost Value = { LiveSeenOver M };
+
+    ghost use Rattle.sender.specs.LiveOver.{IsLiveOver};
 
     ghost view = { λ l. record { machine = l.machine; phase = l.phase; due = l.due; dirty = l.logs.first.set; digest = W.sum l.writer; out = W.state l.writer } };
 
-    ghost invariant = { λ l. IsLive l.machine l.phase l.due l.logs.first.set l.logs.first.firsts.items l.at };
+    ghost invariant = { λ l. IsLiveOver (M.known l.machine.memory) l.machine.devices l.phase l.due l.logs.first.set l.logs.first.firsts.items l.at };
 }
 
-impl<D: Disk, W: Sink> LiveOver<D, Eager<W>> {
+impl<D: Disk, W: Sink> LiveOver<D, Eager<W>, Ram> {
     /// A machine of which nothing is sent yet. Fails only if memory is refused.
     pub fn new(
         alloc: Global,
@@ -112,18 +111,9 @@ impl<D: Disk, W: Sink> LiveOver<D, Eager<W>> {
         let (machine, writer) = self.parts();
         (machine, writer.into_inner())
     }
-
-    /// Replaces the writer, and returns the old one. All else stays the same. No call depends on what a writer holds
-    /// (`laws::calls_ignore_what_was_taken`), so a caller may take that out between two calls.
-    pub fn replace_writer(&mut self, writer: W) -> W
-        ensures out { W.state result ≡ self.old.out }
-        ensures rest { self.new ≡ record self.old { out = W.state writer } }
-    {
-        self.writer.replace(writer)
-    }
 }
 
-impl<D: Disk> LiveOver<D, Waiting> {
+impl<D: Disk> LiveOver<D, Waiting, Ram> {
     /// A machine of which nothing is sent yet. Fails only if memory is refused.
     pub fn new(
         alloc: Global,
@@ -153,22 +143,11 @@ impl<D: Disk> LiveOver<D, Waiting> {
     {
         self.parts()
     }
-
-    /// Takes the first of the bytes that wait, as `Waiting::take` does. No call depends on what the writer holds
-    /// (`laws::calls_ignore_what_was_taken`), so bytes may be taken between two calls.
-    pub fn take(&mut self, buf: &mut [u8]) -> usize
-        ensures count { result ≡ min (length buf.old) (length self.old.out.held) }
-        ensures taken { buf.new ≡ take result self.old.out.held ++ drop result buf.old }
-        ensures left { self.new ≡ record self.old { out = over_writer (Some (drop result self.old.out.held)) 0 false; digest = self.new.digest } }
-        ensures digest { Takes self.old.digest [] self.new.digest }
-    {
-        self.writer.take(buf)
-    }
 }
 
-impl<D: Disk, W: Digesting> LiveOver<D, W> {
+impl<D: Disk, W: Digesting> LiveOver<D, W, Ram> {
     /// A machine of which nothing is sent yet, with the sets that `make_room` made for it. The writer has begun its digest.
-    fn fresh(machine: Machine<D>, writer: W, due: BitSet, dirty: Dirty) -> LiveOver<D, W>
+    fn fresh(machine: Machine<D>, writer: W, due: BitSet, dirty: Dirty) -> LiveOver<D, W, Ram>
         requires empty { HasNone due × HasNone dirty.set }
         requires live { IsLive machine Phase.Fresh due dirty.set dirty.firsts.items 0 }
         ensures empty { HasNone result.due × HasNone result.dirty }
@@ -188,55 +167,6 @@ impl<D: Disk, W: Digesting> LiveOver<D, W> {
         };
         live.recall();
         live
-    }
-
-    /// The machine, to be read: its registers, its RAM, its interrupt lines.
-    pub fn machine(&self) -> &Machine<D>
-        ensures { result.now ≡ self.now.machine }
-    {
-        &self.machine
-    }
-
-    /// How far its migration has come.
-    pub fn phase(&self) -> Phase
-        ensures { result ≡ self.now.phase }
-    {
-        self.phase
-    }
-
-    /// How many items are due, and how many are dirty. It takes constant time.
-    pub fn remaining(&self) -> Remaining
-        ensures due { result.due ≡ member_count self.now.due }
-        ensures dirty { result.dirty ≡ member_count self.now.dirty }
-    {
-        Remaining {
-            due: self.due.count(),
-            dirty: self.logs.first.set.count(),
-        }
-    }
-
-    /// What `remaining` counts, with pages and sectors apart. It looks at the place of each page in both sets.
-    pub fn left(&self) -> Left
-        ensures due_pages { result.due_pages ≡ member_count (take (pages_of (now self.now)) self.now.due) }
-        ensures due_sectors { result.due_sectors ≡ member_count (drop (pages_of (now self.now)) self.now.due) }
-        ensures dirty_pages { result.dirty_pages ≡ member_count (take (pages_of (now self.now)) self.now.dirty) }
-        ensures dirty_sectors { result.dirty_sectors ≡ member_count (drop (pages_of (now self.now)) self.now.dirty) }
-        ensures few_pages { result.due_pages + result.dirty_pages ≤ 2 * pages_of (now self.now) }
-        ensures pages_fit { result.due_pages + result.dirty_pages ≤ 8589934590 }
-        ensures few_sectors { result.due_sectors + result.dirty_sectors < 2 ^ 38 }
-    {
-        self.recall();
-        left_of(&self.due, &self.logs.first.set, page_count(&self.machine))
-    }
-
-    /// The most bytes that a stop would write: as if no page were of zeros, no sector bad, and no item both due and dirty. It looks at the
-    /// place of each page in both sets.
-    pub fn most_by_stop(&self) -> u64
-        ensures { IsStopBytes self.now result }
-    {
-        self.recall();
-        let items = self.left();
-        most_bytes(items, devices_len(self.machine.devices()))
     }
 
     /// The machine as it is.
@@ -273,25 +203,40 @@ impl<D: Disk, W: Digesting> LiveOver<D, W> {
     }
 
     /// Lends the RAM of the machine, if it lies in memory of the caller. Takes no memory; its time does not depend on the size of RAM.
-    pub fn lend(self) -> Result<(Region, LiveParked<D, W>), LiveOver<D, W>>
+    pub fn lend(self) -> Result<(Region, LiveParked<D, W>), LiveOver<D, W, Ram>>
         ensures lent { IfOk result (λ r. IsLiveParked self r.0 r.1) }
         ensures own { IfErr result (λ _. self.machine.memory.place ≡ None) }
         ensures same { IfErr result (λ l. l ≡ self) }
     {
         self.machine.ram().recall();
-        match self.machine.lend() {
-            Ok((region, parked)) => Ok((
-                region,
-                LiveParked {
-                    parked,
-                    writer: self.writer,
-                    phase: self.phase,
-                    due: self.due,
-                    at: self.at,
-                    dirty: self.logs.first,
-                },
-            )),
-            Err(machine) => Err(LiveOver { machine, ..self }),
+        let LiveOver {
+            machine,
+            writer,
+            phase,
+            due,
+            at,
+            logs,
+        } = self;
+        match machine.lend() {
+            Ok((region, machine)) => {
+                let lent = LiveOver {
+                    machine,
+                    writer,
+                    phase,
+                    due,
+                    at,
+                    logs,
+                };
+                Ok((region, lent))
+            }
+            Err(machine) => Err(LiveOver {
+                machine,
+                writer,
+                phase,
+                due,
+                at,
+                logs,
+            }),
         }
     }
 
@@ -327,17 +272,6 @@ impl<D: Disk, W: Digesting> LiveOver<D, W> {
         }
     }
 
-    /// Whether the guest still runs: a stop that closed the stream has paused it.
-    pub(crate) fn running(&self) -> Result<(), MigError>
-        ensures open { OnOk result (self.now.phase ≢ Phase.Stopped) }
-        ensures closed { IfErr result (λ e. (e ≡ MigError.AlreadyStopped) × (self.now.phase ≡ Phase.Stopped)) }
-    {
-        if let Phase::Stopped = self.phase {
-            return Err(MigError::AlreadyStopped);
-        }
-        Ok(())
-    }
-
     /// Applies the guest's event, and marks as dirty what it writes.
     #[tactic(auto, using(crate::proofs::Living::guest_refused))]
     pub fn apply(&mut self, event: &Event) -> Result<Reply, MigError>
@@ -346,45 +280,6 @@ impl<D: Disk, W: Digesting> LiveOver<D, W> {
     {
         self.running()?;
         Ok(self.machine.apply_logged(event, &mut self.logs.first))
-    }
-
-    /// The driver reads a register. As `apply` of that event.
-    #[tactic(auto, using(crate::proofs::Living::guest_refused))]
-    pub fn read_register(&mut self, dev: u8, offset: u32, width: u8) -> Result<Reply, MigError>
-        ensures served { Serves self.old (LiveEvent.Guest (events.RegRead dev offset width)) (guest_reply result) self.new }
-        ensures calls { HasLiveCalled D.called self.old (LiveEvent.Guest (events.RegRead dev offset width)) (guest_reply result) self.new }
-    {
-        self.running()?;
-        let answer = self.machine.read_register(dev, offset, width);
-        Ok(Reply::from_value(answer))
-    }
-
-    /// The driver writes a register. As `apply` of that event.
-    #[tactic(auto, using(crate::proofs::Living::guest_refused))]
-    pub fn write_register(
-        &mut self,
-        dev: u8,
-        offset: u32,
-        width: u8,
-        value: u32,
-    ) -> Result<Reply, MigError>
-        ensures served { Serves self.old (LiveEvent.Guest (events.RegWrite dev offset width value)) (guest_reply result) self.new }
-        ensures calls { HasLiveCalled D.called self.old (LiveEvent.Guest (events.RegWrite dev offset width value)) (guest_reply result) self.new }
-    {
-        self.running()?;
-        let answer = self.machine.write_register(dev, offset, width, value);
-        Ok(Reply::from_written(answer))
-    }
-
-    /// The host sets the size of a console, in characters. As `apply` of that event.
-    #[tactic(auto, using(crate::proofs::Living::guest_refused))]
-    pub fn resize(&mut self, dev: u8, cols: u16, rows: u16) -> Result<Reply, MigError>
-        ensures served { Serves self.old (LiveEvent.Guest (events.Resize dev cols rows)) (guest_reply result) self.new }
-        ensures calls { HasLiveCalled D.called self.old (LiveEvent.Guest (events.Resize dev cols rows)) (guest_reply result) self.new }
-    {
-        self.running()?;
-        let answer = self.machine.resize(dev, cols, rows);
-        Ok(Reply::from_done(answer))
     }
 
     /// A device does one piece of its work, which the pick names. As `apply` of that event; the bytes of a message go into the buffer,
@@ -410,26 +305,6 @@ impl<D: Disk, W: Digesting> LiveOver<D, W> {
             .step_into_logged(dev, pick, sent, &mut self.logs.first)
     }
 
-    /// Flushes the disk of a device once, if it has one, in each phase (`Machine::flush_disk`). The machine and its migration stay as they
-    /// are.
-    pub fn flush_disk(&mut self, dev: u8) -> Result<(), DiskFault>
-        ensures flushed { FlushesLiveDisk self.old dev result self.new }
-        ensures calls { CallsDisk D.called true dev self.old.machine self.new.machine }
-    {
-        self.machine.flush_disk(dev)
-    }
-
-    /// In place of a step that flushes a disk: makes it as a step whose disk failed, and calls no disk (`Machine::fail_flush`). The
-    /// result says whether the step with this pick flushes; if not, nothing has changed.
-    #[tactic(auto, using(crate::proofs::Unsynced::flush_refused))]
-    pub fn fail_flush(&mut self, dev: u8, pick: u8) -> Result<bool, MigError>
-        ensures tried { TriesFlush self.old dev pick result self.new }
-        ensures calls { CallsNone self.old.machine self.new.machine }
-    {
-        self.running()?;
-        Ok(self.machine.fail_flush(dev, pick))
-    }
-
     /// The guest writes bytes into RAM from address `addr` on. As `apply` of that event, whose bytes need not be
     /// copied.
     #[tactic(auto, using(crate::proofs::Living::guest_refused))]
@@ -441,27 +316,6 @@ impl<D: Disk, W: Digesting> LiveOver<D, W> {
         let answer = self
             .machine
             .write_ram_logged(addr, bytes, &mut self.logs.first);
-        Ok(Reply::from_done(answer))
-    }
-
-    /// The host puts bytes in. As `apply` of that event, whose bytes need not be copied.
-    #[tactic(auto, using(crate::proofs::Living::guest_refused))]
-    pub fn input(&mut self, dev: u8, bytes: &[u8]) -> Result<Reply, MigError>
-        ensures served { Serves self.old (LiveEvent.Guest (events.Input dev bytes.now)) (guest_reply result) self.new }
-        ensures calls { HasLiveCalled D.called self.old (LiveEvent.Guest (events.Input dev bytes.now)) (guest_reply result) self.new }
-    {
-        self.running()?;
-        Ok(Reply::from_accepted(self.machine.input(dev, bytes)))
-    }
-
-    /// The host drops what it has put in and the guest has not yet taken. As `apply` of that event.
-    #[tactic(auto, using(crate::proofs::Living::guest_refused))]
-    pub fn drop_input(&mut self, dev: u8) -> Result<Reply, MigError>
-        ensures served { Serves self.old (LiveEvent.Guest (events.Drop dev)) (guest_reply result) self.new }
-        ensures calls { HasLiveCalled D.called self.old (LiveEvent.Guest (events.Drop dev)) (guest_reply result) self.new }
-    {
-        self.running()?;
-        let answer = self.machine.drop_input(dev);
         Ok(Reply::from_done(answer))
     }
 
@@ -499,17 +353,6 @@ impl<D: Disk, W: Digesting> LiveOver<D, W> {
         self.due.remove(number);
         self.logs.first.set.remove(number);
         Ok(item)
-    }
-
-    /// What `copy` sends next, as `LiveParked::next_item` says it while RAM is lent.
-    pub fn next_item(&self) -> NextDue
-        ensures { IsNextDue (pages_of (now self.now)) self.now.due result }
-    {
-        match self.due.first_from(self.at) {
-            Some(number) if number < page_count(&self.machine) => NextDue::Page(number as u32),
-            Some(_) => NextDue::Sector,
-            None => NextDue::Nothing,
-        }
     }
 
     /// Sends the least due item.

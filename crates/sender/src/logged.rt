@@ -17,11 +17,12 @@ ghost use Rattle.sender.specs.Reads.{HasLiveCalled};
 use crate::event::LiveEvent;
 use crate::live::LiveOver;
 use crate::mig_error::MigError;
+use guestmem::Ram;
 use machine::{Disk, Event, PageLog, Reply, Stepped};
 use std::mem;
 use wire::Digesting;
 
-impl<D: Disk, W: Digesting> LiveOver<D, W> {
+impl<D: Disk, W: Digesting> LiveOver<D, W, Ram> {
     /// Does what `apply` does, and reports to the log each page that is written, even if its bytes stay the same.
     #[tactic(auto, using(crate::proofs::Logging::logged_refused))]
     pub fn apply_logged(

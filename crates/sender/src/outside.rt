@@ -12,10 +12,11 @@ ghost use Rattle.sender.specs.Reads.{HasLiveCalled};
 use crate::event::LiveEvent;
 use crate::live::LiveOver;
 use crate::mig_error::MigError;
+use guestmem::Ram;
 use machine::{Disk, Reply};
 use wire::Digesting;
 
-impl<D: Disk, W: Digesting> LiveOver<D, W> {
+impl<D: Disk, W: Digesting> LiveOver<D, W, Ram> {
     /// A disk outside gave these bytes, which the request that the pick names awaits (`Machine::disk_gave`). As `apply` of that event, whose bytes
     /// need not be copied.
     #[tactic(auto, using(crate::proofs::Living::guest_refused))]
@@ -28,27 +29,5 @@ impl<D: Disk, W: Digesting> LiveOver<D, W> {
             .machine
             .disk_gave_logged(dev, pick, bytes, &mut self.logs.first);
         Ok(Reply::from_moved(answer))
-    }
-
-    /// A disk outside did this many sectors of a write or of a clearing, or a flush, which is one (`Machine::disk_did`). As `apply` of that event.
-    #[tactic(auto, using(crate::proofs::Living::guest_refused))]
-    pub fn disk_did(&mut self, dev: u8, pick: u8, count: u32) -> Result<Reply, MigError>
-        ensures served { Serves self.old (LiveEvent.Guest (events.Disk dev pick (answers.Did count))) (guest_reply result) self.new }
-        ensures calls { HasLiveCalled D.called self.old (LiveEvent.Guest (events.Disk dev pick (answers.Did count))) (guest_reply result) self.new }
-    {
-        self.running()?;
-        let answer = self.machine.disk_did(dev, pick, count);
-        Ok(Reply::from_moved(answer))
-    }
-
-    /// A disk outside failed: the request that the pick names ends with an error (`Machine::disk_failed`). As `apply` of that event.
-    #[tactic(auto, using(crate::proofs::Living::guest_refused))]
-    pub fn disk_failed(&mut self, dev: u8, pick: u8) -> Result<Reply, MigError>
-        ensures served { Serves self.old (LiveEvent.Guest (events.Disk dev pick answers.Failed)) (guest_reply result) self.new }
-        ensures calls { HasLiveCalled D.called self.old (LiveEvent.Guest (events.Disk dev pick answers.Failed)) (guest_reply result) self.new }
-    {
-        self.running()?;
-        let answer = self.machine.disk_failed(dev, pick);
-        Ok(Reply::from_failed(answer))
     }
 }

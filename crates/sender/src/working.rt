@@ -7,10 +7,11 @@ ghost use Rattle.sender.specs.Turns.{MakesLiveStep, TakesLiveTurn, live_devices}
 use crate::live::LiveOver;
 use crate::mig_error::MigError;
 use crate::phase::Phase;
+use guestmem::Ram;
 use machine::{Disk, Kind, Stepped, SyncOwed, Turn, TurnEnd, goes_on};
 use wire::Digesting;
 
-impl<D: Disk, W: Digesting> LiveOver<D, W> {
+impl<D: Disk, W: Digesting> LiveOver<D, W, Ram> {
     /// The devices' turn, as `Machine::work` makes it. What its steps write becomes dirty. It is refused once the machine is stopped.
     #[tactic(auto, using(crate::proofs::DeviceTurns::ended_running))]
     pub fn work(&mut self, turn: &mut Turn, sent: &mut Vec<u8>) -> Result<TurnEnd, MigError>

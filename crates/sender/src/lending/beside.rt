@@ -16,14 +16,14 @@ ghost use Rattle.machine.specs.Stepped.{reply_in};
 ghost use Rattle.machine.specs.Writing.{StepStores};
 ghost use Rattle.sender.specs.Beside.{IsLiveMadeOver, TriesOver, live_ended};
 
-use crate::lending::LiveParked;
+use crate::live::{LiveOver, LiveParked};
 use crate::mig_error::MigError;
-use guestmem::NoMemory;
+use guestmem::{NoMemory, ParkedRam};
 use machine::{Asking, Disk, Piece, Stepped, Stores};
 use region::Region;
 use wire::Digesting;
 
-impl<D: Disk, W: Digesting> LiveParked<D, W> {
+impl<D: Disk, W: Digesting> LiveOver<D, W, ParkedRam> {
     /// The first piece of RAM that the step of this pick lacks, where these pieces are held (`Parked::lacks`). No phase refuses it.
     pub fn lacks(
         self,
@@ -32,14 +32,14 @@ impl<D: Disk, W: Digesting> LiveParked<D, W> {
         pick: u8,
         held: &[Piece],
     ) -> (Result<Option<Piece>, NoMemory>, Region, LiveParked<D, W>)
-        requires size { length window.content ≡ PAGE_SIZE * length self.parked.memory }
-        ensures lacking { IfOk result.0 (LacksOr (length window.content) held.now (KnowsReads held.now (state_of (back_with self.parked (window_memory self.parked window))) dev pick)) }
+        requires size { length window.content ≡ PAGE_SIZE * length self.machine.memory }
+        ensures lacking { IfOk result.0 (LacksOr (length window.content) held.now (KnowsReads held.now (state_of (back_with self.machine (window_memory self.machine window))) dev pick)) }
         ensures content { result.1.content ≡ window.content }
         ensures place { address result.1 ≡ address window }
         ensures machine { result.2 ≡ self }
     {
-        let (lacking, window, parked) = self.parked.lacks(window, dev, pick, held);
-        let same = LiveParked { parked, ..self };
+        let (lacking, window, machine) = self.machine.lacks(window, dev, pick, held);
+        let same = LiveOver { machine, ..self };
         (lacking, window, same)
     }
 
@@ -51,14 +51,14 @@ impl<D: Disk, W: Digesting> LiveParked<D, W> {
         dev: u8,
         pick: u8,
     ) -> (Result<Option<Asking>, NoMemory>, Region, LiveParked<D, W>)
-        requires size { length window.content ≡ PAGE_SIZE * length self.parked.memory }
-        ensures asking { IfOk result.0 (λ asking. StepAsks (state_of (back_with self.parked (window_memory self.parked window))) dev pick asking) }
+        requires size { length window.content ≡ PAGE_SIZE * length self.machine.memory }
+        ensures asking { IfOk result.0 (λ asking. StepAsks (state_of (back_with self.machine (window_memory self.machine window))) dev pick asking) }
         ensures content { result.1.content ≡ window.content }
         ensures place { address result.1 ≡ address window }
         ensures machine { result.2 ≡ self }
     {
-        let (asking, window, parked) = self.parked.asking(window, dev, pick);
-        let same = LiveParked { parked, ..self };
+        let (asking, window, machine) = self.machine.asking(window, dev, pick);
+        let same = LiveOver { machine, ..self };
         (asking, window, same)
     }
 
@@ -69,14 +69,14 @@ impl<D: Disk, W: Digesting> LiveParked<D, W> {
         dev: u8,
         pick: u8,
     ) -> (Result<Stores, NoMemory>, Region, LiveParked<D, W>)
-        requires size { length window.content ≡ PAGE_SIZE * length self.parked.memory }
-        ensures storing { IfOk result.0 (λ stores. StepStores (state_of (back_with self.parked (window_memory self.parked window))) dev pick stores) }
+        requires size { length window.content ≡ PAGE_SIZE * length self.machine.memory }
+        ensures storing { IfOk result.0 (λ stores. StepStores (state_of (back_with self.machine (window_memory self.machine window))) dev pick stores) }
         ensures content { result.1.content ≡ window.content }
         ensures place { address result.1 ≡ address window }
         ensures machine { result.2 ≡ self }
     {
-        let (storing, window, parked) = self.parked.storing(window, dev, pick);
-        let same = LiveParked { parked, ..self };
+        let (storing, window, machine) = self.machine.storing(window, dev, pick);
+        let same = LiveOver { machine, ..self };
         (storing, window, same)
     }
 
@@ -90,7 +90,7 @@ impl<D: Disk, W: Digesting> LiveParked<D, W> {
         pick: u8,
         sent: &mut Vec<u8>,
     ) -> (Result<Stepped, MigError>, Region, LiveParked<D, W>)
-        requires size { length window.content ≡ PAGE_SIZE * length self.parked.memory }
+        requires size { length window.content ≡ PAGE_SIZE * length self.machine.memory }
         ensures { TriesOver self window dev pick result.0 sent.new.items result.1 result.2 }
     {
         if let Err(error) = self.running() {
@@ -108,14 +108,14 @@ impl<D: Disk, W: Digesting> LiveParked<D, W> {
         pick: u8,
         sent: &mut Vec<u8>,
     ) -> (Stepped, Region, LiveParked<D, W>)
-        requires size { length window.content ≡ PAGE_SIZE * length self.parked.memory }
+        requires size { length window.content ≡ PAGE_SIZE * length self.machine.memory }
         ensures { IsLiveMadeOver self window dev pick (reply_in result.0 sent.new.items) result.1 result.2 }
     {
-        let mut dirty = self.dirty;
-        let (stepped, window, parked) = self.parked.step_over(window, dev, pick, sent, &mut dirty);
-        let next = LiveParked {
-            parked,
-            dirty,
+        let mut logs = self.logs;
+        let (stepped, window, machine) = self.machine.step_over(window, dev, pick, sent, &mut logs.first);
+        let next = LiveOver {
+            machine,
+            logs,
             ..self
         };
         (stepped, window, next)
@@ -126,6 +126,6 @@ impl<D: Disk, W: Digesting> LiveParked<D, W> {
     pub fn end(&mut self, dev: u8, is_due: bool)
         ensures { self.new ≡ live_ended is_due dev self.old }
     {
-        self.parked.end(dev, is_due);
+        self.machine.end(dev, is_due);
     }
 }

@@ -12,13 +12,14 @@ ghost use Rattle.sender.specs.Held.{IfMade, IfNotMade};
 ghost use Rattle.sender.specs.LiveState.{refusal_for};
 ghost use Rattle.sender.specs.declared.event.LiveEvent.TheVariants.{Guest};
 
-use crate::lending::LiveParked;
+use crate::live::{LiveOver, LiveParked};
 use crate::mig_error::MigError;
+use guestmem::ParkedRam;
 use machine::{Disk, NotMade, Pieces, Serials, Stepped};
 use region::Region;
 use wire::Digesting;
 
-impl<D: Disk, W: Digesting> LiveParked<D, W> {
+impl<D: Disk, W: Digesting> LiveOver<D, W, ParkedRam> {
     /// Makes the step of these pieces over a window, as `Parked::step_held` does, and its device is touched. Exactly the items that the step
     /// writes into become dirty. After a stop that closed the stream it is refused. Where it is not made nothing has changed.
     #[tactic(auto, using(crate::proofs::HeldOver::phase_closed, crate::proofs::HeldOver::phase_open))]
@@ -33,10 +34,10 @@ impl<D: Disk, W: Digesting> LiveParked<D, W> {
         Region,
         LiveParked<D, W>,
     )
-        requires size { length window.content ≡ PAGE_SIZE * length self.parked.memory }
+        requires size { length window.content ≡ PAGE_SIZE * length self.machine.memory }
         ensures runs { IfOk result.0 (λ _. refusal_for self.phase (Guest (events.Step pieces.now.work.dev pieces.now.work.pick)) ≡ None) }
         ensures refused { IfErr result.0 (λ x. refusal_for self.phase (Guest (events.Step pieces.now.work.dev pieces.now.work.pick)) ≡ Some x) }
-        ensures may_make { IfMade result.0 (λ _. MayMake self.parked window serials.old pieces.now) }
+        ensures may_make { IfMade result.0 (λ _. MayMake self.machine window serials.old pieces.now) }
         ensures made { IfMade result.0 (λ stepped. IsLiveMadeOver self window pieces.now.work.dev pieces.now.work.pick (reply_in stepped sent.new.items) result.1 result.2) }
         ensures touched { IfMade result.0 (λ _. serials.new ≡ touched serials.old pieces.now.work.dev) }
         ensures why_not { IfOk result.0 (λ tried. IfErr tried (λ why. IsWhyNot (length window.content) serials.old pieces.now why)) }
@@ -61,8 +62,8 @@ impl<D: Disk, W: Digesting> LiveParked<D, W> {
         serials: &mut Serials,
         sent: &mut Vec<u8>,
     ) -> (Result<Stepped, NotMade>, Region, LiveParked<D, W>)
-        requires size { length window.content ≡ PAGE_SIZE * length self.parked.memory }
-        ensures may_make { IfOk result.0 (λ _. MayMake self.parked window serials.old pieces.now) }
+        requires size { length window.content ≡ PAGE_SIZE * length self.machine.memory }
+        ensures may_make { IfOk result.0 (λ _. MayMake self.machine window serials.old pieces.now) }
         ensures made { IfOk result.0 (λ stepped. IsLiveMadeOver self window pieces.now.work.dev pieces.now.work.pick (reply_in stepped sent.new.items) result.1 result.2) }
         ensures touched { IfOk result.0 (λ _. serials.new ≡ touched serials.old pieces.now.work.dev) }
         ensures why_not { IfErr result.0 (λ why. IsWhyNot (length window.content) serials.old pieces.now why) }
@@ -72,13 +73,13 @@ impl<D: Disk, W: Digesting> LiveParked<D, W> {
         ensures serials { IfErr result.0 (λ _. serials.new ≡ serials.old) }
         ensures sent { IfErr result.0 (λ _. sent.new ≡ sent.old) }
     {
-        let mut dirty = self.dirty;
-        let (tried, window, parked) = self
-            .parked
-            .step_held(window, pieces, serials, sent, &mut dirty);
-        let next = LiveParked {
-            parked,
-            dirty,
+        let mut logs = self.logs;
+        let (tried, window, machine) = self
+            .machine
+            .step_held(window, pieces, serials, sent, &mut logs.first);
+        let next = LiveOver {
+            machine,
+            logs,
             ..self
         };
         (tried, window, next)

@@ -5,35 +5,20 @@ ghost use Rattle.guestmem.specs.Item as items;
 ghost use Rattle.machine.specs.Layout.{item_at, size_of};
 ghost use Rattle.machine.specs.Parked.{WhateverRam, back_with};
 ghost use Rattle.sender.specs.Parked.{parked_layout};
-ghost use Rattle.sender.specs.SectorsLent.{CopiesSector, HasSectorCalled, IsNextDue, SendsLent};
+ghost use Rattle.sender.specs.SectorsLent.{CopiesSector, HasSectorCalled, SendsLent};
 ghost use Rattle.sender.specs.Reads.{ReadsItem};
 
-use crate::event::{Item, NextDue, SectorAnswer};
-use crate::lending::LiveParked;
+use crate::event::{Item, SectorAnswer};
 use crate::lending::calls::copy_refusal;
-use crate::live::phase_after;
+use crate::live::{LiveOver, phase_after};
 use crate::mig_error::MigError;
 use crate::numbering::lent_item_at;
 use crate::saving::write_read;
+use guestmem::ParkedRam;
 use machine::{Disk, SECTOR_SIZE};
 use wire::Digesting;
 
-impl<D: Disk, W: Digesting> LiveParked<D, W> {
-    /// What is sent next: a page by `copy_page`, a sector by `copy_sector`.
-    pub fn next_item(&self) -> NextDue
-        ensures { IsNextDue (length self.now.parked.memory) self.now.due result }
-    {
-        self.parked.recall();
-        let Some(number) = self.due.first_from(self.at) else {
-            return NextDue::Nothing;
-        };
-        if number < self.parked.pages() as u64 {
-            NextDue::Page(number as u32)
-        } else {
-            NextDue::Sector
-        }
-    }
-
+impl<D: Disk, W: Digesting> LiveOver<D, W, ParkedRam> {
     /// Sends the least due item where it is a sector, as `LiveOver::copy` does. Where it is a page, or none is due, nothing has changed, and
     /// the answer says so. `DiskFailed` leaves the sector due.
     #[tactic(auto, using(crate::proofs::SectorsLent::least_below, crate::proofs::SectorsLent::copy_refused, crate::proofs::SectorsLent::refused_called, crate::proofs::SectorsLent::none_due, crate::proofs::SectorsLent::page_due, crate::proofs::SectorsLent::sector_copied, crate::proofs::SectorsLent::sector_failed, crate::proofs::SectorsLent::sector_called, crate::proofs::SectorsLent::failed_called))]
@@ -47,7 +32,7 @@ impl<D: Disk, W: Digesting> LiveParked<D, W> {
         let Some(number) = self.due.first_from(self.at) else {
             return Ok(SectorAnswer::RoundDone);
         };
-        match lent_item_at(&self.parked, number) {
+        match lent_item_at(&self.machine, number) {
             Item::Page(page) => Ok(SectorAnswer::PageDue(page)),
             Item::Sector { dev, sector } => {
                 self.send_sector(number, dev, sector)?;
@@ -59,20 +44,20 @@ impl<D: Disk, W: Digesting> LiveParked<D, W> {
 
     /// Sends the sector with this number.
     fn send_sector(&mut self, number: u64, dev: u8, sector: u32) -> Result<(), MigError>
-        requires below { number < size_of (parked_layout self.old.parked) }
-        requires item { items.sector dev sector ≡ item_at (parked_layout self.old.parked) number }
+        requires below { number < size_of (parked_layout self.old.machine) }
+        requires item { items.sector dev sector ≡ item_at (parked_layout self.old.machine) number }
         ensures sent { SendsLent self.old number dev sector result self.new }
         ensures due { OnOk result (self.new.due ≡ slice_set self.old.due number false) }
-        ensures calls { WhateverRam self.old.parked (λ m. ReadsItem D.called (back_with self.old.parked m) (items.sector dev sector) (back_with self.new.parked m)) }
+        ensures calls { WhateverRam self.old.machine (λ m. ReadsItem D.called (back_with self.old.machine m) (items.sector dev sector) (back_with self.new.machine m)) }
     {
         let mut bytes = [0; SECTOR_SIZE];
-        let read = self.parked.read_sector(dev, sector as u64, &mut bytes);
+        let read = self.machine.read_sector(dev, sector as u64, &mut bytes);
         if let Err(error) = write_read(dev, sector, read, &bytes, &mut self.writer) {
             self.phase = phase_after(self.phase, error);
             return Err(error);
         }
         self.due.remove(number);
-        self.dirty.set.remove(number);
+        self.logs.first.set.remove(number);
         Ok(())
     }
 }

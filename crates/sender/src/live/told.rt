@@ -11,11 +11,12 @@ ghost use Rattle.sender.specs.LiveState.{HasPlaces};
 
 use crate::live::{LiveOver, LiveTold, make_room};
 use crate::phase::Phase;
-use machine::{Disk, Machine};
+use guestmem::Ram;
+use machine::{Disk, GuestRam, Machine};
 use std::alloc::{AllocError, Global};
 use wire::Told;
 
-impl<D: Disk> LiveOver<D, Told> {
+impl<D: Disk> LiveOver<D, Told, Ram> {
     /// A machine of which nothing is sent yet. Fails only if memory is refused.
     pub fn new(alloc: Global, machine: Machine<D>) -> Result<LiveTold<D>, (AllocError, Machine<D>)>
         ensures machine { IfOk result (λ l. l.machine ≡ machine) }
@@ -39,7 +40,9 @@ impl<D: Disk> LiveOver<D, Told> {
     {
         self.parts()
     }
+}
 
+impl<D: Disk, M: GuestRam> LiveOver<D, Told, M> {
     /// Whether the digest is to be told: the stream was closed, and the record that closes it cannot be taken yet.
     pub fn owes(&self) -> bool
         ensures { result ≡ is_owed self.now.digest }

@@ -1,30 +1,16 @@
 use Rattle.std.proofs.Common.{arith}
-use Rattle.machine.specs.Seen.{state_of}
-use Rattle.sender.proofs.StopLengths.{few_items, pages_inside, rest_few}
+use Rattle.sender.proofs.StopLengths.{rest_few}
 use Rattle.sender.proofs.live.LiveOver.left.Goals as goal
 
 pub left_of-requires-clause-due : goal.left_of-requires-clause-due
-left_of-requires-clause-due g c =
-    let places = rw (← c.self.view_is) at c.recall.ensures in
-    omega (arith, c.page_count.ensures.count, pages_inside (state_of c.self.inside.machine), places.due_size)
+left_of-requires-clause-due g c = rw (← c.self.view_is) at c.page_count-pages.ensures.inside.0
 
 pub left_of-requires-clause-dirty : goal.left_of-requires-clause-dirty
-left_of-requires-clause-dirty g c =
-    let places = rw (← c.self.view_is) at c.recall.ensures in
-    omega (arith, c.page_count.ensures.count, pages_inside (state_of c.self.inside.machine), places.dirty_size)
+left_of-requires-clause-dirty g c = rw (← c.self.view_is) at c.page_count-pages.ensures.inside.1
 
 pub returns-clause-few_sectors : goal.returns-clause-few_sectors
 returns-clause-few_sectors g c =
     let i = c.self.inside in
-    let pages = c.page_count.result in
-    let places = rw (← c.self.view_is) at c.recall.ensures in
-    omega (
-      arith,
-      c.left_of.ensures.due_sectors,
-      c.left_of.ensures.dirty_sectors,
-      rest_few i.due pages,
-      rest_few i.logs.first.set pages,
-      places.due_size,
-      places.dirty_size,
-      few_items (state_of i.machine) places.sound,
-    )
+    let pages = c.page_count-pages.result in
+    let few = rw (← c.self.view_is) at c.page_count-pages.ensures.few_items in
+    omega (arith, c.left_of.ensures.due_sectors, c.left_of.ensures.dirty_sectors, rest_few i.due pages, rest_few i.logs.first.set pages, few.0, few.1)

@@ -1,33 +1,26 @@
-use Rattle.std.proofs.Common.{◌≡◌, length, arith}
+use Rattle.std.proofs.Common.{◌≡◌, length, map, refl, ap, ◌∙◌, arith}
+use Rattle.std.proofs.lemmas.List.{length-map}
+use Rattle.machine.specs.Seen.{DeviceSeen}
+use Rattle.machine.specs.Shapes.{made_as}
 use Rattle.wire.specs.Stream.{device_texts}
-use Rattle.sender.specs.LiveState.{now}
-use Rattle.sender.proofs.ParkedItems.{few_devices, sound_devices}
-use Rattle.sender.proofs.StopLengths.{stop_short}
+use Rattle.sender.proofs.LiveOver.{stops_within}
 use Rattle.sender.proofs.live.LiveOver.most_by_stop.Goals as goal
 
 pub devices_len-requires-clause-few : goal.devices_len-requires-clause-few
 devices_len-requires-clause-few g c =
-    let places = rw (← c.self.view_is) at c.recall.ensures in
-    rw c.devices.ensures (few_devices c.self.inside.machine places.sound)
+    let long = ap length c.shapes-shapes.ensures.made ∙ length-map c.self.inside.machine.devices (λ (d : DeviceSeen). made_as d.state.kind) in
+    rw c.devices.ensures (omega (arith, long, c.shapes-shapes.ensures.few))
 
 pub devices_len-requires-clause-sound : goal.devices_len-requires-clause-sound
-devices_len-requires-clause-sound g c =
-    let places = rw (← c.self.view_is) at c.recall.ensures in
-    rw c.devices.ensures (sound_devices c.self.inside.machine places.sound)
+devices_len-requires-clause-sound g c = rw c.devices.ensures c.shapes-shapes.ensures.devices
 
 pub returns : goal.returns
 returns g c =
-    let items = c.left-items.ensures in
-    let devices = rw c.devices.ensures at c.devices_len.ensures.len in
-    let states : c.devices_len.result ≡ length (device_texts 0 (now c.args.self.now).devices) = rw (← c.self.view_is) devices in (
-      λ pages sectors b next honest covers stops. omega (
-        arith,
-        c.most_bytes.ensures,
-        stop_short c.args.self.now next pages sectors b c.devices_len.result c.recall.ensures states honest covers stops,
-        items.due_pages,
-        items.dirty_pages,
-        items.due_sectors,
-        items.dirty_sectors,
-      ),
+    let i = c.self.inside in
+    let items = rw (← c.self.view_is) at c.left-items.ensures in
+    let states : c.devices_len.result ≡ length (device_texts 0 (map (λ (d : DeviceSeen). d.state) i.machine.devices)) = rw c.devices.ensures at c.devices_len.ensures.len in
+    rw (← c.self.view_is) (
+      stops_within (g.M.GuestRam.known i.machine.memory) i.machine.devices i.phase i.due i.logs.first.set i.logs.first.firsts.items i.at c.self.invariant c.shapes-shapes.ensures.sound (g.W.Sink.sum i.writer) (g.W.Sink.state i.writer) c.devices_len.result c.most_bytes.result states
+      (omega (arith, c.most_bytes.ensures, items.due_pages, items.dirty_pages, items.due_sectors, items.dirty_sectors)),
       omega (arith, c.most_bytes.ensures, states, items.due_pages, items.dirty_pages, items.due_sectors, items.dirty_sectors),
     )

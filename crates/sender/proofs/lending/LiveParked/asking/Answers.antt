@@ -1,4 +1,0 @@
-use Rattle.sender.proofs.lending.LiveParked.asking.Goals as goal
-
-pub returns-clause-asking : goal.returns-clause-asking
-returns-clause-asking g c = rw (← c.self.view_is) c.asking-asking.ensures.asking

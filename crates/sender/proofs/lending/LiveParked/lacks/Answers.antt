@@ -1,4 +1,0 @@
-use Rattle.sender.proofs.lending.LiveParked.lacks.Goals as goal
-
-pub returns-clause-lacking : goal.returns-clause-lacking
-returns-clause-lacking g c = rw (← c.self.view_is) c.lacks-lacking.ensures.lacking
