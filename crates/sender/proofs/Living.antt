@@ -7,6 +7,7 @@ use Rattle.guestmem.specs.Item.{Item, after_all, page, sector}
 use Rattle.machine.specs.Applied.{IsApplied, IsAppliedLogged, MayItems}
 use Rattle.machine.specs.Effect.{items_of}
 use Rattle.machine.specs.Layout.{IsItemIn, Layout, firsts_of, layout_of, number_in, number_of, pages_of, size_of}
+use Rattle.machine.specs.Parked.{IsAppliedQuietly}
 use Rattle.machine.specs.Seen.{Seen, state_of}
 use Rattle.machine.specs.Sound.{IsSound}
 use Rattle.machine.specs.State.{MachineState}
@@ -186,11 +187,13 @@ live_quiet machine next d phase due at e reply live h quiet = live_guest machine
 
 pub quiet_served : (machine next : Seen) (phase : Phase) (due dirty : List Bool) (digest : Digested) (out : SinkState) (e : Event) (reply : Reply) → IsApplied machine e reply next → IsQuiet e → phase ≢ phases.Stopped
     → Serves (record { machine = machine; phase = phase; due = due; dirty = dirty; digest = digest; out = out }) (Guest e) (r.Guest reply) (record { machine = next; phase = phase; due = due; dirty = dirty; digest = digest; out = out })
-quiet_served machine next phase due dirty digest out e reply h quiet open_still = rw (guest_free phase e open_still) (record {
-  is_applied = h;
-  dirty = rw (untouched machine next e reply quiet h).untouched refl;
-  rest = refl;
-})
+quiet_served machine next phase due dirty digest out e reply h quiet open_still =
+    let quietly : IsAppliedQuietly machine e reply next = untouched machine next e reply quiet h in
+    rw (guest_free phase e open_still) (record {
+      is_applied = quietly.applied;
+      dirty = rw quietly.untouched refl;
+      rest = refl;
+    })
 
 -- The end of a round.
 no_members : (s : List Bool) (n : ℕ) → length s ≡ n → HasNone s → s ≡ replicate n false

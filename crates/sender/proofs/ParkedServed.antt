@@ -18,7 +18,7 @@ use Rattle.machine.proofs.Numbering.{same_layout}
 use Rattle.machine.proofs.ParkedCalls.{parked_flush_fails, parked_is_applied, parked_is_flushed, untouched}
 use Rattle.machine.proofs.Quiet.{IsQuiet}
 use Rattle.sender.specs.Calls.{Serves, guest_reply}
-use Rattle.sender.specs.LiveOver.{FlushesLiveOver, LeavesRest, SaysWhether, ServesOver, TriesFlushOver}
+use Rattle.sender.specs.HereOrLent.{FlushesLiveOver, LeavesRest, SaysWhether, ServesOver, TriesFlushOver}
 use Rattle.sender.specs.LiveState.{HasPlaces, LiveSeen, live_with, now, refusal_for}
 use Rattle.sender.specs.Parked.{IsLiveParked, LiveParkedSeen, parked_layout}
 use Rattle.sender.specs.ParkedCalls.{AfterParked, FlushesLiveParked, GuestsParked, IsDoneLiveLent, IsServedUncalled, LiveParkedFlushFails, LiveParkedIsFlushed, LiveParkedIsServed, ServesParked, TriesParkedFlush}

@@ -26,4 +26,4 @@ pub mod Beside
 pub mod HandedIn
 pub mod SectorsLent
 pub mod Held
-pub mod LiveOver
+pub mod HereOrLent

@@ -34,25 +34,26 @@
 //!   (`specs/Logged`): it takes in exactly the pages that become dirty. They take no memory for it.
 //! - `disk_gave`, `disk_did` and `disk_failed` hand in the answer of a disk that is outside of the machine, as events of the guest. What is asked of
 //!   such disks is asked of the machine (`Machine::disk_call`, `written_bytes`, `drops_requests`; while its RAM is lent `Parked::drops_requests`), and
-//!   for the calls that are out (crate `disk_calls`) a `LiveOver` and a `LiveParked` ask for what their machine does. No sector of such a disk is
+//!   for the calls that are out (crate `disk_calls`) a `LiveOver` asks for what its machine does. No sector of such a disk is
 //!   sent. A request that waits is sent with its device, by the stop, so no stop is made while a call is out.
 //! - `fail_flush` makes a step that flushes a disk as one whose disk failed, and calls no disk (`specs/Unsynced`). The history
 //!   continues with that step, and nothing becomes dirty: the stop sends the devices whole.
 //! - `flush_disk` is one flush of the disk of a device, in each phase: the machine stays equal, and the history as it was
 //!   (`laws::flush_keeps_the_history`).
-//! - `LiveOver` is `Live` over any writer that closes a stream by a digest. `Live` itself is over any sink, and digests what it writes at once. Over
-//!   `Waiting` it is `LiveWaiting`: `take`, also that of `LiveParked`, gives written bytes between two calls and digests them then, so
+//! - `LiveOver` is `Live` over any writer that closes a stream by a digest, and over RAM that is here or lent. `Live` itself is over any sink, and digests
+//!   what it writes at once. Over `Waiting` it is `LiveWaiting`: `take` gives written bytes between two calls and digests them then, so
 //!   a copy digests nothing, and a stop what was not taken.
 //! - Over `Told` it is `LiveTold`, which digests nothing: whoever takes the bytes does, on a thread of its own say. As a writer it holds the
 //!   record that closes the stream from the stop on; `take` gives all but that record until `tell` was called with its digest (`owes`).
 //! - `remaining` counts both sets in constant time; `left` counts pages and sectors apart, and `most_by_stop` is the most bytes that a stop would write; `machine` lends the machine to be read; `into_parts` and `abort`
 //!   return it.
 //! - `lend` gives the RAM of a machine over memory of the caller to the caller, whose guest may write there, and keeps all else as a
-//!   `LiveParked` (`specs/Parked`). `LiveParked::give_back` takes the region back with the pages that were written: they are dirty. Where the
+//!   `LiveParked` (`specs/Parked`), a `LiveOver` too. `LiveParked::give_back` takes the region back with the pages that were written: they are dirty. Where the
 //!   caller wrote into no other page, that is served as the guest's writes of these pages are, and the history goes on by them.
 //! - What needs no byte of RAM can be done meanwhile (`specs/ParkedCalls`), in each phase in which the guest runs, after a failed writing
 //!   too: register accesses, input, a size of a console, flushes of disks, and answers of disks outside that touch no RAM (`disk_did`,
-//!   `disk_failed`); `remaining`, `left` and `most_by_stop` count, and bytes are taken. Each is that call of the machine as it was lent
+//!   `disk_failed`); `remaining`, `left` and `most_by_stop` count, and bytes are taken. Each is written once, and says what it does whatever RAM
+//!   holds (`specs/HereOrLent`). It is that call of the machine as it was lent
 //!   (`laws::live_parked_is_served` and the two after it), and makes nothing dirty. So the history goes on by these events, and then by the
 //!   writes of the pages that are named (`laws::lent_follows_the_history`). Begin, stop, abort, RAM accesses and
 //!   bytes that a disk outside gave want the RAM back; so does a step, unless it is made over a window.

@@ -1,7 +1,7 @@
 //! A machine that is migrated while it runs.
 //!
-//! `remaining`, `machine`, `into_parts` and `serve` stand beside the calls of a migration: a host chooses when to stop, reads
-//! the lines of a machine that is migrated, wants its writer back, and may have its events as a list.
+//! `into_parts` and `serve` stand beside the calls of a migration: a host wants its writer back, and may have its events as a list. What needs no
+//! byte of RAM is in `calls`.
 //!
 //! A stop goes over its two sets side by side, and searches each on only from the member that it has just sent: a search of
 //! both from each item on would go over the rest of a set that has one late member for each item of the other.
@@ -75,7 +75,7 @@ impl<D: Disk, W: Digesting, M: GuestRam> Model for LiveOver<D, W, M> {
 
     ghost Value = { LiveSeenOver M };
 
-    ghost use Rattle.sender.specs.LiveOver.{IsLiveOver};
+    ghost use Rattle.sender.specs.HereOrLent.{IsLiveOver};
 
     ghost view = { λ l. record { machine = l.machine; phase = l.phase; due = l.due; dirty = l.logs.first.set; digest = W.sum l.writer; out = W.state l.writer } };
 

@@ -1,4 +1,5 @@
-//! The calls that need no byte of RAM, of a machine that is being migrated, its RAM here or lent.
+//! The calls that need no byte of RAM, of a machine that is being migrated, its RAM here or lent. `remaining`, `left`, `most_by_stop` and `machine` stand
+//! beside them: a host chooses when to stop, and reads the lines of a machine that is migrated.
 //!
 //! Nothing that they do is to be sent but with the devices, by the stop. So they make no item dirty, and a migration that failed to write
 //! still answers them.
@@ -11,7 +12,7 @@ ghost use Rattle.machine.specs.declared.event.DiskAnswer.TheVariants as answers;
 ghost use Rattle.machine.specs.declared.event.Event.TheVariants as events;
 ghost use Rattle.wire.specs.Sinks.{Takes, over_writer};
 ghost use Rattle.sender.specs.Calls.{guest_reply};
-ghost use Rattle.sender.specs.LiveOver.{FlushesLiveOver, GuestCallsOver, IsStopBytesOver, LeavesRest, SaysWhether, ServesOver, TriesFlushOver, pages_in};
+ghost use Rattle.sender.specs.HereOrLent.{FlushesLiveOver, GuestCallsOver, IsStopBytesOver, LeavesRest, SaysWhether, ServesOver, TriesFlushOver, pages_in};
 ghost use Rattle.sender.specs.LiveState.{live_with};
 ghost use Rattle.sender.specs.SectorsLent.{IsNextDue};
 ghost use Rattle.sender.specs.Unsynced.{FlushesLiveDisk};
@@ -110,7 +111,7 @@ impl<D: Disk, W: Digesting, M: GuestRam> LiveOver<D, W, M> {
     }
 
     /// The driver reads a register. As `apply` of that event.
-    #[tactic(auto, using(crate::proofs::LiveOver::refused_over, crate::proofs::LiveOver::refused_calls, crate::proofs::LiveOver::refused_leaves))]
+    #[tactic(auto, using(crate::proofs::HereOrLent::refused_over, crate::proofs::HereOrLent::refused_calls, crate::proofs::HereOrLent::refused_leaves))]
     pub fn read_register(&self, dev: u8, offset: u32, width: u8) -> Result<Reply, MigError>
         ensures served { ServesOver M.known self.now (events.RegRead dev offset width) (guest_reply result) self.now }
         ensures calls { GuestCallsOver M.known D.called self.now (events.RegRead dev offset width) (guest_reply result) self.now }
@@ -122,7 +123,7 @@ impl<D: Disk, W: Digesting, M: GuestRam> LiveOver<D, W, M> {
     }
 
     /// The driver writes a register. As `apply` of that event.
-    #[tactic(auto, using(crate::proofs::LiveOver::refused_over, crate::proofs::LiveOver::refused_calls, crate::proofs::LiveOver::refused_leaves))]
+    #[tactic(auto, using(crate::proofs::HereOrLent::refused_over, crate::proofs::HereOrLent::refused_calls, crate::proofs::HereOrLent::refused_leaves))]
     pub fn write_register(
         &mut self,
         dev: u8,
@@ -140,7 +141,7 @@ impl<D: Disk, W: Digesting, M: GuestRam> LiveOver<D, W, M> {
     }
 
     /// The host sets the size of a console, in characters. As `apply` of that event.
-    #[tactic(auto, using(crate::proofs::LiveOver::refused_over, crate::proofs::LiveOver::refused_calls, crate::proofs::LiveOver::refused_leaves))]
+    #[tactic(auto, using(crate::proofs::HereOrLent::refused_over, crate::proofs::HereOrLent::refused_calls, crate::proofs::HereOrLent::refused_leaves))]
     pub fn resize(&mut self, dev: u8, cols: u16, rows: u16) -> Result<Reply, MigError>
         ensures served { ServesOver M.known self.old (events.Resize dev cols rows) (guest_reply result) self.new }
         ensures calls { GuestCallsOver M.known D.called self.old (events.Resize dev cols rows) (guest_reply result) self.new }
@@ -152,7 +153,7 @@ impl<D: Disk, W: Digesting, M: GuestRam> LiveOver<D, W, M> {
     }
 
     /// The host puts bytes in. As `apply` of that event, whose bytes need not be copied.
-    #[tactic(auto, using(crate::proofs::LiveOver::refused_over, crate::proofs::LiveOver::refused_calls, crate::proofs::LiveOver::refused_leaves))]
+    #[tactic(auto, using(crate::proofs::HereOrLent::refused_over, crate::proofs::HereOrLent::refused_calls, crate::proofs::HereOrLent::refused_leaves))]
     pub fn input(&mut self, dev: u8, bytes: &[u8]) -> Result<Reply, MigError>
         ensures served { ServesOver M.known self.old (events.Input dev bytes.now) (guest_reply result) self.new }
         ensures calls { GuestCallsOver M.known D.called self.old (events.Input dev bytes.now) (guest_reply result) self.new }
@@ -164,7 +165,7 @@ impl<D: Disk, W: Digesting, M: GuestRam> LiveOver<D, W, M> {
     }
 
     /// The host drops what it has put in and the guest has not yet taken. As `apply` of that event.
-    #[tactic(auto, using(crate::proofs::LiveOver::refused_over, crate::proofs::LiveOver::refused_calls, crate::proofs::LiveOver::refused_leaves))]
+    #[tactic(auto, using(crate::proofs::HereOrLent::refused_over, crate::proofs::HereOrLent::refused_calls, crate::proofs::HereOrLent::refused_leaves))]
     pub fn drop_input(&mut self, dev: u8) -> Result<Reply, MigError>
         ensures served { ServesOver M.known self.old (events.Drop dev) (guest_reply result) self.new }
         ensures calls { GuestCallsOver M.known D.called self.old (events.Drop dev) (guest_reply result) self.new }
@@ -176,7 +177,7 @@ impl<D: Disk, W: Digesting, M: GuestRam> LiveOver<D, W, M> {
     }
 
     /// A disk outside did this many sectors of a write or of a clearing, or a flush, which is one (`Machine::disk_did`). As `apply` of that event.
-    #[tactic(auto, using(crate::proofs::LiveOver::refused_over, crate::proofs::LiveOver::refused_calls, crate::proofs::LiveOver::refused_leaves))]
+    #[tactic(auto, using(crate::proofs::HereOrLent::refused_over, crate::proofs::HereOrLent::refused_calls, crate::proofs::HereOrLent::refused_leaves))]
     pub fn disk_did(&mut self, dev: u8, pick: u8, count: u32) -> Result<Reply, MigError>
         ensures served { ServesOver M.known self.old (events.Disk dev pick (answers.Did count)) (guest_reply result) self.new }
         ensures calls { GuestCallsOver M.known D.called self.old (events.Disk dev pick (answers.Did count)) (guest_reply result) self.new }
@@ -188,7 +189,7 @@ impl<D: Disk, W: Digesting, M: GuestRam> LiveOver<D, W, M> {
     }
 
     /// A disk outside failed: the request that the pick names ends with an error (`Machine::disk_failed`). As `apply` of that event.
-    #[tactic(auto, using(crate::proofs::LiveOver::refused_over, crate::proofs::LiveOver::refused_calls, crate::proofs::LiveOver::refused_leaves))]
+    #[tactic(auto, using(crate::proofs::HereOrLent::refused_over, crate::proofs::HereOrLent::refused_calls, crate::proofs::HereOrLent::refused_leaves))]
     pub fn disk_failed(&mut self, dev: u8, pick: u8) -> Result<Reply, MigError>
         ensures served { ServesOver M.known self.old (events.Disk dev pick answers.Failed) (guest_reply result) self.new }
         ensures calls { GuestCallsOver M.known D.called self.old (events.Disk dev pick answers.Failed) (guest_reply result) self.new }
@@ -212,7 +213,7 @@ impl<D: Disk, W: Digesting, M: GuestRam> LiveOver<D, W, M> {
 
     /// In place of a step that flushes a disk: makes it as a step whose disk failed, and calls no disk (`Machine::fail_flush`). The
     /// result says whether the step with this pick flushes; if not, nothing has changed.
-    #[tactic(auto, using(crate::proofs::LiveOver::flush_refused_over, crate::proofs::LiveOver::refused_leaves))]
+    #[tactic(auto, using(crate::proofs::HereOrLent::flush_refused_over, crate::proofs::HereOrLent::refused_leaves))]
     pub fn fail_flush(&mut self, dev: u8, pick: u8) -> Result<bool, MigError>
         ensures tried { TriesFlushOver M.known self.old dev pick result self.new }
         ensures calls { calls_in self.new.machine ≡ calls_in self.old.machine }

@@ -1,4 +1,4 @@
-use Rattle.sender.proofs.LiveOver.{guest_leaves, says_whether, tried_over, try_kept}
+use Rattle.sender.proofs.HereOrLent.{guest_leaves, says_whether, tried_over, try_kept}
 use Rattle.sender.proofs.live.LiveOver.fail_flush.Goals as goal
 
 pub invariant_of-self : goal.invariant_of-self

@@ -1,5 +1,5 @@
 use Rattle.std.proofs.Common.{refl}
-use Rattle.sender.proofs.LiveOver.{flush_kept, flushed_over}
+use Rattle.sender.proofs.HereOrLent.{flush_kept, flushed_over}
 use Rattle.sender.proofs.live.LiveOver.flush_disk.Goals as goal
 
 pub invariant_of-self : goal.invariant_of-self

@@ -3,7 +3,7 @@ use Rattle.std.proofs.lemmas.List.{length-map}
 use Rattle.machine.specs.Seen.{DeviceSeen}
 use Rattle.machine.specs.Shapes.{made_as}
 use Rattle.wire.specs.Stream.{device_texts}
-use Rattle.sender.proofs.LiveOver.{stops_within}
+use Rattle.sender.proofs.HereOrLent.{stops_within}
 use Rattle.sender.proofs.live.LiveOver.most_by_stop.Goals as goal
 
 pub devices_len-requires-clause-few : goal.devices_len-requires-clause-few

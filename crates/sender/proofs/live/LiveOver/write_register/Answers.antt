@@ -1,4 +1,4 @@
-use Rattle.sender.proofs.LiveOver.{guest_called, guest_kept, guest_leaves, guest_served}
+use Rattle.sender.proofs.HereOrLent.{guest_called, guest_kept, guest_leaves, guest_served}
 use Rattle.sender.proofs.live.LiveOver.write_register.Goals as goal
 
 pub invariant_of-self : goal.invariant_of-self
@@ -18,7 +18,7 @@ pub returns-clause-calls : goal.returns-clause-calls
 returns-clause-calls g c =
     let i = c.self.inside in
     let was = c.write_register-answer in
-    rw (← c.self.view_is, c.from_written.ensures) (guest_called g.M.GuestRam.known i.machine was.new.self i.phase i.due i.logs.first.set (g.W.Sink.sum i.writer) (g.W.Sink.state i.writer) _ _ was.ensures.applied tt g.D.Disk.called was.ensures.calls)
+    rw (← c.self.view_is) (guest_called g.M.GuestRam.known i.machine was.new.self i.phase i.due i.logs.first.set (g.W.Sink.sum i.writer) (g.W.Sink.state i.writer) _ _ was.ensures.applied tt g.D.Disk.called was.ensures.calls)
 
 pub returns-clause-rest : goal.returns-clause-rest
 returns-clause-rest g c =

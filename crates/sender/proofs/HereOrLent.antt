@@ -1,5 +1,5 @@
 -- Calls that need no byte of RAM, of a machine that is being migrated, its RAM here or lent.
-use Rattle.std.proofs.Common.{◌≡◌, ◌≢◌, ℕ, ◌+◌, ◌*◌, ◌/◌, ◌≤◌, Bool, true, false, List, [], ◌∷◌, get_or, length, map, take, drop, None, refl, sym, ap, ◌∙◌, arith}
+use Rattle.std.proofs.Common.{◌≡◌, ◌≢◌, ℕ, ◌+◌, ◌*◌, ◌/◌, ◌≤◌, Bool, true, false, List, [], ◌∷◌, get_or, length, map, take, drop, None, refl, sym, ap, subst, ◌∙◌, arith}
 use Rattle.std.specs.Prelude.{Err, Ok, Result, slice_get}
 use Rattle.dirtylog.specs.Members.{member_count}
 use Rattle.guestmem.specs.Memory.{Memory}
@@ -21,7 +21,7 @@ use Rattle.machine.proofs.Quiet.{IsQuiet}
 use Rattle.wire.specs.Sinks.{Digested, SinkState}
 use Rattle.wire.specs.Stream.{device_texts}
 use Rattle.sender.specs.Calls.{Serves, StopsWithin}
-use Rattle.sender.specs.LiveOver.{FlushesLiveOver, GuestCallsOver, IsLiveOver, LeavesRest, SaysWhether, ServesOver, TriesFlushOver, layout_over, pages_in}
+use Rattle.sender.specs.HereOrLent.{FlushesLiveOver, GuestCallsOver, IsLiveOver, LeavesRest, SaysWhether, ServesOver, TriesFlushOver, layout_over, pages_in}
 use Rattle.sender.specs.LiveState.{HasPlaces, LiveSeen, LiveSeenOver, live_with}
 use Rattle.sender.specs.Reads.{HasLiveCalled}
 use Rattle.sender.specs.Stopping.{SetsFit}
@@ -97,7 +97,7 @@ module _ {M : Type 0} (known : M → Known) (machine next : SeenOver M) (phase :
         between_each (known machine.memory) (known next.memory) (λ m n. IsApplied (with_ram machine m) e reply (with_ram next n)) (λ m n. HasCalled called (with_ram machine m) e reply (with_ram next n)) h
         (λ m n may did. quiet_called called (with_ram machine m) (with_ram next n) e reply quiet same)
 
-  pub guest_leaves : {A : Type 0} (x : A) → sectors_in next ≡ sectors_in machine → calls_in next ≡ calls_in machine → phase ≢ phases.Stopped → LeavesRest (live_of machine) (Ok {E = MigError} x) (live_of next)
+  pub guest_leaves : {A : Type 0} (x : A) → sectors_in next ≡ sectors_in machine → calls_in next ≡ calls_in machine → phase ≢ phases.Stopped → LeavesRest (live_of machine) (Ok x) (live_of next)
   guest_leaves x sectors calls goes = record { rest = refl; sectors = sectors; calls = calls; runs = goes; refused = tt }
 
   -- A disk was flushed beside all steps.
@@ -124,7 +124,7 @@ module _ {M : Type 0} (s : LiveSeenOver M) (x : MigError) (closed : (x ≡ Alrea
   pub refused_calls : (known : M → Known) (called : ℕ → ℕ) (e : Event) → GuestCallsOver known called s e (r.Mig x) s
   refused_calls known called e = between_same (known s.machine.memory) (λ m n. HasLiveCalled called (live_with s m) (Guest e) (r.Mig x) (live_with s n)) (λ m may. refl)
 
-  pub refused_leaves : {A : Type 0} → LeavesRest s (Err {A = A} x) s
+  pub refused_leaves : {A : Type 0} → LeavesRest {A = A} s (Err x) s
   refused_leaves = record { rest = refl; sectors = refl; calls = refl; runs = tt; refused = (closed.0, closed.1, refl) }
 
   pub flush_refused_over : (known : M → Known) (dev pick : ℕ) → TriesFlushOver known s dev pick (Err x) s
@@ -159,9 +159,9 @@ layout_at : (k : Known) (ds : List DeviceSeen) (m : Memory) → MayBe k m → la
 layout_at (Here n) ds m is = rw is refl
 layout_at (Lent versions) ds m is = layout_is (seen_with ds m) (record { memory = versions; devices = ds }) (omega (arith, is.0.pages, is.2)) refl
 
-first_number : (sizes : List ℕ) (first : ℕ) → 1 ≤ length sizes → get_or (firsts_from first sizes) 0 0 ≡ first
-first_number [] first some = absurd (omega (arith, some))
-first_number (size ∷ sizes) first some = refl
+first_number : (sizes : List ℕ) (first other : ℕ) → 1 ≤ length sizes → get_or (firsts_from first sizes) 0 other ≡ first
+first_number [] first other some = absurd (omega (arith, some))
+first_number (size ∷ sizes) first other some = refl
 
 longer_firsts : (sizes : List ℕ) (first : ℕ) → 1 ≤ length sizes → 1 ≤ length (firsts_from first sizes)
 longer_firsts [] first some = absurd (omega (arith, some))
@@ -187,14 +187,14 @@ module _ (k : Known) (ds : List DeviceSeen) (phase : Phase) (due dirty : List Bo
   pub some_firsts : 1 ≤ length firsts
   some_firsts = rw sets.firsts_are (longer_firsts (layout_over k ds).disks (pages_in k) some_disks)
 
-  pub pages_first : get_or firsts 0 0 ≡ pages_in k
-  pages_first = rw sets.firsts_are (first_number (layout_over k ds).disks (pages_in k) some_disks)
+  pub pages_first : (other : ℕ) → get_or firsts 0 other ≡ pages_in k
+  pages_first other = rw sets.firsts_are (first_number (layout_over k ds).disks (pages_in k) other some_disks)
 
   pub few_pages : pages_in k ≤ 4294967295
   few_pages = omega (arith, pages_at ram.0 ram.1, (sound_at ram.0 ram.1).few_pages)
 
   few_over : size_of (layout_over k ds) ≤ 73014444015
-  few_over = rw (sym (layout_at k ds ram.0 ram.1)) (few_items (state_of (seen_with ds ram.0)) (sound_at ram.0 ram.1))
+  few_over = subst (λ (l : Layout). size_of l ≤ 73014444015) (layout_at k ds ram.0 ram.1) (few_items (state_of (seen_with ds ram.0)) (sound_at ram.0 ram.1))
 
   pages_over : pages_in k ≤ size_of (layout_over k ds)
   pages_over = size_grows (layout_over k ds).disks (pages_in k)
