@@ -150,7 +150,7 @@ module _ (m : MachineState) (h : History) (out : SinkState) (taken pages : List 
     abbrev content : List ℕ
     content = put_at old.bytes (4096 * n) bytes
 
-    below : n < length old.memory
+    below : n < length old.versions
     below = subst (λ (v : List ℕ). n < length v) lent.parked.lent.versions_are call.below
 
     inside : 4096 * n + length bytes ≤ length old.bytes
@@ -167,7 +167,7 @@ module _ (m : MachineState) (h : History) (out : SinkState) (taken pages : List 
       places = places;
       memory = mem;
       goes = goes;
-      below = one_below n (length old.memory) below;
+      below = one_below n (length old.versions) below;
       long = long;
       are = IsBytes-append (take (4096 * n) old.bytes ++ bytes) (drop (4096 * n + length bytes) old.bytes)
           (IsBytes-append (take (4096 * n) old.bytes) bytes (IsBytes-take (4096 * n) old.bytes places.sound.bytes) call.are) (IsBytes-drop (4096 * n + length bytes) old.bytes places.sound.bytes);
