@@ -1,7 +1,7 @@
 -- Calls that need no byte of RAM, of a machine that is being migrated, its RAM here or lent.
 use Rattle.std.proofs.Common.{◌≡◌, ◌≢◌, ℕ, ◌+◌, ◌*◌, ◌/◌, ◌≤◌, Bool, true, false, List, [], ◌∷◌, get_or, length, map, take, drop, None, refl, sym, ap, subst, ◌∙◌, arith}
 use Rattle.std.specs.Prelude.{Err, Ok, Result, slice_get}
-use Rattle.dirtylog.specs.Members.{member_count}
+use Rattle.dirtylog.specs.Members.{HasNone, member_count}
 use Rattle.guestmem.specs.Memory.{Memory}
 use Rattle.machine.specs.Applied.{IsApplied}
 use Rattle.machine.specs.Calls.{HasCalled}
@@ -20,21 +20,21 @@ use Rattle.machine.proofs.Numbering.{size_grows}
 use Rattle.machine.proofs.Quiet.{IsQuiet}
 use Rattle.wire.specs.Sinks.{Digested, SinkState}
 use Rattle.wire.specs.Stream.{device_texts}
-use Rattle.sender.specs.Calls.{Serves, StopsWithin}
-use Rattle.sender.specs.HereOrLent.{FlushesLiveOver, GuestCallsOver, IsLiveOver, LeavesRest, SaysWhether, ServesOver, TriesFlushOver, layout_over, pages_in}
-use Rattle.sender.specs.LiveState.{HasPlaces, LiveSeen, LiveSeenOver, live_with}
+use Rattle.sender.specs.Calls.{EndsRound, Serves, StopsWithin}
+use Rattle.sender.specs.HereOrLent.{EndsOver, FlushesLiveOver, GuestCallsOver, IsLiveOver, LeavesRest, SaysWhether, ServesOver, TriesFlushOver, layout_over, pages_in}
+use Rattle.sender.specs.LiveState.{HasPlaces, LiveSeen, LiveSeenOver, live_with, refusal_for}
 use Rattle.sender.specs.Reads.{HasLiveCalled}
-use Rattle.sender.specs.Stopping.{SetsFit}
+use Rattle.sender.specs.Stopping.{RoundFits, SetsFit}
 use Rattle.sender.specs.Unsynced.{FlushesLiveDisk, TriesFlush}
 use Rattle.sender.specs.declared.dirty.Dirty.{Dirty}
-use Rattle.sender.specs.declared.event.LiveEvent.TheVariants.{Guest}
+use Rattle.sender.specs.declared.event.LiveEvent.TheVariants.{EndRound, Guest}
 use Rattle.sender.specs.declared.event.LiveReply.TheVariants as r
 use Rattle.sender.specs.declared.mig_error.MigError.{MigError}
 use Rattle.sender.specs.declared.mig_error.MigError.TheVariants.{AlreadyStopped}
 use Rattle.sender.specs.declared.phase.Phase.{Phase}
 use Rattle.sender.specs.declared.phase.Phase.TheVariants as phases
 use Rattle.sender.proofs.Flushed.{live_flushed}
-use Rattle.sender.proofs.Living.{guest_refused, live_quiet, quiet_served}
+use Rattle.sender.proofs.Living.{fit_next, guest_refused, live_again, live_begun, live_quiet, quiet_served, served_round}
 use Rattle.sender.proofs.Numbers.{sizes_long}
 use Rattle.sender.proofs.Parking.{layout_is}
 use Rattle.sender.proofs.StopLengths.{few_items, stop_short}
@@ -56,6 +56,17 @@ sets_over (Lent versions) ds phase due dirty firsts at live = live.1
 pub kept_lent : (v w : List ℕ) (ds es : List DeviceSeen) (phase : Phase) (due dirty : List Bool) (firsts : List ℕ) (at : ℕ) → IsLiveOver (Lent v) ds phase due dirty firsts at → w ≡ v
     → map (λ (d : DeviceSeen). d.sectors) es ≡ map (λ (d : DeviceSeen). d.sectors) ds → IsLiveOver (Lent w) es phase due dirty firsts at
 kept_lent v w ds es phase due dirty firsts at live versions sectors = rw (versions, sectors) live
+
+-- Another phase keeps it, and sets that are as long.
+pub again_over : (k : Known) (ds : List DeviceSeen) (p q : Phase) (due dirty : List Bool) (firsts : List ℕ) (at : ℕ) → IsLiveOver k ds p due dirty firsts at → RoundFits q → IsLiveOver k ds q due dirty firsts at
+again_over (Here m) ds p q due dirty firsts at live round = live_again (seen_with ds m) (seen_with ds m) p q due dirty firsts at live refl round
+again_over (Lent v) ds p q due dirty firsts at live round = (live.0, fit_next (layout_over (Lent v) ds) p q due due dirty dirty firsts firsts at at live.1 refl refl refl round live.1.reached live.1.passed)
+
+pub begun_over : (k : Known) (ds : List DeviceSeen) (p q : Phase) (due new_due dirty new_dirty : List Bool) (firsts : List ℕ) (at : ℕ) → IsLiveOver k ds p due dirty firsts at → length new_due ≡ length due → length new_dirty ≡ length dirty → RoundFits q
+    → IsLiveOver k ds q new_due new_dirty firsts 0
+begun_over (Here m) ds p q due new_due dirty new_dirty firsts at live due_long dirty_long round = live_begun (seen_with ds m) p q due new_due dirty new_dirty firsts at live due_long dirty_long round
+begun_over (Lent v) ds p q due new_due dirty new_dirty firsts at live due_long dirty_long round =
+    (live.0, fit_next (layout_over (Lent v) ds) p q due new_due dirty new_dirty firsts firsts at 0 live.1 due_long dirty_long refl round (omega arith) (λ j below. absurd (omega (arith, below))))
 
 -- An event that writes nothing keeps it.
 kept_by : (a b : Known) (ds es : List DeviceSeen) (d : Dirty) (phase : Phase) (due : List Bool) (at : ℕ) (e : Event) (reply : Reply) → IsLiveOver a ds phase due d.set d.firsts.items at → Between a b (λ m n. IsApplied (seen_with ds m) e reply (seen_with es n))
@@ -155,7 +166,7 @@ pub try_kept : {M : Type 0} (known : M → Known) (machine next : SeenOver M) (p
 try_kept known machine next phase due dirty firsts at dev pick was live h sectors = try_by (known machine.memory) (known next.memory) machine.devices next.devices phase due dirty firsts at dev pick was live h sectors
 
 -- The layout with each RAM that may be there.
-layout_at : (k : Known) (ds : List DeviceSeen) (m : Memory) → MayBe k m → layout_of (state_of (seen_with ds m)) ≡ layout_over k ds
+pub layout_at : (k : Known) (ds : List DeviceSeen) (m : Memory) → MayBe k m → layout_of (state_of (seen_with ds m)) ≡ layout_over k ds
 layout_at (Here n) ds m is = rw is refl
 layout_at (Lent versions) ds m is = layout_is (seen_with ds m) (record { memory = versions; devices = ds }) (omega (arith, is.0.pages, is.2)) refl
 
@@ -166,6 +177,13 @@ first_number (size ∷ sizes) first other some = refl
 longer_firsts : (sizes : List ℕ) (first : ℕ) → 1 ≤ length sizes → 1 ≤ length (firsts_from first sizes)
 longer_firsts [] first some = absurd (omega (arith, some))
 longer_firsts (size ∷ sizes) first some = omega arith
+
+-- A round was begun.
+pub round_over : {M : Type 0} (known : M → Known) (old new : LiveSeenOver M) (k : ℕ) → refusal_for old.phase EndRound ≡ None → HasNone old.due → ((m : Memory) → MayBe (known old.machine.memory) m → EndsRound (live_with old m) k (live_with new m)) → new.machine ≡ old.machine
+    → EndsOver known old (r.Begun k) new
+round_over known old new k free none ends same =
+    subst (λ b. Between (known old.machine.memory) b (λ m n. Serves (live_with old m) (EndRound) (r.Begun k) (live_with new n))) (ap (λ (x : SeenOver _). known x.memory) (sym same))
+    (between_same (known old.machine.memory) (λ m n. Serves (live_with old m) EndRound (r.Begun k) (live_with new n)) (λ m may. served_round (live_with old m) (live_with new m) k free none (ends m may)))
 
 -- What is left, by the sets.
 module _ (k : Known) (ds : List DeviceSeen) (phase : Phase) (due dirty : List Bool) (firsts : List ℕ) (at : ℕ) (live : IsLiveOver k ds phase due dirty firsts at) (sound : Whatever k (λ m. IsSound (state_of (seen_with ds m)))) where

@@ -40,20 +40,6 @@ with_zeros p = back_with p (record { bytes = replicate (4096 * length p.memory) 
 sound_zeros : (p : ParkedSeen) → 1 ≤ length p.memory → length p.memory ≤ PAGES_GREATEST → WhateverRam p (λ m. IsSound (state_of (back_with p m))) → IsSound (state_of (with_zeros p))
 sound_zeros p some few sound = sound (with_zeros p).memory (record { pages = length-replicate (4096 * length p.memory) 0; some = some; few = few }) (zero_bytes (4096 * length p.memory)) refl
 
-pub parked_few : (p : ParkedSeen) → 1 ≤ length p.memory → length p.memory ≤ PAGES_GREATEST → WhateverRam p (λ m. IsSound (state_of (back_with p m))) → length p.devices ≤ DEVICES_MAX
-parked_few p some few sound = few_devices (with_zeros p) (sound_zeros p some few sound)
-
-pub parked_sound : (p : ParkedSeen) → 1 ≤ length p.memory → length p.memory ≤ PAGES_GREATEST → WhateverRam p (λ m. IsSound (state_of (back_with p m))) → AreSoundDevices (map (λ (d : DeviceSeen). d.state) p.devices)
-parked_sound p some few sound = sound_devices (with_zeros p) (sound_zeros p some few sound)
-
--- Its items.
-pub parked_pages : (p : ParkedSeen) → length p.memory ≤ size_of (parked_layout p)
-parked_pages p = size_grows (map length (map (λ (d : DeviceSeen). d.sectors) p.devices)) (length p.memory)
-
-pub parked_items : (p : ParkedSeen) → 1 ≤ length p.memory → length p.memory ≤ PAGES_GREATEST → WhateverRam p (λ m. IsSound (state_of (back_with p m))) → size_of (parked_layout p) ≤ 73014444015
-parked_items p some few sound =
-    subst (λ (l : Layout). size_of l ≤ 73014444015) (layout_is (with_zeros p) p (length-replicate (4096 * length p.memory) 0) refl) (few_items (state_of (with_zeros p)) (sound_zeros p some few sound))
-
 -- Its shapes.
 state_shapes : (ds : List DeviceSeen) → map (λ (d : DeviceSeen). made_as d.state.kind) ds ≡ map (λ (d : DeviceState). made_as d.kind) (map (λ (d : DeviceSeen). d.state) ds)
 state_shapes [] = refl
@@ -68,16 +54,3 @@ module _ (p : ParkedSeen) (pages : ℕ) (shapes : List Shape) (some : 1 ≤ leng
 
   pub parked_by_shapes : parked_layout p ≡ layout_by pages shapes
   parked_by_shapes = sym (layout_is (with_zeros p) p (length-replicate (4096 * length p.memory) 0) refl) ∙ layout_by_shapes pages shapes (state_of (with_zeros p)) parked_shapes
-
--- A stop, if no further page were dirty.
-pub stop_parked : (p : LiveParkedSeen) (firsts : List ℕ) (at : ℕ) (m : Memory) (next : LiveSeen) (pages sectors : ℕ) (b : List ℕ) (devices : ℕ) → SetsFit (parked_layout p.machine) p.phase p.due p.dirty firsts at → IsMemory m → length m.versions ≡ length p.machine.memory
-    → IsSound (state_of (back_with p.machine m)) → devices ≡ length (device_texts 0 (parked_states p.machine)) → IsTrue p.out.honest → Covers p.digest b → Stops (live_back p m []) pages sectors next
-    → length next.out.held ≤ length p.out.held + (4101 * (member_count (take (length p.machine.memory) p.due) + member_count (take (length p.machine.memory) p.dirty))
-    + 519 * (member_count (drop (length p.machine.memory) p.due) + member_count (drop (length p.machine.memory) p.dirty)) + devices + 33)
-stop_parked p firsts at m next pages sectors b devices sets mem count sound states honest covers stops =
-    let l : LiveSeen = live_back p m [] in
-    let whole : length m.bytes ≡ 4096 * length p.machine.memory = omega (arith, mem.pages, count) in
-    let same : layout_of (now l) ≡ parked_layout p.machine = layout_is l.machine p.machine whole refl in
-    let places : HasPlaces l = record { sound = sound; few = sets.few; due_size = sets.due_size ∙ ap size_of (sym same); dirty_size = sets.dirty_size ∙ ap size_of (sym same) } in
-    let count_is : length m.bytes / 4096 ≡ length p.machine.memory = omega (arith, whole) in
-    rw count_is at (stop_short l next pages sectors b devices places states honest covers stops)

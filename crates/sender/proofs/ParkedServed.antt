@@ -18,10 +18,10 @@ use Rattle.machine.proofs.Numbering.{same_layout}
 use Rattle.machine.proofs.ParkedCalls.{parked_flush_fails, parked_is_applied, parked_is_flushed, untouched}
 use Rattle.machine.proofs.Quiet.{IsQuiet}
 use Rattle.sender.specs.Calls.{Serves, guest_reply}
-use Rattle.sender.specs.HereOrLent.{FlushesLiveOver, LeavesRest, SaysWhether, ServesOver, TriesFlushOver}
+use Rattle.sender.specs.HereOrLent.{EndsOver, FlushesLiveOver, LeavesMachine, LeavesRest, SaysWhether, ServesOver, TriesFlushOver}
 use Rattle.sender.specs.LiveState.{HasPlaces, LiveSeen, live_with, now, refusal_for}
 use Rattle.sender.specs.Parked.{IsLiveParked, LiveParkedSeen, parked_layout}
-use Rattle.sender.specs.ParkedCalls.{AfterParked, FlushesLiveParked, GuestsParked, IsDoneLiveLent, IsServedUncalled, LiveParkedFlushFails, LiveParkedIsFlushed, LiveParkedIsServed, ServesParked, TriesParkedFlush}
+use Rattle.sender.specs.ParkedCalls.{AfterParked, EndsLent, FlushesLiveParked, GuestsParked, IsDoneLiveLent, IsServedUncalled, LiveParkedFlushFails, LiveParkedIsFlushed, LiveParkedIsServed, ServesParked, TriesParkedFlush}
 use Rattle.sender.specs.Stopping.{SetsFit}
 use Rattle.sender.specs.Unsynced.{FailsLiveFlush, FlushesLiveDisk, TriesFlush}
 use Rattle.sender.specs.declared.event.LiveEvent.TheVariants.{Guest}
@@ -80,6 +80,9 @@ tried_parked p next dev pick (Ok false) h left says =
 tried_parked p next dev pick (Err x) h left says =
     let P : MigError → Result Bool MigError = λ y. Err y in
     rw (closed_refuses p.phase (Step dev pick) left.refused.1) (ap P left.refused.0, left.refused.2)
+
+pub ended_parked : (p next : LiveParkedSeen) (reply : LiveReply) → EndsOver Lent p reply next → LeavesMachine p next → EndsLent p reply next
+ended_parked p next reply h left = record { serves = h.1; parked = left.machine; due_size = left.due_size; dirty_size = left.dirty_size; goes = left.goes }
 
 -- What was done with the machine that was lent was done with the one that is sent.
 done_live : (l : LiveSeen) (p next : LiveParkedSeen) (region : Region) (does : Seen → Type 0) (does_live : LiveSeen → Type 0) → HasPlaces l → IsLiveParked l region p → next ≡ record p { machine = next.machine } → (was : IsDoneLent l.machine region next.machine does) → IsSound (state_of was.after)

@@ -13,7 +13,7 @@ use Rattle.sender.specs.Reads.{HasLiveCalled}
 use Rattle.sender.specs.StopBytes.{longest_stop}
 use Rattle.sender.specs.Stopping.{IsLive, SetsFit}
 use Rattle.sender.specs.Unsynced.{FlushesLiveDisk, TriesFlush}
-use Rattle.sender.specs.declared.event.LiveEvent.TheVariants.{Guest}
+use Rattle.sender.specs.declared.event.LiveEvent.TheVariants.{EndRound, Guest}
 use Rattle.sender.specs.declared.event.LiveReply.{LiveReply}
 use Rattle.sender.specs.declared.mig_error.MigError.{MigError}
 use Rattle.sender.specs.declared.mig_error.MigError.TheVariants.{AlreadyStopped}
@@ -61,6 +61,17 @@ TriesFlushOver known old dev pick result new = Between (known old.machine.memory
 -- What of it names no RAM: the result says whether the step of this pick flushes a disk, and where it does not nothing has changed.
 abbrev pub SaysWhether : {M : Type 0} → LiveSeenOver M → ℕ → ℕ → Result Bool MigError → LiveSeenOver M → Type 0
 SaysWhether old dev pick result new = IfOk result (λ was. (was ≡ flushes_if (slice_get (states_of old.machine) dev) pick) × (was ≡ false → new ≡ old))
+
+-- A round was ended.
+abbrev pub EndsOver : {M : Type 0} → (M → Known) → LiveSeenOver M → LiveReply → LiveSeenOver M → Type 0
+EndsOver known old reply new = Between (known old.machine.memory) (known new.machine.memory) (λ m n. Serves (live_with old m) EndRound reply (live_with new n))
+
+-- What of it names no RAM: the machine stays as it is, each set has as many entries as before, and the guest may still run after it.
+pub record LeavesMachine {M : Type 0} (old new : LiveSeenOver M) : Type 0 where
+  pub machine : new.machine ≡ old.machine
+  pub due_size : length new.due ≡ length old.due
+  pub dirty_size : length new.dirty ≡ length old.dirty
+  pub goes : old.phase ≢ phases.Stopped → new.phase ≢ phases.Stopped
 
 -- A stop would write so many bytes at the most.
 abbrev pub IsStopBytesOver : {M : Type 0} → (M → Known) → LiveSeenOver M → ℕ → Type 0

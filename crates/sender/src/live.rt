@@ -38,10 +38,7 @@ use machine::{Disk, Event, GuestRam, Machine, MachineOver, Reply, Stepped};
 use region::Region;
 use std::alloc::{AllocError, Global};
 use std::marker::Model;
-use wire::{Digesting, Eager, Sink, Told, Waiting, encode_header, encode_round};
-
-/// The last round that the record of a round's end can number. It can't be ended.
-pub(crate) const LAST_ROUND: u32 = u32::MAX;
+use wire::{Digesting, Eager, Sink, Told, Waiting, encode_header};
 
 /// A machine, its RAM here or lent, the stream that is written of it, and what is still to be sent. The writer digests what it takes, when it will,
 /// or is told the digest.
@@ -250,28 +247,6 @@ impl<D: Disk, W: Digesting> LiveOver<D, W, Ram> {
         self.machine.mark(pages, &mut self.logs.first);
     }
 
-    fn refusal(&self, event: &LiveEvent) -> Option<MigError>
-        ensures { result ≡ refusal_for self.now.phase event.now }
-    {
-        match (self.phase, event) {
-            (Phase::Failed, LiveEvent::Guest(_)) => None,
-            (Phase::Failed, _) => Some(MigError::StreamFailed),
-            (Phase::Stopped, _) => Some(MigError::AlreadyStopped),
-            (Phase::Fresh, LiveEvent::Guest(_)) => None,
-            (Phase::Fresh, LiveEvent::Begin) => None,
-            (Phase::Fresh, _) => Some(MigError::NotBegun),
-            (Phase::Open(_), LiveEvent::Begin) => Some(MigError::AlreadyBegun),
-            (Phase::Open(round), LiveEvent::EndRound) => {
-                if round == LAST_ROUND {
-                    Some(MigError::RoundsEnded)
-                } else {
-                    None
-                }
-            }
-            (Phase::Open(_), _) => None,
-        }
-    }
-
     /// Applies the guest's event, and marks as dirty what it writes.
     #[tactic(auto, using(crate::proofs::Living::guest_refused))]
     pub fn apply(&mut self, event: &Event) -> Result<Reply, MigError>
@@ -370,30 +345,6 @@ impl<D: Disk, W: Digesting> LiveOver<D, W, Ram> {
         let item = self.send(number)?;
         self.at = number + 1;
         Ok(CopyAnswer::Copied(item))
-    }
-
-    /// Ends a round: the dirty items become due.
-    pub fn end_round(&mut self) -> Result<End, MigError>
-        ensures served { Serves self.old LiveEvent.EndRound (ended_reply result) self.new }
-        ensures calls { HasLiveCalled D.called self.old LiveEvent.EndRound (ended_reply result) self.new }
-    {
-        if let Some(error) = self.refusal(&LiveEvent::EndRound) {
-            return Err(error);
-        }
-        let Phase::Open(round) = self.phase else {
-            return Err(MigError::NotBegun);
-        };
-        if !self.due.is_empty() {
-            return Ok(End::RoundOpen);
-        }
-        if let Err(_) = encode_round(round, &mut self.writer) {
-            self.phase = Phase::Failed;
-            return Err(MigError::StreamFailed);
-        }
-        self.logs.first.set.swap_out(&mut self.due);
-        self.at = 0;
-        self.phase = Phase::Open(round + 1);
-        Ok(End::Begun(round + 1))
     }
 
     /// Sends all items of the two sets. A set is searched again only once the member that was found in it is sent, so all searches

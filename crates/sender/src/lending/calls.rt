@@ -1,22 +1,19 @@
-//! The calls of a machine that is being migrated and whose RAM is lent: pages that are handed in, marks, and the ends of rounds.
+//! The calls of a machine that is being migrated and whose RAM is lent: pages that are handed in, and marks.
 
 ghost use Rattle.std.specs.Prelude.{◌≡◌, ◌<◌, length};
 ghost use Rattle.guestmem.specs.Lent.{AreBelow};
 ghost use Rattle.dirtylog.specs.Members.{IsLeast};
-ghost use Rattle.sender.specs.Calls.{ended_reply};
 ghost use Rattle.sender.specs.HandedIn.{HandsInPage, IsNextPage};
-ghost use Rattle.sender.specs.LiveState.{refusal_for};
 ghost use Rattle.sender.specs.Parked.{with_pages};
-ghost use Rattle.sender.specs.ParkedCalls.{EndsLent};
 
-use crate::event::{End, LiveEvent, NextDue};
-use crate::live::{LAST_ROUND, LiveOver};
+use crate::event::{LiveEvent, NextDue};
+use crate::live::LiveOver;
 use crate::mig_error::MigError;
 use crate::phase::Phase;
 use dirtylog::BitSet;
 use guestmem::ParkedRam;
 use machine::Disk;
-use wire::{Digesting, encode_round, write_page};
+use wire::{Digesting, write_page};
 
 impl<D: Disk, W: Digesting> LiveOver<D, W, ParkedRam> {
     /// The least due item, if it is a page: the one that `copy_page` takes next. `next_item` says too whether sectors are due.
@@ -37,7 +34,7 @@ impl<D: Disk, W: Digesting> LiveOver<D, W, ParkedRam> {
         requires inside { page < length self.old.machine.memory }
         ensures { HandsInPage self.old page bytes.now result self.new }
     {
-        if let Some(error) = copy_refusal(self.phase) {
+        if let Some(error) = self.refusal(&LiveEvent::Copy) {
             return Err(error);
         }
         if let Err(_) = write_page(page, bytes, &mut self.writer) {
@@ -61,40 +58,6 @@ impl<D: Disk, W: Digesting> LiveOver<D, W, ParkedRam> {
         self.machine.recall();
         insert_each(&mut self.logs.first.set, pages);
     }
-
-    /// Ends a round, as `LiveOver::end_round` does: the dirty items become due. It reads no byte of RAM. What the guest writes in this loan
-    /// counts as written at the return, after the end of the round; so no page may be missing that was written before the loan.
-    pub fn end_round(&mut self) -> Result<End, MigError>
-        ensures { EndsLent self.old (ended_reply result) self.new }
-    {
-        if let Some(error) = round_refusal(self.phase) {
-            return Err(error);
-        }
-        let Phase::Open(round) = self.phase else {
-            return Err(MigError::NotBegun);
-        };
-        if !self.due.is_empty() {
-            return Ok(End::RoundOpen);
-        }
-        if let Err(_) = encode_round(round, &mut self.writer) {
-            self.phase = Phase::Failed;
-            return Err(MigError::StreamFailed);
-        }
-        self.logs.first.set.swap_out(&mut self.due);
-        self.at = 0;
-        self.phase = Phase::Open(round + 1);
-        Ok(End::Begun(round + 1))
-    }
-}
-
-/// Which phase refuses the end of a round.
-fn round_refusal(phase: Phase) -> Option<MigError>
-    ensures { result ≡ refusal_for phase LiveEvent.EndRound }
-{
-    match phase {
-        Phase::Open(LAST_ROUND) => Some(MigError::RoundsEnded),
-        _ => copy_refusal(phase),
-    }
 }
 
 /// Makes each of these pages a member.
@@ -104,17 +67,5 @@ fn insert_each(set: &mut BitSet, pages: &[u32])
 {
     for n in pages {
         set.insert(*n as u64);
-    }
-}
-
-/// Which phase refuses a copy.
-pub(super) fn copy_refusal(phase: Phase) -> Option<MigError>
-    ensures { result ≡ refusal_for phase LiveEvent.Copy }
-{
-    match phase {
-        Phase::Failed => Some(MigError::StreamFailed),
-        Phase::Stopped => Some(MigError::AlreadyStopped),
-        Phase::Fresh => Some(MigError::NotBegun),
-        Phase::Open(_) => None,
     }
 }

@@ -8,8 +8,7 @@ ghost use Rattle.sender.specs.Parked.{parked_layout};
 ghost use Rattle.sender.specs.SectorsLent.{CopiesSector, HasSectorCalled, SendsLent};
 ghost use Rattle.sender.specs.Reads.{ReadsItem};
 
-use crate::event::{Item, SectorAnswer};
-use crate::lending::calls::copy_refusal;
+use crate::event::{Item, LiveEvent, SectorAnswer};
 use crate::live::{LiveOver, phase_after};
 use crate::mig_error::MigError;
 use crate::numbering::lent_item_at;
@@ -26,7 +25,7 @@ impl<D: Disk, W: Digesting> LiveOver<D, W, ParkedRam> {
         ensures copied { CopiesSector self.old result self.new }
         ensures calls { HasSectorCalled D.called self.old result self.new }
     {
-        if let Some(error) = copy_refusal(self.phase) {
+        if let Some(error) = self.refusal(&LiveEvent::Copy) {
             return Err(error);
         }
         let Some(number) = self.due.first_from(self.at) else {

@@ -11,20 +11,23 @@ ghost use Rattle.machine.specs.Over.{CallsOver, calls_in};
 ghost use Rattle.machine.specs.declared.event.DiskAnswer.TheVariants as answers;
 ghost use Rattle.machine.specs.declared.event.Event.TheVariants as events;
 ghost use Rattle.wire.specs.Sinks.{Takes, over_writer};
-ghost use Rattle.sender.specs.Calls.{guest_reply};
-ghost use Rattle.sender.specs.HereOrLent.{FlushesLiveOver, GuestCallsOver, IsStopBytesOver, LeavesRest, SaysWhether, ServesOver, TriesFlushOver, pages_in};
-ghost use Rattle.sender.specs.LiveState.{live_with};
+ghost use Rattle.sender.specs.Calls.{ended_reply, guest_reply};
+ghost use Rattle.sender.specs.HereOrLent.{EndsOver, FlushesLiveOver, GuestCallsOver, IsStopBytesOver, LeavesMachine, LeavesRest, SaysWhether, ServesOver, TriesFlushOver, pages_in};
+ghost use Rattle.sender.specs.LiveState.{live_with, refusal_for};
 ghost use Rattle.sender.specs.SectorsLent.{IsNextDue};
 ghost use Rattle.sender.specs.Unsynced.{FlushesLiveDisk};
 
-use crate::event::{Left, NextDue, Remaining};
+use crate::event::{End, Left, LiveEvent, NextDue, Remaining};
 use crate::left::{left_of, most_bytes};
 use crate::live::LiveOver;
 use crate::measuring::devices_len;
 use crate::mig_error::MigError;
 use crate::phase::Phase;
 use machine::{Disk, DiskFault, GuestRam, MachineOver, Reply};
-use wire::{Digesting, Eager, Sink, Waiting};
+use wire::{Digesting, Eager, Sink, Waiting, encode_round};
+
+/// The last round that the record of a round's end can number. It can't be ended.
+const LAST_ROUND: u32 = u32::MAX;
 
 impl<D: Disk, W: Digesting, M: GuestRam> LiveOver<D, W, M> {
     /// The machine, to be read: its registers, its RAM, its interrupt lines.
@@ -97,6 +100,29 @@ impl<D: Disk, W: Digesting, M: GuestRam> LiveOver<D, W, M> {
     {
         let _shapes = self.machine.shapes();
         self.logs.first.firsts[0]
+    }
+
+    /// Which phase refuses this event.
+    pub(crate) fn refusal(&self, event: &LiveEvent) -> Option<MigError>
+        ensures { result ≡ refusal_for self.now.phase event.now }
+    {
+        match (self.phase, event) {
+            (Phase::Failed, LiveEvent::Guest(_)) => None,
+            (Phase::Failed, _) => Some(MigError::StreamFailed),
+            (Phase::Stopped, _) => Some(MigError::AlreadyStopped),
+            (Phase::Fresh, LiveEvent::Guest(_)) => None,
+            (Phase::Fresh, LiveEvent::Begin) => None,
+            (Phase::Fresh, _) => Some(MigError::NotBegun),
+            (Phase::Open(_), LiveEvent::Begin) => Some(MigError::AlreadyBegun),
+            (Phase::Open(round), LiveEvent::EndRound) => {
+                if round == LAST_ROUND {
+                    Some(MigError::RoundsEnded)
+                } else {
+                    None
+                }
+            }
+            (Phase::Open(_), _) => None,
+        }
     }
 
     /// Whether the guest still runs: a stop that closed the stream has paused it.
@@ -222,6 +248,33 @@ impl<D: Disk, W: Digesting, M: GuestRam> LiveOver<D, W, M> {
     {
         self.running()?;
         Ok(self.machine.fail_flush(dev, pick))
+    }
+
+    /// Ends a round: the dirty items become due. It reads no byte of RAM. What the guest writes while RAM is lent counts as written at the return,
+    /// after the end of the round; so no page may be missing that was written before the loan.
+    #[tactic(auto, using(machine::proofs::Known::between_same))]
+    pub fn end_round(&mut self) -> Result<End, MigError>
+        ensures served { EndsOver M.known self.old (ended_reply result) self.new }
+        ensures calls { calls_in self.new.machine ≡ calls_in self.old.machine }
+        ensures rest { LeavesMachine self.old self.new }
+    {
+        if let Some(error) = self.refusal(&LiveEvent::EndRound) {
+            return Err(error);
+        }
+        let Phase::Open(round) = self.phase else {
+            return Err(MigError::NotBegun);
+        };
+        if !self.due.is_empty() {
+            return Ok(End::RoundOpen);
+        }
+        if let Err(_) = encode_round(round, &mut self.writer) {
+            self.phase = Phase::Failed;
+            return Err(MigError::StreamFailed);
+        }
+        self.logs.first.set.swap_out(&mut self.due);
+        self.at = 0;
+        self.phase = Phase::Open(round + 1);
+        Ok(End::Begun(round + 1))
     }
 }
 
