@@ -178,7 +178,10 @@ longer_firsts : (sizes : List ℕ) (first : ℕ) → 1 ≤ length sizes → 1 �
 longer_firsts [] first some = absurd (omega (arith, some))
 longer_firsts (size ∷ sizes) first some = omega arith
 
--- A round was begun.
+-- A round is still open, or another was begun.
+pub still_open : {M : Type 0} (known : M → Known) (s : LiveSeenOver M) → refusal_for s.phase EndRound ≡ None → ¬ (HasNone s.due) → EndsOver known s r.RoundOpen s
+still_open known s free some = between_same (known s.machine.memory) (λ m n. Serves (live_with s m) EndRound r.RoundOpen (live_with s n)) (λ m may. rw free (some, refl))
+
 pub round_over : {M : Type 0} (known : M → Known) (old new : LiveSeenOver M) (k : ℕ) → refusal_for old.phase EndRound ≡ None → HasNone old.due → ((m : Memory) → MayBe (known old.machine.memory) m → EndsRound (live_with old m) k (live_with new m)) → new.machine ≡ old.machine
     → EndsOver known old (r.Begun k) new
 round_over known old new k free none ends same =

@@ -1,7 +1,8 @@
-use Rattle.std.proofs.Common.{false, replicate, length, refl, ap, sym, ◌∙◌}
+use Rattle.std.proofs.Common.{false, replicate, length, refl, ap, sym, ◌∙◌, rules}
 use Rattle.std.proofs.lemmas.List.{length-replicate}
+use Rattle.dirtylog.specs.Members.{HasNone}
 use Rattle.machine.specs.Layout.{Layout, size_of}
-use Rattle.sender.proofs.HereOrLent.{again_over, begun_over, layout_at, round_over, sets_over}
+use Rattle.sender.proofs.HereOrLent.{again_over, begun_over, layout_at, round_over, sets_over, still_open}
 use Rattle.sender.proofs.Living.{round_fits}
 use Rattle.sender.proofs.Served.{wrote_by}
 use Rattle.sender.proofs.live.LiveOver.end_round.Goals as goal
@@ -20,6 +21,13 @@ invariant_of-self-2 g c =
     let even = sets.dirty_size ∙ sym sets.due_size in
     begun_over k i.machine.devices i.phase _ i.due c.swap_out.new.other i.logs.first.set c.swap_out.new.self i.logs.first.firsts.items i.at c.self.invariant
     (ap length c.swap_out.ensures.given ∙ even) (ap length c.swap_out.ensures.left ∙ length-replicate (length i.logs.first.set) false) (round_fits i.phase c.in-Open.round c.in-Open.is sets.round free)
+
+pub returns-then-not-is_empty-clause-served : goal.returns-then-not-is_empty-clause-served
+returns-then-not-is_empty-clause-served g c =
+    let i = c.self.inside in
+    let free = rw (← c.self.view_is) at (sym c.refusal.ensures ∙ c.in_default.is) in
+    let some : ¬ (HasNone i.due) = search rules in
+    rw (← c.self.view_is) (still_open g.M.GuestRam.known (record { machine = i.machine; phase = i.phase; due = i.due; dirty = i.logs.first.set; digest = g.W.Sink.sum i.writer; out = g.W.Sink.state i.writer }) free some)
 
 pub returns-clause-served : goal.returns-clause-served
 returns-clause-served g c =
