@@ -1,27 +1,32 @@
 -- Calls that need no byte of RAM, of a machine that is being migrated, its RAM here or lent.
-use Rattle.std.proofs.Common.{◌≡◌, ◌≢◌, ℕ, ◌+◌, ◌*◌, ◌/◌, ◌≤◌, Bool, true, false, List, [], ◌∷◌, get_or, length, map, take, drop, None, refl, sym, ap, subst, ◌∙◌, arith}
+use Rattle.std.proofs.Common.{◌≡◌, ◌≢◌, ℕ, ◌+◌, ◌*◌, ◌/◌, ◌<◌, ◌≤◌, Bool, true, false, List, [], ◌∷◌, get_or, length, map, take, drop, None, refl, sym, ap, subst, ◌∙◌, arith}
 use Rattle.std.specs.Prelude.{Err, Ok, Result, slice_get}
 use Rattle.dirtylog.specs.Members.{HasNone, member_count}
+use Rattle.guestmem.specs.Item.{Item}
 use Rattle.guestmem.specs.Memory.{Memory}
 use Rattle.machine.specs.Applied.{IsApplied}
 use Rattle.machine.specs.Calls.{HasCalled}
 use Rattle.machine.specs.Known.{Between, Here, IsSomeRam, Known, Lent, MayBe, Whatever}
-use Rattle.machine.specs.Layout.{Layout, firsts_from, layout_of, size_of}
+use Rattle.machine.specs.EffectLaws.{HasItem}
+use Rattle.machine.specs.Layout.{IsItemIn, Layout, firsts_from, item_at, layout_by, layout_of, size_of}
 use Rattle.machine.specs.Over.{AppliesOver, FailsFlushOver, FlushesOver, calls_in, sectors_in}
 use Rattle.machine.specs.Seen.{DeviceSeen, Seen, SeenOver, all_calls, state_of, states_of, with_ram}
 use Rattle.machine.specs.Sound.{IsSound}
-use Rattle.machine.specs.State.{MachineState}
+use Rattle.machine.specs.Shapes.{made_as}
+use Rattle.machine.specs.State.{DeviceState, MachineState}
 use Rattle.machine.specs.Unsynced.{FailsFlushIf, FlushesDisk, flushes_if}
 use Rattle.machine.specs.declared.event.Event.{Event}
 use Rattle.machine.specs.declared.event.Event.TheVariants.{RegRead, RegWrite, MemRead, MemWrite, Step, Input, Resize, Drop, Disk}
 use Rattle.machine.specs.declared.reply.Reply.{Reply}
+use Rattle.machine.specs.declared.shape.Shape.{Shape}
 use Rattle.machine.proofs.Known.{at_each, between_each, between_same, for_each}
-use Rattle.machine.proofs.Numbering.{size_grows}
+use Rattle.machine.proofs.Numbering.{has_item, item_there, size_grows}
 use Rattle.machine.proofs.Quiet.{IsQuiet}
 use Rattle.wire.specs.Sinks.{Digested, SinkState}
 use Rattle.wire.specs.Stream.{device_texts}
 use Rattle.sender.specs.Calls.{EndsRound, Serves, StopsWithin}
 use Rattle.sender.specs.HereOrLent.{EndsOver, FlushesLiveOver, GuestCallsOver, IsLiveOver, LeavesRest, SaysWhether, ServesOver, TriesFlushOver, layout_over, pages_in}
+use Rattle.sender.specs.Items.{AreShapesOf}
 use Rattle.sender.specs.LiveState.{HasPlaces, LiveSeen, LiveSeenOver, live_with, refusal_for}
 use Rattle.sender.specs.Reads.{HasLiveCalled}
 use Rattle.sender.specs.Stopping.{RoundFits, SetsFit}
@@ -35,7 +40,7 @@ use Rattle.sender.specs.declared.phase.Phase.{Phase}
 use Rattle.sender.specs.declared.phase.Phase.TheVariants as phases
 use Rattle.sender.proofs.Flushed.{live_flushed}
 use Rattle.sender.proofs.Living.{fit_next, guest_refused, live_again, live_begun, live_quiet, quiet_served, served_round}
-use Rattle.sender.proofs.Numbers.{sizes_long}
+use Rattle.sender.proofs.Numbers.{layout_by_shapes, sizes_long}
 use Rattle.sender.proofs.Parking.{layout_is}
 use Rattle.sender.proofs.StopLengths.{few_items, stop_short}
 use Rattle.sender.proofs.Unsynced.{answered, flush_refused, live_tried}
@@ -213,6 +218,29 @@ module _ (k : Known) (ds : List DeviceSeen) (phase : Phase) (due dirty : List Bo
 
   pub few_pages : pages_in k ≤ 4294967295
   few_pages = omega (arith, pages_at ram.0 ram.1, (sound_at ram.0 ram.1).few_pages)
+
+  -- Its items.
+  module _ (pages : ℕ) (shapes : List Shape) (pages_are : pages ≡ pages_in k) (shapes_are : shapes ≡ map (λ (d : DeviceState). made_as d.kind) (map (λ (d : DeviceSeen). d.state) ds)) where
+    shapes_with : AreShapesOf pages shapes (state_of (seen_with ds ram.0))
+    shapes_with = record { sound = sound_at ram.0 ram.1; pages_are = pages_are ∙ sym (pages_at ram.0 ram.1); shapes_are = shapes_are }
+
+    pub some_shapes : (m : MachineState) × AreShapesOf pages shapes m
+    some_shapes = (state_of (seen_with ds ram.0), shapes_with)
+
+    over_by_shapes : layout_over k ds ≡ layout_by pages shapes
+    over_by_shapes = sym (layout_at k ds ram.0 ram.1) ∙ layout_by_shapes pages shapes (state_of (seen_with ds ram.0)) shapes_with
+
+    pub below_by_shapes : (number : ℕ) → number < size_of (layout_over k ds) → number < size_of (layout_by pages shapes)
+    below_by_shapes number below = subst (λ (l : Layout). number < size_of l) over_by_shapes below
+
+    pub item_by_shapes : (number : ℕ) (item : Item) → item ≡ item_at (layout_by pages shapes) number → item ≡ item_at (layout_over k ds) number
+    item_by_shapes number item is = is ∙ ap (λ (l : Layout). item_at l number) (sym over_by_shapes)
+
+    pub item_is_there : (number : ℕ) (item : Item) → number < size_of (layout_over k ds) → item ≡ item_at (layout_by pages shapes) number → Whatever k (λ m. HasItem (state_of (seen_with ds m)) item)
+    item_is_there number item below is =
+        for_each k (λ m. HasItem (state_of (seen_with ds m)) item) (λ m may.
+        let within : IsItemIn (layout_over k ds) item = subst (λ (x : Item). IsItemIn (layout_over k ds) x) (sym (item_by_shapes number item is)) (item_there (layout_over k ds) number below) in
+        has_item (state_of (seen_with ds m)) item (sound_at m may).whole_pages (subst (λ (l : Layout). IsItemIn l item) (sym (layout_at k ds m may)) within))
 
   few_over : size_of (layout_over k ds) ≤ 73014444015
   few_over = subst (λ (l : Layout). size_of l ≤ 73014444015) (layout_at k ds ram.0 ram.1) (few_items (state_of (seen_with ds ram.0)) (sound_at ram.0 ram.1))

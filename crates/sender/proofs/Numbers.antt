@@ -5,8 +5,10 @@ use Rattle.guestmem.specs.Item.{sector}
 use Rattle.machine.specs.Shapes.{made_as}
 use Rattle.machine.specs.EffectLaws.{HasItem}
 use Rattle.machine.specs.Layout.{firsts_from, firsts_of, item_at, layout_by, layout_of, pages_of, sector_from, size_from, size_of}
+use Rattle.machine.specs.Seen.{DeviceSeen}
 use Rattle.machine.specs.Sound.{IsSound}
 use Rattle.machine.specs.State.{DeviceState, MachineState}
+use Rattle.machine.specs.declared.machine.TheConstants.{DEVICES_MAX}
 use Rattle.machine.specs.declared.shape.Shape.{Shape}
 use Rattle.machine.proofs.Numbering.{is_below, is_past, sound_layout}
 use Rattle.sender.specs.Items.{AreShapesOf, size_on}
@@ -23,6 +25,9 @@ sizes_long m sound = length-map m.disks length ∙ disks_long m sound
 
 pub shapes_long : (m : MachineState) (shapes : List Shape) → shapes ≡ map (λ (d : DeviceState). made_as d.kind) m.devices → length shapes ≡ length m.devices
 shapes_long m shapes are = ap length are ∙ length-map m.devices (λ (d : DeviceState). made_as d.kind)
+
+pub few_made : (shapes : List Shape) (ds : List DeviceSeen) → shapes ≡ map (λ (d : DeviceSeen). made_as d.state.kind) ds → length shapes ≤ DEVICES_MAX → length ds ≤ DEVICES_MAX
+few_made shapes ds are few = omega (arith, ap length are, length-map ds (λ (d : DeviceSeen). made_as d.state.kind), few)
 
 -- What holds as the disks are gone through: so many are behind, and the next one begins here.
 pub record IsAt (m : MachineState) (dev first : ℕ) : Type 0 where

@@ -29,7 +29,7 @@ use crate::event::{
     CopyAnswer, End, Item, LiveEvent, LiveReply, Stopped,
 };
 use crate::mig_error::MigError;
-use crate::numbering::{item_at, number_items, page_count};
+use crate::numbering::{number_items, page_count};
 use crate::phase::Phase;
 use crate::saving::{send_item, write_devices, write_seal};
 use dirtylog::BitSet;
@@ -320,7 +320,7 @@ impl<D: Disk, W: Digesting> LiveOver<D, W, Ram> {
         ensures sent { SendsItem self.old number result self.new }
         ensures calls { ReadsItem D.called self.old.machine (item_at (layout_of (now self.old)) number) self.new.machine }
     {
-        let item = item_at(&self.machine, number);
+        let item = self.item(number);
         if let Err(error) = send_item(&mut self.machine, item, &mut self.writer) {
             self.phase = phase_after(self.phase, error);
             return Err(error);

@@ -1,18 +1,16 @@
 //! Numbers the items of a machine: its pages, then the sectors of each disk, in device order.
 
 ghost use Rattle.std.specs.Prelude.{◌≡◌, ◌<◌, ◌≤◌, ◌^◌, IfOk, length};
-ghost use Rattle.machine.specs.EffectLaws.{HasItem};
 ghost use Rattle.machine.specs.Layout.{firsts_of, item_at, layout_by, layout_of, pages_of, size_of};
 ghost use Rattle.machine.specs.Seen.{state_of};
 ghost use Rattle.machine.specs.Sound.{IsSound};
 ghost use Rattle.machine.specs.State.{MachineState};
 ghost use Rattle.sender.specs.Items.{AreShapesOf, size_on};
 ghost use Rattle.sender.specs.LiveState.{item_of};
-ghost use Rattle.sender.specs.Parked.{parked_layout};
 
 use crate::event::Item;
 use guestmem::PAGE_SIZE;
-use machine::{Disk, Machine, Parked, Shape};
+use machine::{Disk, Machine, Shape};
 use std::alloc::{AllocError, Global};
 
 /// How many pages a machine has.
@@ -54,26 +52,8 @@ pub(crate) fn number_items<D: Disk>(
     Ok((firsts, first))
 }
 
-/// The item with this number.
-pub(crate) fn item_at<D: Disk>(machine: &Machine<D>, number: u64) -> Item
-    requires { number < size_of (layout_of (state_of machine.now)) }
-    ensures item { item_of result ≡ item_at (layout_of (state_of machine.now)) number }
-    ensures there { HasItem (state_of machine.now) (item_of result) }
-{
-    item_in(page_count(machine), machine.shapes(), number)
-}
-
-/// The item with this number of a machine whose RAM is lent.
-pub(crate) fn lent_item_at<D: Disk>(parked: &Parked<D>, number: u64) -> Item
-    requires { number < size_of (parked_layout parked.now) }
-    ensures { item_of result ≡ item_at (parked_layout parked.now) number }
-{
-    parked.recall();
-    item_in(parked.pages() as u64, parked.shapes(), number)
-}
-
 /// The item with this number, of a machine of this many pages and of devices of these shapes.
-fn item_in(pages: u64, shapes: &[Shape], number: u64) -> Item
+pub(crate) fn item_in(pages: u64, shapes: &[Shape], number: u64) -> Item
     requires few { pages ≤ 4294967295 }
     requires some { (m : MachineState) × AreShapesOf pages shapes.now m }
     requires below { number < size_of (layout_by pages shapes.now) }

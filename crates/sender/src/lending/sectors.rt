@@ -11,7 +11,6 @@ ghost use Rattle.sender.specs.Reads.{ReadsItem};
 use crate::event::{Item, LiveEvent, SectorAnswer};
 use crate::live::{LiveOver, phase_after};
 use crate::mig_error::MigError;
-use crate::numbering::lent_item_at;
 use crate::saving::write_read;
 use guestmem::ParkedRam;
 use machine::{Disk, SECTOR_SIZE};
@@ -31,7 +30,7 @@ impl<D: Disk, W: Digesting> LiveOver<D, W, ParkedRam> {
         let Some(number) = self.due.first_from(self.at) else {
             return Ok(SectorAnswer::RoundDone);
         };
-        match lent_item_at(&self.machine, number) {
+        match self.item(number) {
             Item::Page(page) => Ok(SectorAnswer::PageDue(page)),
             Item::Sector { dev, sector } => {
                 self.send_sector(number, dev, sector)?;

@@ -7,21 +7,26 @@
 ghost use Rattle.std.specs.Prelude.{◌≡◌, ◌≢◌, ◌+◌, ◌*◌, ◌<◌, ◌≤◌, ◌^◌, ◌++◌, IfErr, OnOk, Some, [], drop, false, length, min, take, true};
 ghost use Rattle.dirtylog.specs.Members.{member_count};
 ghost use Rattle.guestmem.specs.Memory.{Memory};
+ghost use Rattle.machine.specs.EffectLaws.{HasItem};
+ghost use Rattle.machine.specs.Known.{Whatever};
+ghost use Rattle.machine.specs.Layout.{item_at, size_of};
 ghost use Rattle.machine.specs.Over.{CallsOver, calls_in};
+ghost use Rattle.machine.specs.Seen.{state_of, with_ram};
 ghost use Rattle.machine.specs.declared.event.DiskAnswer.TheVariants as answers;
 ghost use Rattle.machine.specs.declared.event.Event.TheVariants as events;
 ghost use Rattle.wire.specs.Sinks.{Takes, over_writer};
 ghost use Rattle.sender.specs.Calls.{ended_reply, guest_reply};
-ghost use Rattle.sender.specs.HereOrLent.{EndsOver, FlushesLiveOver, GuestCallsOver, IsStopBytesOver, LeavesMachine, LeavesRest, SaysWhether, ServesOver, TriesFlushOver, pages_in};
-ghost use Rattle.sender.specs.LiveState.{live_with, refusal_for};
+ghost use Rattle.sender.specs.HereOrLent.{EndsOver, FlushesLiveOver, GuestCallsOver, IsStopBytesOver, LeavesMachine, LeavesRest, SaysWhether, ServesOver, TriesFlushOver, layout_over, pages_in};
+ghost use Rattle.sender.specs.LiveState.{item_of, live_with, refusal_for};
 ghost use Rattle.sender.specs.SectorsLent.{IsNextDue};
 ghost use Rattle.sender.specs.Unsynced.{FlushesLiveDisk};
 
-use crate::event::{End, Left, LiveEvent, NextDue, Remaining};
+use crate::event::{End, Item, Left, LiveEvent, NextDue, Remaining};
 use crate::left::{left_of, most_bytes};
 use crate::live::LiveOver;
 use crate::measuring::devices_len;
 use crate::mig_error::MigError;
+use crate::numbering::item_in;
 use crate::phase::Phase;
 use machine::{Disk, DiskFault, GuestRam, MachineOver, Reply};
 use wire::{Digesting, Eager, Sink, Waiting, encode_round};
@@ -100,6 +105,16 @@ impl<D: Disk, W: Digesting, M: GuestRam> LiveOver<D, W, M> {
     {
         let _shapes = self.machine.shapes();
         self.logs.first.firsts[0]
+    }
+
+    /// The item with this number.
+    pub(crate) fn item(&self, number: u64) -> Item
+        requires { number < size_of (layout_over (M.known self.now.machine.memory) self.now.machine.devices) }
+        ensures item { item_of result ≡ item_at (layout_over (M.known self.now.machine.memory) self.now.machine.devices) number }
+        ensures there { Whatever (M.known self.now.machine.memory) (λ m. HasItem (state_of (with_ram self.now.machine m)) (item_of result)) }
+    {
+        let pages = self.page_count();
+        item_in(pages, self.machine.shapes(), number)
     }
 
     /// Which phase refuses this event.

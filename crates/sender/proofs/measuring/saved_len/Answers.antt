@@ -5,7 +5,7 @@ use Rattle.machine.specs.Sound.{IsSoundShape}
 use Rattle.machine.specs.Layout.{pages_of}
 use Rattle.wire.specs.Header.{opening_of}
 use Rattle.wire.specs.Stream.{shapes_in}
-use Rattle.sender.proofs.ParkedItems.{few_devices, sound_devices}
+use Rattle.sender.proofs.Numbers.{few_made}
 use Rattle.sender.proofs.SavedLengths.{shapes_are_sound, whole_long}
 use Rattle.sender.proofs.measuring.saved_len.Goals as goal
 
@@ -15,10 +15,10 @@ header_len-requires-clause-sound g c =
     subst (λ (shapes : _). All IsSoundShape shapes) (sym c.shapes-shapes.ensures.shapes) (shapes_are_sound m c.shapes-shapes.ensures.sound)
 
 pub devices_len-requires-clause-few : goal.devices_len-requires-clause-few
-devices_len-requires-clause-few g c = rw c.devices.ensures (few_devices c.args.machine.now c.shapes-shapes.ensures.sound)
+devices_len-requires-clause-few g c = rw c.devices.ensures (few_made c.shapes-shapes.result.now c.args.machine.now.devices c.shapes-shapes.ensures.made c.shapes-shapes.ensures.few)
 
 pub devices_len-requires-clause-sound : goal.devices_len-requires-clause-sound
-devices_len-requires-clause-sound g c = rw c.devices.ensures (sound_devices c.args.machine.now c.shapes-shapes.ensures.sound)
+devices_len-requires-clause-sound g c = rw c.devices.ensures c.shapes-shapes.ensures.devices
 
 pub returns : goal.returns
 returns g c =

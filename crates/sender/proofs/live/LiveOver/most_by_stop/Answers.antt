@@ -1,15 +1,12 @@
-use Rattle.std.proofs.Common.{◌≡◌, length, map, refl, ap, ◌∙◌, arith}
-use Rattle.std.proofs.lemmas.List.{length-map}
+use Rattle.std.proofs.Common.{◌≡◌, length, map, arith}
 use Rattle.machine.specs.Seen.{DeviceSeen}
-use Rattle.machine.specs.Shapes.{made_as}
 use Rattle.wire.specs.Stream.{device_texts}
 use Rattle.sender.proofs.HereOrLent.{stops_within}
+use Rattle.sender.proofs.Numbers.{few_made}
 use Rattle.sender.proofs.live.LiveOver.most_by_stop.Goals as goal
 
 pub devices_len-requires-clause-few : goal.devices_len-requires-clause-few
-devices_len-requires-clause-few g c =
-    let long = ap length c.shapes-shapes.ensures.made ∙ length-map c.self.inside.machine.devices (λ (d : DeviceSeen). made_as d.state.kind) in
-    rw c.devices.ensures (omega (arith, long, c.shapes-shapes.ensures.few))
+devices_len-requires-clause-few g c = rw c.devices.ensures (few_made c.shapes-shapes.result.now c.self.inside.machine.devices c.shapes-shapes.ensures.made c.shapes-shapes.ensures.few)
 
 pub devices_len-requires-clause-sound : goal.devices_len-requires-clause-sound
 devices_len-requires-clause-sound g c = rw c.devices.ensures c.shapes-shapes.ensures.devices

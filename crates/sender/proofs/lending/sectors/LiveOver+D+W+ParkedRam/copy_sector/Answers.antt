@@ -10,4 +10,4 @@ returns-in-Page-clause-copied g c =
     let i = c.self.inside in
     let p : LiveParkedSeen = record { machine = i.machine; phase = i.phase; due = i.due; dirty = i.logs.first.set; digest = g.W.Sink.sum i.writer; out = g.W.Sink.state i.writer } in
     let free : refusal_for i.phase Copy ≡ None = rw (← c.self.view_is) at (sym c.refusal.ensures ∙ c.in_default.is) in
-    rw (← c.self.view_is) (page_due p c.in-Some-first_from.number c.in-Page.page free (least_of_all i.due i.at c.in-Some-first_from.number c.self.invariant.1.passed c.in-Some-first_from.ensures) c.in-Page.ensures)
+    rw (← c.self.view_is) (page_due p c.in-Some-first_from.number c.in-Page.page free (least_of_all i.due i.at c.in-Some-first_from.number c.self.invariant.1.passed c.in-Some-first_from.ensures) (rw (← c.self.view_is) at c.in-Page.ensures.item))
