@@ -270,8 +270,8 @@ module _ (k : Known) (ds : List DeviceSeen) (phase : Phase) (due dirty : List Bo
 
     within : (m : Memory) → MayBe k m → StopsWithin (at_ram m) bytes
     within m may = λ pages sectors b next honest covers stops.
-      let most = rw (pages_at m may) at (stop_short (at_ram m) next pages sectors b devices (places m may) states honest covers stops) in
-      omega (arith, are, most)
+        let most = rw (pages_at m may) at (stop_short (at_ram m) next pages sectors b devices (places m may) states honest covers stops) in
+        omega (arith, are, most)
 
     pub stops_within : Whatever k (λ m. StopsWithin (at_ram m) bytes)
     stops_within = for_each k (λ m. StopsWithin (at_ram m) bytes) within

@@ -25,9 +25,7 @@ ghost use Rattle.sender.specs.Uncalled.{CallsNone};
 ghost use Rattle.sender.specs.Stopping.{ClosesStream, HasNoneUpTo, IsLive, SendsAll, SendsItem, lesser, one_more, phase_after};
 
 use crate::dirty::{Dirty, Logs};
-use crate::event::{
-    CopyAnswer, End, Item, LiveEvent, LiveReply, Stopped,
-};
+use crate::event::{CopyAnswer, End, Item, LiveEvent, LiveReply, Stopped};
 use crate::mig_error::MigError;
 use crate::numbering::{number_items, page_count};
 use crate::phase::Phase;

@@ -112,7 +112,9 @@ impl<D: Disk, W: Digesting> LiveOver<D, W, ParkedRam> {
         ensures { IsLiveMadeOver self window dev pick (reply_in result.0 sent.new.items) result.1 result.2 }
     {
         let mut logs = self.logs;
-        let (stepped, window, machine) = self.machine.step_over(window, dev, pick, sent, &mut logs.first);
+        let (stepped, window, machine) = self
+            .machine
+            .step_over(window, dev, pick, sent, &mut logs.first);
         let next = LiveOver {
             machine,
             logs,

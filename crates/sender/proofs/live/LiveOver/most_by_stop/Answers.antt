@@ -18,6 +18,6 @@ returns g c =
     let states : c.devices_len.result ≡ length (device_texts 0 (map (λ (d : DeviceSeen). d.state) i.machine.devices)) = rw c.devices.ensures at c.devices_len.ensures.len in
     rw (← c.self.view_is) (
       stops_within (g.M.GuestRam.known i.machine.memory) i.machine.devices i.phase i.due i.logs.first.set i.logs.first.firsts.items i.at c.self.invariant c.shapes-shapes.ensures.sound (g.W.Sink.sum i.writer) (g.W.Sink.state i.writer) c.devices_len.result c.most_bytes.result states
-      (omega (arith, c.most_bytes.ensures, items.due_pages, items.dirty_pages, items.due_sectors, items.dirty_sectors)),
+          (omega (arith, c.most_bytes.ensures, items.due_pages, items.dirty_pages, items.due_sectors, items.dirty_sectors)),
       omega (arith, c.most_bytes.ensures, states, items.due_pages, items.dirty_pages, items.due_sectors, items.dirty_sectors),
     )

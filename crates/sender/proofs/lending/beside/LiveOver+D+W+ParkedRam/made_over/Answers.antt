@@ -14,8 +14,7 @@ step_over-stepped-requires-clause-may g c =
 pub invariant_of-next : goal.invariant_of-next
 invariant_of-next g c =
     let i = c.self.inside in
-    let size : length c.args.window.content ≡ 4096 * length i.machine.memory = c.requires.size ∙ ap (λ (v : LiveParkedSeen). 4096 * length v.machine.memory) (sym c.self.view_is) in
-    (
+    let size : length c.args.window.content ≡ 4096 * length i.machine.memory = c.requires.size ∙ ap (λ (v : LiveParkedSeen). 4096 * length v.machine.memory) (sym c.self.view_is) in (
       some_over i.machine _ c.args.window _ c.args.dev _ _ i.phase i.due i.logs.first _ i.at c.self.invariant.1 c.step_over-stepped.ensures c.self.invariant.0,
       fit_over i.machine _ c.args.window _ c.args.dev _ _ i.phase i.due i.logs.first _ i.at c.self.invariant.1 c.step_over-stepped.ensures size,
     )

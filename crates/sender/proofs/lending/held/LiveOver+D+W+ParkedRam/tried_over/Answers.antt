@@ -16,8 +16,7 @@ pub invariant_of-next : goal.invariant_of-next
 invariant_of-next g c =
     let i = c.self.inside in
     let was = c.step_held-tried in
-    let size : length c.args.window.content ≡ 4096 * length i.machine.memory = c.requires.size ∙ ap (λ (v : LiveParkedSeen). 4096 * length v.machine.memory) (sym c.self.view_is) in
-    (
+    let size : length c.args.window.content ≡ 4096 * length i.machine.memory = c.requires.size ∙ ap (λ (v : LiveParkedSeen). 4096 * length v.machine.memory) (sym c.self.view_is) in (
       some_tried i.machine was.result.2 c.args.window was.result.1 _ _ _ i.phase i.due i.logs.first was.new.log i.at c.self.invariant.1 was.result.0 (was.ensures.made, was.ensures.machine, was.ensures.log) c.self.invariant.0,
       fit_tried i.machine was.result.2 c.args.window was.result.1 _ _ _ i.phase i.due i.logs.first was.new.log i.at c.self.invariant.1 was.result.0 (was.ensures.made, was.ensures.machine, was.ensures.log) size,
     )
