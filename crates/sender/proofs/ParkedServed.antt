@@ -1,5 +1,5 @@
 -- Calls of a machine that is being migrated, while its RAM is lent.
-use Rattle.std.proofs.Common.{◌≡◌, ◌≢◌, ℕ, Bool, true, false, List, [], refl, sym, ap, subst, ◌∙◌}
+use Rattle.std.proofs.Common.{◌≡◌, ◌≢◌, ℕ, Bool, true, false, List, refl, sym, ap, subst, ◌∙◌}
 use Rattle.std.specs.Prelude.{MatchOption, Option, Some, None, Err, Ok, Result}
 use Rattle.region.specs.declared.region.Region.{Region}
 use Rattle.guestmem.specs.Memory.{IsMemory, Memory}
@@ -9,7 +9,6 @@ use Rattle.machine.specs.Layout.{Layout, layout_of, size_of}
 use Rattle.machine.specs.Parked.{IsAppliedUncalled, IsDoneLent, ParkedSeen, back_with, parked_sectors}
 use Rattle.machine.specs.Seen.{Seen, state_of}
 use Rattle.machine.specs.Sound.{IsSound}
-use Rattle.machine.specs.State.{MachineState}
 use Rattle.machine.specs.Unsynced.{FailsFlush, FlushesDisk}
 use Rattle.machine.specs.declared.event.Event.{Event}
 use Rattle.machine.specs.declared.event.Event.TheVariants.{Step}
@@ -28,7 +27,6 @@ use Rattle.sender.specs.declared.event.LiveEvent.TheVariants.{Guest}
 use Rattle.sender.specs.declared.event.LiveReply.{LiveReply}
 use Rattle.sender.specs.declared.event.LiveReply.TheVariants as r
 use Rattle.sender.specs.declared.mig_error.MigError.{MigError}
-use Rattle.sender.specs.declared.mig_error.MigError.TheVariants.{AlreadyStopped}
 use Rattle.sender.specs.declared.phase.Phase.{Phase}
 use Rattle.sender.specs.declared.phase.Phase.TheVariants as phases
 use Rattle.sender.proofs.Living.{closed_refuses, guest_free}

@@ -1,6 +1,6 @@
 -- The calls that need no byte of RAM, of a machine that is being migrated: said once, whether its RAM is here or lent. Where it is here, each is
 -- what that call does; where it is lent, it is so whatever RAM holds meanwhile.
-use Rattle.std.specs.Prelude.{◌≡◌, ◌≢◌, ℕ, ◌+◌, ◌/◌, Bool, false, List, Result, IfErr, IfOk, OnOk, length, map, slice_get}
+use Rattle.std.specs.Prelude.{◌≡◌, ◌≢◌, ℕ, ◌/◌, Bool, false, List, Result, IfErr, IfOk, OnOk, length, map, slice_get}
 use Rattle.machine.specs.Known.{Between, Here, IsSomeRam, Known, Lent, Whatever}
 use Rattle.machine.specs.Layout.{Layout}
 use Rattle.machine.specs.Over.{calls_in, sectors_in}

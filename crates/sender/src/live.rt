@@ -9,15 +9,15 @@
 mod calls;
 mod told;
 
-ghost use Rattle.std.specs.Prelude.{◌≡◌, ◌≢◌, ◌<◌, ◌^◌, ◌-◌, ◌+◌, ◌*◌, ◌≤◌, ◌++◌, IfOk, IfErr, None, OnOk, Some, [], drop, false, length, min, take, true};
+ghost use Rattle.std.specs.Prelude.{◌≡◌, ◌≢◌, ◌<◌, ◌^◌, ◌-◌, ◌+◌, IfOk, IfErr, None, Some, [], length, min};
 ghost use Rattle.guestmem.specs.Lent.{AreBelow};
 ghost use Rattle.dirtylog.specs.Members.{HasNone, IsLeastFrom};
 ghost use Rattle.machine.specs.declared.event.Event.TheVariants as events;
 ghost use Rattle.machine.specs.Stepped.{reply_in};
 ghost use Rattle.machine.specs.Layout.{item_at, layout_of, size_of};
 ghost use Rattle.wire.specs.Sinks.{Covers};
-ghost use Rattle.sender.specs.LiveState.{HasPlaces, now, refusal_for};
-ghost use Rattle.sender.specs.Calls.{Serves, begun_reply, copied_reply, ended_reply, guest_reply, stepped_result, stopped_reply};
+ghost use Rattle.sender.specs.LiveState.{HasPlaces, now};
+ghost use Rattle.sender.specs.Calls.{Serves, begun_reply, copied_reply, guest_reply, stepped_result, stopped_reply};
 ghost use Rattle.sender.specs.Marks.{live_marked};
 ghost use Rattle.sender.specs.Parked.{IsLiveParked};
 ghost use Rattle.sender.specs.Reads.{HasLiveCalled, ReadsItem, SendCalls};

@@ -1,6 +1,6 @@
 //! Sectors that are sent while RAM is lent: no disk is in RAM, so no copy by the caller is needed, and nothing races.
 
-ghost use Rattle.std.specs.Prelude.{◌≡◌, ◌<◌, OnOk, false, length, slice_set};
+ghost use Rattle.std.specs.Prelude.{◌≡◌, ◌<◌, OnOk, false, slice_set};
 ghost use Rattle.guestmem.specs.Item as items;
 ghost use Rattle.machine.specs.Layout.{item_at, size_of};
 ghost use Rattle.machine.specs.Parked.{WhateverRam, back_with};

@@ -1,4 +1,3 @@
-use Rattle.std.proofs.Common.{length, refl, ap}
 use Rattle.machine.proofs.Beside.{ended_sectors, ended_versions}
 use Rattle.sender.proofs.HereOrLent.{kept_lent}
 use Rattle.sender.proofs.lending.beside.LiveOver+D+W+ParkedRam.end.Goals as goal
