@@ -18,7 +18,7 @@ use Rattle.receiver.specs.declared.stage.Stage.{Stage}
 use Rattle.receiver.specs.declared.stage.Stage.TheVariants as stages
 use Rattle.c_handle.specs.ArrivalSeen.{ArrivalSeen, AtHead, AtBody, Refused, Over}
 use Rattle.c_handle.specs.Awaited.{AreSteady, IsClosed, IsFed, RefusesUntouched, TellsOf}
-use Rattle.c_handle.specs.ToldArrival.{ClosesRight, DueAfter, IsDueAt}
+use Rattle.c_handle.specs.ToldArrival.{ClosesRight, DueAfter, IsDueAt, MeetsRecord}
 use Rattle.c_handle.specs.ToldFeeding.{NoneIsBefore}
 use Rattle.c_handle.specs.Headed.{EndsHeader, HasNoHeader}
 use Rattle.c_handle.proofs.Awaited.{empty_head, more_fed, more_refused, more_steady}
@@ -151,6 +151,10 @@ some_untouched r next piece (Err e) h = untouched_if {A = Unit {0}} r next piece
 -- The record is taken, or refused, by the digest that was told.
 pub closed_steady : (r next : Received) (digest rest : List ℕ) (result : Result (Unit {0}) RecvError) → AreSteady r → ClosesOnTrust r digest rest result next → AreSteady next
 closed_steady r next digest rest result steady c = more_steady r next steady c.sizes c.marks
+
+pub meets_record : (r next : Received) (digest rest : List ℕ) (result : Result (Unit {0}) RecvError) → ClosesOnTrust r digest rest result next → MeetsRecord r digest rest result
+meets_record r next digest rest (Ok x) c = (c.comes.0, elim c.comes.1 [ inl h ↦ inr h.0 | inr h ↦ inl h.0 ])
+meets_record r next digest rest (Err e) c = c.comes
 
 pub right_body : (r next : Received) (digest rest : List ℕ) → ClosesOnTrust r digest rest (Ok tt) next → digest ≡ sha256 (past_of r.digest) → ClosesRight (AtBody r) rest (Ok tt) (AtBody next)
 right_body r next digest rest c is =

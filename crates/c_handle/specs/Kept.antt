@@ -40,9 +40,9 @@ pub data State : Type 0 where
   Lent : LoanSeen → State
 
 -- Whether its disks lie in memory of the caller, in which state it is, whether it is being migrated and its host tells the digest, whether what
--- arrives is let in, what is known of its digest, if the host tells that, how many bytes of it were taken, and for each device whether its disk was lost, which calls of disks outside are out, whether it
--- may be as large as can be, for how many pages its log, if it has one, has a place, and for each page whether it is to be handed out as written, if
--- the caller asks for these.
+-- arrives is let in, what is known of its digest, if the host tells that, how many bytes of it were taken, and for each device whether its disk was
+-- lost, which calls of disks outside are out, whether it may be as large as can be, for how many pages its log, if it has one, has a place, and for
+-- each page whether it is to be handed out as written, if the caller asks for these.
 pub record KeptSeen : Type 0 where
   pub is_mapped : Bool
   pub state : State

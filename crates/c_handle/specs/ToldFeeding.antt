@@ -1,5 +1,5 @@
 -- The arrival of a stream whose host tells its digest, call by call.
-use Rattle.std.specs.Prelude.{◌≡◌, ◌⊎◌, ◌≤◌, ℕ, ◌+◌, ◌-◌, ◌^◌, ◌==◌, ◌||◌, if◌then◌else◌, min, Bool, List, [], ◌∷◌, ◌++◌, length, take, drop, Option, Some, None}
+use Rattle.std.specs.Prelude.{◌≡◌, ◌⊎◌, ◌≤◌, ℕ, ◌+◌, ◌-◌, ◌^◌, ◌==◌, ◌||◌, if◌then◌else◌, min, Bool, List, [], ◌∷◌, ◌++◌, length, take, drop, Option, Some, None, Ok, Err}
 use Rattle.receiver.specs.declared.recv_error.RecvError.{RecvError}
 use Rattle.sha2.specs.Sha256.{sha256}
 use Rattle.c_handle.specs.Admission.{Admits, IsPending, first_refusal}
@@ -7,7 +7,7 @@ use Rattle.c_handle.specs.AdmissionSeen.{AdmissionSeen, Denied}
 use Rattle.c_handle.specs.ArrivalSeen.{ArrivalSeen}
 use Rattle.c_handle.specs.Arriving.{FeedsKept, FeedsWithin, HasDenied, HasNotFed, is_taken, or_else, refused_before, taken_status}
 use Rattle.c_handle.specs.Awaited.{HasCome, IsAtHead, IsClosed, IsFed, TellsWhole, stream_status}
-use Rattle.c_handle.specs.ToldArrival.{IsBefore, IsDueAt, digested}
+use Rattle.c_handle.specs.ToldArrival.{IsBefore, IsDueAt, MeetsRecordAt, digested}
 use Rattle.c_handle.specs.Kept.{KeptSeen, State, Arriving}
 use Rattle.c_handle.specs.OnHandle.{Unless}
 use Rattle.c_handle.specs.declared.told_feeding.Telling.{Telling}
@@ -91,29 +91,31 @@ pub record IsPast (admission : AdmissionSeen) (r : ArrivalSeen) (rest : List ℕ
   pub past : IsAtHead r → rest ≡ []
 
 -- The record was compared with what was told: it was taken, or refused.
-pub record IsClosedWell (let_in : AdmissionSeen) (r : ArrivalSeen) (status : ℕ) (after : AdmissionSeen) (next : ArrivalSeen) : Type 0 where
+pub record IsClosedWell (let_in : AdmissionSeen) (r : ArrivalSeen) (digest piece : List ℕ) (status : ℕ) (after : AdmissionSeen) (next : ArrivalSeen) : Type 0 where
+  pub meets : MeetsRecordAt r digest piece (Ok tt)
   pub digests : digested next ≡ digested r
   pub ended : Bool
   pub tells : TellsWhole next ended
   pub status_is : status ≡ taken_status ended
   pub same : after ≡ let_in
 
-pub record IsClosedBadly (r : ArrivalSeen) (status : ℕ) (after : AdmissionSeen) (next : ArrivalSeen) : Type 0 where
+pub record IsClosedBadly (r : ArrivalSeen) (digest piece : List ℕ) (status : ℕ) (after : AdmissionSeen) (next : ArrivalSeen) : Type 0 where
   pub error : RecvError
+  pub meets : MeetsRecordAt r digest piece (Err error)
   pub status_is : status ≡ stream_status error
   pub closed : IsClosed r next
   pub denied : after ≡ Denied status
 
-pub record IsCompared (admission : AdmissionSeen) (r : ArrivalSeen) (piece : List ℕ) (status : ℕ) (after : AdmissionSeen) (next : ArrivalSeen) : Type 0 where
+pub record IsCompared (admission : AdmissionSeen) (r : ArrivalSeen) (digest piece : List ℕ) (status : ℕ) (after : AdmissionSeen) (next : ArrivalSeen) : Type 0 where
   pub let_in : AdmissionSeen
   pub admitted : Admits admission piece None let_in
-  pub compared : IsClosedWell let_in r status after next ⊎ IsClosedBadly r status after next
+  pub compared : IsClosedWell let_in r digest piece status after next ⊎ IsClosedBadly r digest piece status after next
 
--- The next bytes of that record. Where the digest is that of all bytes before it, they are a piece as any other; whatever was told, the handle has an
--- arrival after it.
+-- The next bytes of that record. Where the digest is that of all bytes before it, they are a piece as any other; whatever was told, they are compared
+-- with it, if they are let in, and the handle has an arrival after it.
 pub record ClosesTold (admission : AdmissionSeen) (r : ArrivalSeen) (digest piece : List ℕ) (status : ℕ) (after : AdmissionSeen) (next : ArrivalSeen) : Type 0 where
   pub right : digest ≡ sha256 (digested r) → FeedsWithin admission r piece status after next
-  pub any : IsCompared admission r piece status after next ⊎ HasDenied admission r piece status after next
+  pub any : IsCompared admission r digest piece status after next ⊎ HasDenied admission r piece status after next
 
 -- A digest in hand is for that record alone: if other bytes come in its place, it is to be told anew.
 abbrev pub telling_at : ℕ → Telling

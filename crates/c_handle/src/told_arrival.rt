@@ -24,7 +24,7 @@ impl Arrival<Told> {
     ghost use Rattle.std.specs.Prelude.{◌≡◌, ◌↔◌, ℕ, List, IfErr, IfOk, IsTrue, false, length, true};
     ghost use Rattle.sha2.specs.Sha256.{sha256};
     ghost use Rattle.c_handle.specs.Awaited.{HasCome, IsAtHead, IsClosed, IsFed, RefusesUntouched, TellsOf, is_over};
-    ghost use Rattle.c_handle.specs.ToldArrival.{ClosesRight, DueAfter, IsBefore, IsDueAt, digested};
+    ghost use Rattle.c_handle.specs.ToldArrival.{ClosesRight, DueAfter, IsBefore, IsDueAt, MeetsRecordAt, digested};
     ghost use Rattle.receiver.specs.Opened.{told_by};
     ghost use Rattle.receiver.specs.Receiving.{place_aside};
     ghost use Rattle.c_handle.specs.Landing.{IsAwaitedAt};
@@ -136,6 +136,7 @@ impl Arrival<Told> {
     /// Takes the next bytes of that record, with the digest that was told. Nobody knows whose it is: it is compared with that of the record.
     pub(crate) fn close(&mut self, digest: &[u8; 32], rest: &[u8]) -> Result<(), RecvError>
         requires due { IsDueAt self.old rest.now }
+        ensures meets { MeetsRecordAt self.old digest.now rest.now result }
         ensures right { digest.now ≡ sha256 (digested self.old) → ClosesRight self.old rest.now result self.new }
         ensures closed { IfErr result (λ e. IsClosed self.old self.new) }
         ensures digests { IfOk result (λ x. digested self.new ≡ digested self.old) }
