@@ -115,10 +115,10 @@ few_askers m place found k sound asks is =
     let below : k < length (get_or (asked_of m) place.dev []) = asker_within (get_or (asked_of m) place.dev []) place.call k (sym asks ∙ is) in
     omega (arith, below, few_requests m place.dev sound)
 
-pub few_lent_askers : (p : ParkedSeen) (place : Place) (found : Option ℕ) (k : ℕ) → 1 ≤ length p.versions → length p.versions ≤ PAGES_GREATEST → WhateverRam p (λ m. IsSound (state_of (back_with p m))) → found ≡ asker_lent p place → found ≡ Some k → k < 8
+pub few_lent_askers : (p : ParkedSeen) (place : Place) (found : Option ℕ) (k : ℕ) → 1 ≤ length p.memory → length p.memory ≤ PAGES_GREATEST → WhateverRam p (λ m. IsSound (state_of (back_with p m))) → found ≡ asker_lent p place → found ≡ Some k → k < 8
 few_lent_askers p place found k some few sound asks is =
-    let m : Memory = record { bytes = replicate (4096 * length p.versions) 0; versions = p.versions; place = None } in
-    few_askers (state_of (back_with p m)) place found k (sound m (record { pages = length-replicate (4096 * length p.versions) 0; some = some; few = few }) (zero_bytes (4096 * length p.versions)) refl) asks is
+    let m : Memory = record { bytes = replicate (4096 * length p.memory) 0; versions = p.memory; place = None } in
+    few_askers (state_of (back_with p m)) place found k (sound m (record { pages = length-replicate (4096 * length p.memory) 0; some = some; few = few }) (zero_bytes (4096 * length p.memory)) refl) asks is
 
 -- A call that is handed out is what a request asks for, or its first sectors.
 record IsCut (requests : List Request) (k most : ℕ) (call : DiskCall) : Type 0 where

@@ -1,92 +1,112 @@
 -- What is told of a machine whose RAM is lent.
-use Rattle.std.proofs.Common.{◌≡◌, ◌≤◌, ◌*◌, ℕ, refl, length, replicate}
-use Rattle.std.specs.Prelude.{None, Some, Option, MatchOption, Result, Ok, Err, IfOk, slice_get}
+use Rattle.std.proofs.Common.{◌≡◌, ◌≤◌, ◌*◌, ℕ, List, refl, length, replicate}
+use Rattle.std.specs.Prelude.{None, Result, Ok, Err, IfOk, slice_get}
 use Rattle.std.proofs.lemmas.List.{length-replicate}
 use Rattle.blk.proofs.Zeros.{zero_bytes}
-use Rattle.guestmem.specs.Memory.{Memory}
+use Rattle.guestmem.specs.Memory.{IsMemory, Memory}
 use Rattle.machine.specs.Applied.{IsApplied}
 use Rattle.machine.specs.Direct.{done_reply}
+use Rattle.machine.specs.Known.{Lent}
+use Rattle.machine.specs.Over.{AppliesOver, calls_in, sectors_in}
 use Rattle.machine.specs.Parked.{IsAppliedParked, ParkedSeen, WhateverRam, back_with, parked_states}
 use Rattle.machine.specs.Seen.{state_of}
 use Rattle.machine.specs.Sound.{IsSound}
 use Rattle.machine.specs.declared.event.Event.{Event}
-use Rattle.machine.specs.declared.event.Event.TheVariants.{Resize, Drop}
+use Rattle.machine.specs.declared.event.Event.TheVariants.{RegRead, RegWrite, Input, Resize, Drop}
 use Rattle.machine.specs.declared.reply.Refusal.{Refusal}
 use Rattle.machine.specs.declared.reply.Reply.{Reply}
+use Rattle.machine.proofs.ParkedCalls.{applied_parked}
+use Rattle.machine.proofs.Quiet.{IsQuiet}
 use Rattle.sender.specs.Calls.{guest_reply}
-use Rattle.sender.specs.LiveState.{refusal_for}
+use Rattle.sender.specs.HereOrLent.{LeavesRest, ServesOver}
+use Rattle.sender.specs.LiveState.{live_with}
 use Rattle.sender.specs.Parked.{LiveParkedSeen}
-use Rattle.sender.specs.ParkedCalls.{GuestsParked, ServesParked}
-use Rattle.sender.specs.declared.event.LiveEvent.TheVariants.{Guest}
-use Rattle.sender.specs.declared.event.LiveReply.{LiveReply}
 use Rattle.sender.specs.declared.event.LiveReply.TheVariants as live
 use Rattle.sender.specs.declared.mig_error.MigError.{MigError}
+use Rattle.sender.proofs.ParkedServed.{served_parked}
 use Rattle.c_machine.specs.Status.{number_of, status_of}
 use Rattle.c_handle.specs.SendStatus.{live_status}
 use Rattle.c_handle.specs.Stepped.{sent_in}
 use Rattle.c_handle.specs.Told.{IsServedLent, IsToldLent, live_number}
-use Rattle.c_handle.proofs.ByKept.{drop_number, few_by, no_number, size_number}
+use Rattle.c_handle.proofs.ByKept.{applied_in, drop_number, few_by, no_number, size_number}
 
 -- An event of the machine with zeros in its RAM.
 abbrev pub zero_ram : ParkedSeen → Memory
-zero_ram p = record { bytes = replicate (4096 * length p.versions) 0; versions = p.versions; place = None }
+zero_ram p = record { bytes = replicate (4096 * length p.memory) 0; versions = p.memory; place = None }
 
-pub applied_at : (p next : ParkedSeen) (e : Event) (reply : Reply) → 1 ≤ length p.versions → length p.versions ≤ 4294967295 → IsAppliedParked p e reply next → IsApplied (back_with p (zero_ram p)) e reply (back_with next (zero_ram p))
-applied_at p next e reply some few a = (a.applied (zero_ram p) (record { pages = length-replicate (4096 * length p.versions) 0; some = some; few = few }) (zero_bytes (4096 * length p.versions)) refl).applied
+pub applied_at : (p next : ParkedSeen) (e : Event) (reply : Reply) → 1 ≤ length p.memory → length p.memory ≤ 4294967295 → IsAppliedParked p e reply next → IsApplied (back_with p (zero_ram p)) e reply (back_with next (zero_ram p))
+applied_at p next e reply some few a = (a.applied (zero_ram p) (record { pages = length-replicate (4096 * length p.memory) 0; some = some; few = few }) (zero_bytes (4096 * length p.memory)) refl).applied
 
-pub told : (p next : ParkedSeen) (e : Event) (reply : Reply) (status number n : ℕ) → IsAppliedParked p e reply next → status ≡ status_of reply → number ≡ number_of reply n → IsToldLent p e status number n next
-told p next e reply status number n applied is counted = record { reply = reply; applied = applied; status_is = is; number_is = counted }
+-- A call whose clauses are said of a machine here or lent.
+told : (p next : ParkedSeen) (e : Event) (reply : Reply) (status number n : ℕ) → IsQuiet e → AppliesOver Lent p e reply next → sectors_in next ≡ sectors_in p → calls_in next ≡ calls_in p → status ≡ status_of reply → number ≡ number_of reply n → IsToldLent p e status number n next
+told p next e reply status number n quiet h sectors calls is counted = record { reply = reply; applied = applied_parked p next e reply quiet h sectors calls; status_is = is; number_is = counted }
 
-pub told_so : (p next : ParkedSeen) (e : Event) (answer : Result (Unit {0}) Refusal) (status : ℕ) → IsAppliedParked p e (done_reply answer) next → status ≡ status_of (done_reply answer) → IsToldLent p e status 0 0 next
-told_so p next e answer status applied is = told p next e (done_reply answer) status 0 0 applied is (no_number answer)
+pub told_read : (p : ParkedSeen) (dev off width : ℕ) (reply : Reply) (status number n : ℕ) → AppliesOver Lent p (RegRead dev off width) reply p → status ≡ status_of reply → number ≡ number_of reply n → IsToldLent p (RegRead dev off width) status number n p
+told_read p dev off width reply status number n h is counted = told p p (RegRead dev off width) reply status number n tt h refl refl is counted
+
+pub told_write : (p next : ParkedSeen) (dev off width value : ℕ) (reply : Reply) (status number n : ℕ) → AppliesOver Lent p (RegWrite dev off width value) reply next → sectors_in next ≡ sectors_in p → calls_in next ≡ calls_in p → status ≡ status_of reply → number ≡ number_of reply n
+    → IsToldLent p (RegWrite dev off width value) status number n next
+told_write p next dev off width value reply status number n h sectors calls is counted = told p next (RegWrite dev off width value) reply status number n tt h sectors calls is counted
+
+pub told_input : (p next : ParkedSeen) (dev : ℕ) (bytes : List ℕ) (reply : Reply) (status number n : ℕ) → AppliesOver Lent p (Input dev bytes) reply next → sectors_in next ≡ sectors_in p → calls_in next ≡ calls_in p → status ≡ status_of reply → number ≡ number_of reply n
+    → IsToldLent p (Input dev bytes) status number n next
+told_input p next dev bytes reply status number n h sectors calls is counted = told p next (Input dev bytes) reply status number n tt h sectors calls is counted
+
+pub told_resize : (p next : ParkedSeen) (dev cols rows : ℕ) (answer : Result (Unit {0}) Refusal) (status : ℕ) → AppliesOver Lent p (Resize dev cols rows) (done_reply answer) next → sectors_in next ≡ sectors_in p → calls_in next ≡ calls_in p → status ≡ status_of (done_reply answer)
+    → IsToldLent p (Resize dev cols rows) status 0 0 next
+told_resize p next dev cols rows answer status h sectors calls is = told p next (Resize dev cols rows) (done_reply answer) status 0 0 tt h sectors calls is (no_number answer)
+
+pub told_drop : (p next : ParkedSeen) (dev : ℕ) (answer : Result (Unit {0}) Refusal) (status : ℕ) → AppliesOver Lent p (Drop dev) (done_reply answer) next → sectors_in next ≡ sectors_in p → calls_in next ≡ calls_in p → status ≡ status_of (done_reply answer) → IsToldLent p (Drop dev) status 0 0 next
+told_drop p next dev answer status h sectors calls is = told p next (Drop dev) (done_reply answer) status 0 0 tt h sectors calls is (no_number answer)
 
 -- Of one that is sent.
-pub served : (l next : LiveParkedSeen) (e : Event) (reply : LiveReply) (status number n : ℕ) → ServesParked l e reply next → status ≡ live_status reply → number ≡ live_number reply n → IsServedLent l e status number n next
-served l next e reply status number n serves told counted = record { reply = reply; serves = serves; status_is = told; number_is = counted }
+served : (l next : LiveParkedSeen) (e : Event) (answer : Result Reply MigError) (status number n : ℕ) → IsQuiet e → ServesOver Lent l e (guest_reply answer) next → LeavesRest l answer next → status ≡ live_status (guest_reply answer) → number ≡ live_number (guest_reply answer) n
+    → IsServedLent l e status number n next
+served l next e answer status number n quiet h left is counted = record { reply = guest_reply answer; serves = served_parked l next e answer quiet h left; status_is = is; number_is = counted }
+
+pub served_read : (l : LiveParkedSeen) (dev off width : ℕ) (answer : Result Reply MigError) (status number n : ℕ) → ServesOver Lent l (RegRead dev off width) (guest_reply answer) l → LeavesRest l answer l → status ≡ live_status (guest_reply answer) → number ≡ live_number (guest_reply answer) n
+    → IsServedLent l (RegRead dev off width) status number n l
+served_read l dev off width answer status number n h left is counted = served l l (RegRead dev off width) answer status number n tt h left is counted
+
+pub served_write : (l next : LiveParkedSeen) (dev off width value : ℕ) (answer : Result Reply MigError) (status number n : ℕ) → ServesOver Lent l (RegWrite dev off width value) (guest_reply answer) next → LeavesRest l answer next → status ≡ live_status (guest_reply answer)
+    → number ≡ live_number (guest_reply answer) n → IsServedLent l (RegWrite dev off width value) status number n next
+served_write l next dev off width value answer status number n h left is counted = served l next (RegWrite dev off width value) answer status number n tt h left is counted
+
+pub served_input : (l next : LiveParkedSeen) (dev : ℕ) (bytes : List ℕ) (answer : Result Reply MigError) (status number n : ℕ) → ServesOver Lent l (Input dev bytes) (guest_reply answer) next → LeavesRest l answer next → status ≡ live_status (guest_reply answer)
+    → number ≡ live_number (guest_reply answer) n → IsServedLent l (Input dev bytes) status number n next
+served_input l next dev bytes answer status number n h left is counted = served l next (Input dev bytes) answer status number n tt h left is counted
+
+-- The event with zeros in RAM.
+served_at : (l next : LiveParkedSeen) (e : Event) (reply : Reply) → 1 ≤ length l.machine.memory → length l.machine.memory ≤ 4294967295 → ServesOver Lent l e (live.Guest reply) next → IsApplied (back_with l.machine (zero_ram l.machine)) e reply (back_with next.machine (zero_ram l.machine))
+served_at l next e reply some few h =
+    let zeros : Memory = zero_ram l.machine in
+    let mem : IsMemory zeros = record { pages = length-replicate (4096 * length l.machine.memory) 0; some = some; few = few } in
+    applied_in (live_with l zeros) (live_with next zeros) e reply (h.1 zeros mem (zero_bytes (4096 * length l.machine.memory)) refl)
 
 abbrev IsSoundBack : ParkedSeen → Type 0
 IsSoundBack p = WhateverRam p (λ m. IsSound (state_of (back_with p m)))
 
-sound_at : (p : ParkedSeen) → 1 ≤ length p.versions → length p.versions ≤ 4294967295 → IsSoundBack p → IsSound (state_of (back_with p (zero_ram p)))
-sound_at p some few sound = sound (zero_ram p) (record { pages = length-replicate (4096 * length p.versions) 0; some = some; few = few }) (zero_bytes (4096 * length p.versions)) refl
+sound_at : (p : ParkedSeen) → 1 ≤ length p.memory → length p.memory ≤ 4294967295 → IsSoundBack p → IsSound (state_of (back_with p (zero_ram p)))
+sound_at p some few sound = sound (zero_ram p) (record { pages = length-replicate (4096 * length p.memory) 0; some = some; few = few }) (zero_bytes (4096 * length p.memory)) refl
 
-few_for : (o : Option MigError) (l next : LiveParkedSeen) (e : Event) (answer : Result Reply MigError) → 1 ≤ length l.parked.versions → length l.parked.versions ≤ 4294967295 → IsSoundBack l.parked
-    → MatchOption o (GuestsParked l e (guest_reply answer) next) (λ x. (guest_reply answer ≡ live.Mig x) × (next ≡ l)) → IfOk answer (λ reply. length (sent_in reply) ≤ 65536)
-few_for None l next e (Ok reply) some few sound after = few_by (back_with l.parked (zero_ram l.parked)) (back_with next.parked (zero_ram l.parked)) e reply (sound_at l.parked some few sound) (applied_at l.parked next.parked e reply some few after.applied)
-few_for (Some x) l next e (Ok reply) some few sound after = let other : live.Guest reply ≡ live.Mig x = after.0 in absurd cc
-few_for o l next e (Err x) some few sound after = tt
-
-pub few_told : (l next : LiveParkedSeen) (e : Event) (answer : Result Reply MigError) → 1 ≤ length l.parked.versions → length l.parked.versions ≤ 4294967295 → WhateverRam l.parked (λ m. IsSound (state_of (back_with l.parked m))) → ServesParked l e (guest_reply answer) next → IfOk answer (λ reply. length (sent_in reply) ≤ 65536)
-few_told l next e answer some few sound serves = few_for (refusal_for l.phase (Guest e)) l next e answer some few sound serves
+pub few_told : (l next : LiveParkedSeen) (e : Event) (answer : Result Reply MigError) → 1 ≤ length l.machine.memory → length l.machine.memory ≤ 4294967295 → WhateverRam l.machine (λ m. IsSound (state_of (back_with l.machine m))) → ServesOver Lent l e (guest_reply answer) next
+    → IfOk answer (λ reply. length (sent_in reply) ≤ 65536)
+few_told l next e (Ok reply) some few sound h = few_by (back_with l.machine (zero_ram l.machine)) (back_with next.machine (zero_ram l.machine)) e reply (sound_at l.machine some few sound) (served_at l next e reply some few h)
+few_told l next e (Err x) some few sound h = tt
 
 -- A size and a drop have no number.
-without : (o : Option MigError) (l next : LiveParkedSeen) (e : Event) (reply : LiveReply) → 1 ≤ length l.parked.versions → length l.parked.versions ≤ 4294967295
-    → ((r : Reply) → IsApplied (back_with l.parked (zero_ram l.parked)) e r (back_with next.parked (zero_ram l.parked)) → 0 ≡ number_of r 0) → MatchOption o (GuestsParked l e reply next) (λ x. (reply ≡ live.Mig x) × (next ≡ l)) → 0 ≡ live_number reply 0
-without None l next e (live.Guest r) some few quiet after = quiet r (applied_at l.parked next.parked e r some few after.applied)
-without None l next e (live.Begun k) some few quiet after = absurd after
-without None l next e (live.Copied item) some few quiet after = absurd after
-without None l next e live.RoundDone some few quiet after = absurd after
-without None l next e live.RoundOpen some few quiet after = absurd after
-without None l next e (live.Stopped pages sectors) some few quiet after = absurd after
-without None l next e (live.Mig x) some few quiet after = absurd after
-without (Some x) l next e reply some few quiet after = rw (after.0) refl
+without : (l next : LiveParkedSeen) (e : Event) (answer : Result Reply MigError) → 1 ≤ length l.machine.memory → length l.machine.memory ≤ 4294967295
+    → ((r : Reply) → IsApplied (back_with l.machine (zero_ram l.machine)) e r (back_with next.machine (zero_ram l.machine)) → 0 ≡ number_of r 0) → ServesOver Lent l e (guest_reply answer) next → 0 ≡ live_number (guest_reply answer) 0
+without l next e (Ok r) some few none h = none r (served_at l next e r some few h)
+without l next e (Err x) some few none h = refl
 
-pub resized : (l next : LiveParkedSeen) (dev cols rows : ℕ) (answer : Result Reply MigError) (status : ℕ) → 1 ≤ length l.parked.versions → length l.parked.versions ≤ 4294967295 → ServesParked l (Resize dev cols rows) (guest_reply answer) next → status ≡ live_status (guest_reply answer)
-    → IsServedLent l (Resize dev cols rows) status 0 0 next
-resized l next dev cols rows answer status some few serves told = record {
-  reply = guest_reply answer;
-  serves = serves;
-  status_is = told;
-  number_is =
-      without (refusal_for l.phase (Guest (Resize dev cols rows))) l next (Resize dev cols rows) (guest_reply answer) some few
-      (λ r applied. rw (applied.has.reply_is) (size_number dev (slice_get (parked_states l.parked) dev) (record { columns = cols; rows = rows }))) serves;
-}
+pub resized : (l next : LiveParkedSeen) (dev cols rows : ℕ) (answer : Result Reply MigError) (status : ℕ) → 1 ≤ length l.machine.memory → length l.machine.memory ≤ 4294967295 → ServesOver Lent l (Resize dev cols rows) (guest_reply answer) next → LeavesRest l answer next
+    → status ≡ live_status (guest_reply answer) → IsServedLent l (Resize dev cols rows) status 0 0 next
+resized l next dev cols rows answer status some few h left told =
+    served l next (Resize dev cols rows) answer status 0 0 tt h left told
+    (without l next (Resize dev cols rows) answer some few (λ r applied. rw (applied.has.reply_is) (size_number dev (slice_get (parked_states l.machine) dev) (record { columns = cols; rows = rows }))) h)
 
-pub dropped : (l next : LiveParkedSeen) (dev : ℕ) (answer : Result Reply MigError) (status : ℕ) → 1 ≤ length l.parked.versions → length l.parked.versions ≤ 4294967295 → ServesParked l (Drop dev) (guest_reply answer) next → status ≡ live_status (guest_reply answer)
-    → IsServedLent l (Drop dev) status 0 0 next
-dropped l next dev answer status some few serves told = record {
-  reply = guest_reply answer;
-  serves = serves;
-  status_is = told;
-  number_is = without (refusal_for l.phase (Guest (Drop dev))) l next (Drop dev) (guest_reply answer) some few (λ r applied. rw (applied.has.reply_is) (drop_number dev (slice_get (parked_states l.parked) dev))) serves;
-}
+pub dropped : (l next : LiveParkedSeen) (dev : ℕ) (answer : Result Reply MigError) (status : ℕ) → 1 ≤ length l.machine.memory → length l.machine.memory ≤ 4294967295 → ServesOver Lent l (Drop dev) (guest_reply answer) next → LeavesRest l answer next
+    → status ≡ live_status (guest_reply answer) → IsServedLent l (Drop dev) status 0 0 next
+dropped l next dev answer status some few h left told =
+    served l next (Drop dev) answer status 0 0 tt h left told (without l next (Drop dev) answer some few (λ r applied. rw (applied.has.reply_is) (drop_number dev (slice_get (parked_states l.machine) dev))) h)

@@ -114,7 +114,7 @@ keeps_in (Still m) calls dev off width value none goes = λ drops. not_both (is_
 keeps_in (Moving l) calls dev off width value none goes = λ drops. not_all (is_out_of calls dev) (is_closed l.phase) (machines.drops_of (state_of l.machine) dev off width value) none (goes_of (is_closed l.phase) _ goes) drops
 keeps_in (Arriving r) calls dev off width value none goes = absurd cc
 keeps_in (Lent (StillLent p)) calls dev off width value none goes = λ drops. not_both (is_out_of calls dev) (machines.drops_in (slice_get (parked_states p) dev) off width value) none drops
-keeps_in (Lent (MovingLent l)) calls dev off width value none goes = λ drops. not_all (is_out_of calls dev) (is_closed l.phase) (machines.drops_in (slice_get (parked_states l.parked) dev) off width value) none (goes_of (is_closed l.phase) _ goes) drops
+keeps_in (Lent (MovingLent l)) calls dev off width value none goes = λ drops. not_all (is_out_of calls dev) (is_closed l.phase) (machines.drops_in (slice_get (parked_states l.machine) dev) off width value) none (goes_of (is_closed l.phase) _ goes) drops
 
 wrote : (drops : Bool) (k : KeptSeen) (next : State) (dev off width value status byte before : ℕ) → HasRam k.state → drops_out k dev off width value ≡ drops → WritesIf drops k.state dev off width value status byte before next → Comes k (as_state k next)
 wrote true k next dev off width value status byte before pages is w = stays k (as_state k next) pages w.1 refl
@@ -346,8 +346,8 @@ met_parked None given p next dev pages h = (ap parked_states h, subst (λ (x : P
 met_parked (Some k) given p next dev pages h = (parked_step p next (Disk dev (k + 1) given) h.0 pages h.1, same_pages p next h.1.versions pages)
 
 met_live_parked : (found : Option ℕ) (given : DiskAnswer) (l next : LiveParkedSeen) (dev : ℕ) → stop_refusal l.phase ≡ None → HasRam (Lent (MovingLent l)) → MeetsLiveParked found given l dev next
-    → GoesFor (parked_states l.parked) dev given found (parked_states next.parked) × HasRam (Lent (MovingLent next))
-met_live_parked None given l next dev goes pages h = (ap (λ (x : LiveParkedSeen). parked_states x.parked) h, subst (λ (x : LiveParkedSeen). HasRam (Lent (MovingLent x))) (sym h) pages)
+    → GoesFor (parked_states l.machine) dev given found (parked_states next.machine) × HasRam (Lent (MovingLent next))
+met_live_parked None given l next dev goes pages h = (ap (λ (x : LiveParkedSeen). parked_states x.machine) h, subst (λ (x : LiveParkedSeen). HasRam (Lent (MovingLent x))) (sym h) pages)
 met_live_parked (Some k) given l next dev goes pages h =
     let e = Disk dev (k + 1) given in
     let both = parked_guest_step (refusal_for l.phase (Guest e)) l next e h.0 (going_for l.phase e goes) pages h.1 in
@@ -358,7 +358,7 @@ met_in : (place : Place) (given : DiskAnswer) (s next : State) (log new_log : Op
 met_in place given (Still m) (Still next) log new_log pages goes h = met_still (asker_of (state_of m) place) given m next log new_log place.dev pages h
 met_in place given (Moving l) (Moving next) log new_log pages goes h = met_moving (asker_of (state_of l.machine) place) given l next log new_log place.dev goes pages h
 met_in place given (Lent (StillLent p)) (Lent (StillLent next)) log new_log pages goes h = met_parked (asker_in (parked_states p) place.dev place.call) given p next place.dev pages h.0
-met_in place given (Lent (MovingLent l)) (Lent (MovingLent next)) log new_log pages goes h = met_live_parked (asker_in (parked_states l.parked) place.dev place.call) given l next place.dev goes pages h.0
+met_in place given (Lent (MovingLent l)) (Lent (MovingLent next)) log new_log pages goes h = met_live_parked (asker_in (parked_states l.machine) place.dev place.call) given l next place.dev goes pages h.0
 met_in place given (Lent (StillLent p)) (Lent (MovingLent next)) log new_log pages goes h = absurd h.0
 met_in place given (Lent (MovingLent l)) (Lent (StillLent next)) log new_log pages goes h = absurd h.0
 met_in place given _ _ log new_log pages goes h = absurd h

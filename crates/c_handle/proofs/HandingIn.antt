@@ -49,47 +49,47 @@ one_least due a b x y other = elim (either_way (nat_lt a b)) as (λ _. ⊥) [
 ]
 
 -- By whether the page is refused, and by what is next.
-pub page_refused : (p : LiveParkedSeen) (page status : ℕ) (bytes : List ℕ) (answer : Option ℕ) → answer ≡ Some status → answer ≡ page_refusal (send_refusal p.phase) (length p.parked.versions) page → HandsPage p page bytes status p
+pub page_refused : (p : LiveParkedSeen) (page status : ℕ) (bytes : List ℕ) (answer : Option ℕ) → answer ≡ Some status → answer ≡ page_refusal (send_refusal p.phase) (length p.machine.memory) page → HandsPage p page bytes status p
 page_refused p page status bytes answer is asked = rw (sym asked ∙ is) (refl, refl)
 
-pub none_next : (p : LiveParkedSeen) (page : ℕ) (bytes : List ℕ) (answer next : Option ℕ) → answer ≡ None → answer ≡ page_refusal (send_refusal p.phase) (length p.parked.versions) page → IsNextPage (length p.parked.versions) p.due next → next ≡ None → HandsPage p page bytes 32 p
+pub none_next : (p : LiveParkedSeen) (page : ℕ) (bytes : List ℕ) (answer next : Option ℕ) → answer ≡ None → answer ≡ page_refusal (send_refusal p.phase) (length p.machine.memory) page → IsNextPage (length p.machine.memory) p.due next → next ≡ None → HandsPage p page bytes 32 p
 none_next p page bytes answer next is asked is_next none =
-    let inside : page < length p.parked.versions = there (send_refusal p.phase) answer (length p.parked.versions) page asked is in
-    let out : has p.due page ≡ false = subst (IsNextPage (length p.parked.versions) p.due) none is_next page inside in
+    let inside : page < length p.machine.memory = there (send_refusal p.phase) answer (length p.machine.memory) page asked is in
+    let out : has p.due page ≡ false = subst (IsNextPage (length p.machine.memory) p.due) none is_next page inside in
     rw (sym asked ∙ is) (inr (record { another = λ least. true≢false (sym least.member ∙ out); status_is = refl; same = refl }))
 
-pub other_next : (p : LiveParkedSeen) (page other : ℕ) (bytes : List ℕ) (answer next : Option ℕ) → answer ≡ None → answer ≡ page_refusal (send_refusal p.phase) (length p.parked.versions) page → IsNextPage (length p.parked.versions) p.due next → next ≡ Some other
+pub other_next : (p : LiveParkedSeen) (page other : ℕ) (bytes : List ℕ) (answer next : Option ℕ) → answer ≡ None → answer ≡ page_refusal (send_refusal p.phase) (length p.machine.memory) page → IsNextPage (length p.machine.memory) p.due next → next ≡ Some other
     → other ≢ page → HandsPage p page bytes 32 p
 other_next p page other bytes answer next is asked is_next some differs =
-    let found : IsLeast p.due 0 other = (subst (IsNextPage (length p.parked.versions) p.due) some is_next).0 in
+    let found : IsLeast p.due 0 other = (subst (IsNextPage (length p.machine.memory) p.due) some is_next).0 in
     rw (sym asked ∙ is) (inr (record { another = λ least. one_least p.due other page found least differs; status_is = refl; same = refl }))
 
-pub next_is : (p : LiveParkedSeen) (page other : ℕ) (next : Option ℕ) → IsNextPage (length p.parked.versions) p.due next → next ≡ Some other → other ≡ page → IsLeast p.due 0 page
-next_is p page other next is_next some same = subst (IsLeast p.due 0) same (subst (IsNextPage (length p.parked.versions) p.due) some is_next).0
+pub next_is : (p : LiveParkedSeen) (page other : ℕ) (next : Option ℕ) → IsNextPage (length p.machine.memory) p.due next → next ≡ Some other → other ≡ page → IsLeast p.due 0 page
+next_is p page other next is_next some same = subst (IsLeast p.due 0) same (subst (IsNextPage (length p.machine.memory) p.due) some is_next).0
 
-pub next_is_inside : (p : LiveParkedSeen) (page : ℕ) (answer : Option ℕ) → answer ≡ None → answer ≡ page_refusal (send_refusal p.phase) (length p.parked.versions) page → page < length p.parked.versions
-next_is_inside p page answer is asked = there (send_refusal p.phase) answer (length p.parked.versions) page asked is
+pub next_is_inside : (p : LiveParkedSeen) (page : ℕ) (answer : Option ℕ) → answer ≡ None → answer ≡ page_refusal (send_refusal p.phase) (length p.machine.memory) page → page < length p.machine.memory
+next_is_inside p page answer is asked = there (send_refusal p.phase) answer (length p.machine.memory) page asked is
 
-pub handed : (p next : LiveParkedSeen) (page other status : ℕ) (bytes : List ℕ) (answer found : Option ℕ) (result : Result (Unit {0}) MigError) → answer ≡ None → answer ≡ page_refusal (send_refusal p.phase) (length p.parked.versions) page
-    → IsNextPage (length p.parked.versions) p.due found → found ≡ Some other → other ≡ page → HandsInPage p page bytes result next → status ≡ handed_status result → HandsPage p page bytes status next
+pub handed : (p next : LiveParkedSeen) (page other status : ℕ) (bytes : List ℕ) (answer found : Option ℕ) (result : Result (Unit {0}) MigError) → answer ≡ None → answer ≡ page_refusal (send_refusal p.phase) (length p.machine.memory) page
+    → IsNextPage (length p.machine.memory) p.due found → found ≡ Some other → other ≡ page → HandsInPage p page bytes result next → status ≡ handed_status result → HandsPage p page bytes status next
 handed p next page other status bytes answer found result is asked is_next some same hands told =
     rw (sym asked ∙ is) (inl (record { result = result; is_next = next_is p page other found is_next some same; hands = hands; status_is = told }))
 
 -- RAM has as many pages after it.
-handed_by : (p next : LiveParkedSeen) (page : ℕ) (bytes : List ℕ) (result : Result (Unit {0}) MigError) → HandsInBy p page bytes result next → next.parked ≡ p.parked
-handed_by p next page bytes (Ok x) h = ap (λ (q : LiveParkedSeen). q.parked) h.rest
-handed_by p next page bytes (Err errors.StreamFailed) h = ap (λ (q : LiveParkedSeen). q.parked) h.rest
+handed_by : (p next : LiveParkedSeen) (page : ℕ) (bytes : List ℕ) (result : Result (Unit {0}) MigError) → HandsInBy p page bytes result next → next.machine ≡ p.machine
+handed_by p next page bytes (Ok x) h = ap (λ (q : LiveParkedSeen). q.machine) h.rest
+handed_by p next page bytes (Err errors.StreamFailed) h = ap (λ (q : LiveParkedSeen). q.machine) h.rest
 handed_by p next page bytes (Err errors.NotBegun) h = absurd h
 handed_by p next page bytes (Err errors.AlreadyBegun) h = absurd h
 handed_by p next page bytes (Err (errors.DiskFailed dev n)) h = absurd h
 handed_by p next page bytes (Err errors.AlreadyStopped) h = absurd h
 handed_by p next page bytes (Err errors.RoundsEnded) h = absurd h
 
-handed_unless : (o : Option MigError) (p next : LiveParkedSeen) (page : ℕ) (bytes : List ℕ) (result : Result (Unit {0}) MigError) → MatchOption o (HandsInBy p page bytes result next) (λ x. (result ≡ Err x) × (next ≡ p)) → next.parked ≡ p.parked
+handed_unless : (o : Option MigError) (p next : LiveParkedSeen) (page : ℕ) (bytes : List ℕ) (result : Result (Unit {0}) MigError) → MatchOption o (HandsInBy p page bytes result next) (λ x. (result ≡ Err x) × (next ≡ p)) → next.machine ≡ p.machine
 handed_unless None p next page bytes result h = handed_by p next page bytes result h
-handed_unless (Some x) p next page bytes result h = ap (λ (q : LiveParkedSeen). q.parked) h.1
+handed_unless (Some x) p next page bytes result h = ap (λ (q : LiveParkedSeen). q.machine) h.1
 
-pub hands_same : (o : Option ℕ) (p next : LiveParkedSeen) (page status : ℕ) (bytes : List ℕ) → Unless o (λ reason. (status ≡ reason) × (next ≡ p)) (HandsNext p page bytes status next ⊎ IsNotNext p page status next) → next.parked ≡ p.parked
-hands_same (Some reason) p next page status bytes h = ap (λ (q : LiveParkedSeen). q.parked) h.1
+pub hands_same : (o : Option ℕ) (p next : LiveParkedSeen) (page status : ℕ) (bytes : List ℕ) → Unless o (λ reason. (status ≡ reason) × (next ≡ p)) (HandsNext p page bytes status next ⊎ IsNotNext p page status next) → next.machine ≡ p.machine
+hands_same (Some reason) p next page status bytes h = ap (λ (q : LiveParkedSeen). q.machine) h.1
 hands_same None p next page status bytes (inl h) = handed_unless (refusal_for p.phase Copy) p next page bytes h.result h.hands
-hands_same None p next page status bytes (inr h) = ap (λ (q : LiveParkedSeen). q.parked) h.same
+hands_same None p next page status bytes (inr h) = ap (λ (q : LiveParkedSeen). q.machine) h.same

@@ -73,13 +73,13 @@ by_guest (Some x) l next e reply is few s = inl (ap Moving s.1)
 by_guest None l next e reply is few s = let both = guest_step None l next e reply refl few s in inr (goes_by l.phase e is, both.0, both.1)
 
 -- One whose RAM is lent: its step is that with zeros in RAM.
-pub parked_step : (p next : ParkedSeen) (e : Event) (reply : Reply) → (1 ≤ length p.versions) × (length p.versions ≤ 4294967295) → IsAppliedParked p e reply next → IsStepOf (parked_states p) e (parked_states next)
+pub parked_step : (p next : ParkedSeen) (e : Event) (reply : Reply) → (1 ≤ length p.memory) × (length p.memory ≤ 4294967295) → IsAppliedParked p e reply next → IsStepOf (parked_states p) e (parked_states next)
 parked_step p next e reply pages applied = applied_step (back_with p (zero_ram p)) (back_with next (zero_ram p)) e reply (applied_at p next e reply pages.0 pages.1 applied)
 
 pub parked_guest_step : (o : Option MigError) (l next : LiveParkedSeen) (e : Event) (reply : LiveReply) → o ≡ None → HasRam (Lent (MovingLent l)) → MatchOption o (GuestsParked l e reply next) (λ x. (reply ≡ live.Mig x) × (next ≡ l))
-    → HasRam (Lent (MovingLent next)) × IsStepOf (parked_states l.parked) e (parked_states next.parked)
+    → HasRam (Lent (MovingLent next)) × IsStepOf (parked_states l.machine) e (parked_states next.machine)
 parked_guest_step (Some x) l next e reply goes pages s = absurd cc
-parked_guest_step None l next e (live.Guest r) goes pages s = (same_pages l.parked next.parked s.applied.versions pages, parked_step l.parked next.parked e r pages s.applied)
+parked_guest_step None l next e (live.Guest r) goes pages s = (same_pages l.machine next.machine s.applied.versions pages, parked_step l.machine next.machine e r pages s.applied)
 parked_guest_step None l next e (live.Begun round) goes pages s = absurd s
 parked_guest_step None l next e (live.Copied item) goes pages s = absurd s
 parked_guest_step None l next e live.RoundDone goes pages s = absurd s

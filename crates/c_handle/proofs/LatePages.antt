@@ -60,8 +60,8 @@ pages_below_still k m pages is are = below (length m.memory.versions) pages (ap 
 pub pages_below_moving : (k : State) (l : LiveSeen) (pages : List ℕ) → k ≡ Moving l → are_pages (all_pages k) pages ≡ true → AreBelow (length l.machine.memory.versions) pages
 pages_below_moving k l pages is are = below (length l.machine.memory.versions) pages (ap (λ (x : State). are_pages (all_pages x) pages) (sym is) ∙ are)
 
-pub pages_below_lent : (k : State) (p : LiveParkedSeen) (pages : List ℕ) → k ≡ Lent (MovingLent p) → are_pages (all_pages k) pages ≡ true → AreBelow (length p.parked.versions) pages
-pages_below_lent k p pages is are = below (length p.parked.versions) pages (ap (λ (x : State). are_pages (all_pages x) pages) (sym is) ∙ are)
+pub pages_below_lent : (k : State) (p : LiveParkedSeen) (pages : List ℕ) → k ≡ Lent (MovingLent p) → are_pages (all_pages k) pages ≡ true → AreBelow (length p.machine.memory) pages
+pages_below_lent k p pages is are = below (length p.machine.memory) pages (ap (λ (x : State). are_pages (all_pages x) pages) (sym is) ∙ are)
 
 pub marked_still : (k : State) (m next : Seen) (pages : List ℕ) → k ≡ Still m → next ≡ machine_marked m pages → IsMarked k pages (Still next)
 marked_still k m next pages is marked = subst (λ (x : State). IsMarked x pages (Still next)) (sym is) marked

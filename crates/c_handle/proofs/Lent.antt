@@ -27,8 +27,8 @@ two_tests true false a b rest is = absurd cc
 two_tests true true a b rest is = (refl, is)
 
 pub record IsGone (x : LoanSeen) (bytes : ℕ) (pages : Pages) : Type 0 where
-  pub long : bytes ≡ 4096 * length (parked_in x).versions
-  pub fit : pages_refusal pages (length (parked_in x).versions) ≡ None
+  pub long : bytes ≡ 4096 * length (parked_in x).memory
+  pub fit : pages_refusal pages (length (parked_in x).memory) ≡ None
 
 pub record IsOut (k : State) (bytes : ℕ) (pages : Pages) : Type 0 where
   pub loan : LoanSeen
@@ -40,15 +40,15 @@ out (Still m) bytes pages none = absurd cc
 out (Moving l) bytes pages none = absurd cc
 out (Arriving r) bytes pages none = absurd cc
 out (Lent x) bytes pages none =
-    let tests = two_tests (is_known_pages pages) (bytes == 4096 * length (parked_in x).versions) _ _ (pages_refusal pages (length (parked_in x).versions)) none in
-    record { loan = x; is = refl; gone = record { long = eq_of bytes (4096 * length (parked_in x).versions) tests.0; fit = tests.1 } }
+    let tests = two_tests (is_known_pages pages) (bytes == 4096 * length (parked_in x).memory) _ _ (pages_refusal pages (length (parked_in x).memory)) none in
+    record { loan = x; is = refl; gone = record { long = eq_of bytes (4096 * length (parked_in x).memory) tests.0; fit = tests.1 } }
 
 -- The pages that are named are pages.
 returnable : (k : State) (ram old : Slot) (pages : Pages) (numbers : List ℕ) (answer : Option ℕ) → answer ≡ back_refusal_of k (length old.content) pages → answer ≡ None → ram ≡ old
     → ((count : ℕ) → pages_refusal pages count ≡ None → count ≡ lent_pages k → are_pages count numbers ≡ true) → IsReturnable k (length ram.content) numbers
 returnable k ram old pages numbers answer is none same are =
     let o = out k (length old.content) pages (sym is ∙ none) in
-    let here : IsReturnable (Lent o.loan) (length ram.content) numbers = (ap (λ (s : Slot). length s.content) same ∙ o.gone.long, are (length (parked_in o.loan).versions) o.gone.fit (ap lent_pages (sym o.is))) in
+    let here : IsReturnable (Lent o.loan) (length ram.content) numbers = (ap (λ (s : Slot). length s.content) same ∙ o.gone.long, are (length (parked_in o.loan).memory) o.gone.fit (ap lent_pages (sym o.is))) in
     subst (λ (x : State). IsReturnable x (length ram.content) numbers) (sym o.is) here
 
 pub returnable_list : (k : State) (ram old : Slot) (pages : Pages) (answer : Option ℕ) → answer ≡ back_refusal_of k (length old.content) pages → answer ≡ None → ram ≡ old → IsReturnable k (length ram.content) pages.list.now

@@ -59,25 +59,25 @@ none_at_end most left due p mid end counted nothing way = at_end most left 76 p 
 pub some_refused : (p : LiveParkedSeen) (most status : ℕ) (answer : Option ℕ) → answer ≡ Some status → answer ≡ send_refusal p.phase → SendsSomeLent p most status p
 some_refused p most status answer is asked = rw (sym asked ∙ is) (refl, refl)
 
-some_by : (p next : LiveParkedSeen) (most status : ℕ) (answer page : Option ℕ) → answer ≡ None → answer ≡ send_refusal p.phase → IsNextPage (length p.parked.versions) p.due page → SendsBy page most p status next → SendsSomeLent p most status next
+some_by : (p next : LiveParkedSeen) (most status : ℕ) (answer page : Option ℕ) → answer ≡ None → answer ≡ send_refusal p.phase → IsNextPage (length p.machine.memory) p.due page → SendsBy page most p status next → SendsSomeLent p most status next
 some_by p next most status answer page is asked is_next sends = rw (sym asked ∙ is) (record { page = page; is_next = is_next; sends = sends })
 
-pub page_first : (p : LiveParkedSeen) (most n : ℕ) (answer page : Option ℕ) → answer ≡ None → answer ≡ send_refusal p.phase → IsNextPage (length p.parked.versions) p.due page → page ≡ Some n → SendsSomeLent p most 23 p
-page_first p most n answer page is asked is_next some = some_by p p most 23 answer (Some n) is asked (subst (IsNextPage (length p.parked.versions) p.due) some is_next) (refl, refl)
+pub page_first : (p : LiveParkedSeen) (most n : ℕ) (answer page : Option ℕ) → answer ≡ None → answer ≡ send_refusal p.phase → IsNextPage (length p.machine.memory) p.due page → page ≡ Some n → SendsSomeLent p most 23 p
+page_first p most n answer page is asked is_next some = some_by p p most 23 answer (Some n) is asked (subst (IsNextPage (length p.machine.memory) p.due) some is_next) (refl, refl)
 
-pub sectors_sent : (p next : LiveParkedSeen) (most status : ℕ) (answer page : Option ℕ) → answer ≡ None → answer ≡ send_refusal p.phase → IsNextPage (length p.parked.versions) p.due page → page ≡ None → SectorsUpTo most p status next → SendsSomeLent p most status next
-sectors_sent p next most status answer page is asked is_next none sends = some_by p next most status answer None is asked (subst (IsNextPage (length p.parked.versions) p.due) none is_next) sends
+pub sectors_sent : (p next : LiveParkedSeen) (most status : ℕ) (answer page : Option ℕ) → answer ≡ None → answer ≡ send_refusal p.phase → IsNextPage (length p.machine.memory) p.due page → page ≡ None → SectorsUpTo most p status next → SendsSomeLent p most status next
+sectors_sent p next most status answer page is asked is_next none sends = some_by p next most status answer None is asked (subst (IsNextPage (length p.machine.memory) p.due) none is_next) sends
 
 pub ended : (p next : LiveParkedSeen) (reply : LiveReply) (status : ℕ) → EndsLent p reply next → status ≡ live_status reply → HasEndedLent p status next
 ended p next reply status ends told = record { reply = reply; ends = ends; status_is = told }
 
 -- Devices and the count of pages are as they were.
 pub record IsSameLent (p next : LiveParkedSeen) : Type 0 where
-  pub states : parked_states next.parked ≡ parked_states p.parked
-  pub versions : next.parked.versions ≡ p.parked.versions
+  pub states : parked_states next.machine ≡ parked_states p.machine
+  pub versions : next.machine.memory ≡ p.machine.memory
 
 same_lent : (p next : LiveParkedSeen) → next ≡ p → IsSameLent p next
-same_lent p next same = record { states = ap (λ (x : LiveParkedSeen). parked_states x.parked) same; versions = ap (λ (x : LiveParkedSeen). x.parked.versions) same }
+same_lent p next same = record { states = ap (λ (x : LiveParkedSeen). parked_states x.machine) same; versions = ap (λ (x : LiveParkedSeen). x.machine.memory) same }
 
 then_same : (p mid next : LiveParkedSeen) → IsSameLent p mid → IsSameLent mid next → IsSameLent p next
 then_same p mid next a b = record { states = b.states ∙ a.states; versions = b.versions ∙ a.versions }
@@ -108,4 +108,4 @@ some_same (Some reason) p next most status s = same_lent p next s.1
 some_same None p next most status s = by_same s.page p next most status s.sends
 
 pub ended_same : (p next : LiveParkedSeen) (status : ℕ) → HasEndedLent p status next → IsSameLent p next
-ended_same p next status h = record { states = ap parked_states h.ends.parked; versions = ap (λ (q : ParkedSeen). q.versions) h.ends.parked }
+ended_same p next status h = record { states = ap parked_states h.ends.parked; versions = ap (λ (q : ParkedSeen). q.memory) h.ends.parked }

@@ -90,7 +90,7 @@ lent_comes_back_sent m h taken pages before after written named rest p is word f
     let l = is.lender in
     let same : p.out ≡ l.out = writer_is l before p is.loan.parked in
     let o : SinkState = record l.out { held = taken ++ l.out.held } in
-    let memory = given_back after.content (address after) p.parked.versions named in
+    let memory = given_back after.content (address after) p.machine.memory named in
     let more = back_is_behind m h (over_writer (Some []) 0 false) pages (live_with l o) (parked_with p o) before after written named rest is.is_sent (places_with l o is.loan.places) is.loan.sound (not_stopped l.phase is.goes) (parked_still l before p o is.loan.parked) word few all in
     record {
       history = more.history;

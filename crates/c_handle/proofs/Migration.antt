@@ -141,11 +141,11 @@ left_moving l items stop status left a b c d within told = record {
   reserved = ap (λ (s : SendLeft). s.reserved) told.left_is;
 }
 
-pub left_moving_lent : (l : LiveParkedSeen) (items : Left) (stop status : ℕ) (left : SendLeft) → items.due_pages ≡ member_count (take (length l.parked.versions) l.due) → items.due_sectors ≡ member_count (drop (length l.parked.versions) l.due)
-    → items.dirty_pages ≡ member_count (take (length l.parked.versions) l.dirty) → items.dirty_sectors ≡ member_count (drop (length l.parked.versions) l.dirty) → IsMostByStop (is_closed l.phase) (IsStopBytesLent l) stop → AreTold items stop status left → IsLeftLent l status left
+pub left_moving_lent : (l : LiveParkedSeen) (items : Left) (stop status : ℕ) (left : SendLeft) → items.due_pages ≡ member_count (take (length l.machine.memory) l.due) → items.due_sectors ≡ member_count (drop (length l.machine.memory) l.due)
+    → items.dirty_pages ≡ member_count (take (length l.machine.memory) l.dirty) → items.dirty_sectors ≡ member_count (drop (length l.machine.memory) l.dirty) → IsMostByStop (is_closed l.phase) (IsStopBytesLent l) stop → AreTold items stop status left → IsLeftLent l status left
 left_moving_lent l items stop status left a b c d within told = record {
   status_is = told.status_is;
-  counted = counted (length l.parked.versions) l.due l.dirty items stop status left a b c d told;
+  counted = counted (length l.machine.memory) l.due l.dirty items stop status left a b c d told;
   stop_bytes = subst (λ (n : ℕ). IsMostByStop (is_closed l.phase) (IsStopBytesLent l) n) (sym (ap (λ (s : SendLeft). s.stop_bytes) told.left_is)) within;
   reserved = ap (λ (s : SendLeft). s.reserved) told.left_is;
 }

@@ -46,4 +46,4 @@ idle_in lost (Still m) dev old_dev pick old_pick found = let n = unless_none fal
 idle_in lost (Moving l) dev old_dev pick old_pick found = let n = unless_none (is_closed l.phase) lost (state_of l.machine).devices dev old_dev pick old_pick found in record { none = n.none; dev_same = n.dev_same; pick_same = n.pick_same }
 idle_in lost (Arriving r) dev old_dev pick old_pick found = let other : 65 ≡ 8 = found.0 in absurd (omega (arith, other))
 idle_in lost (Lent (StillLent p)) dev old_dev pick old_pick found = let n = unless_none false lost (parked_states p) dev old_dev pick old_pick found in record { none = n.none; dev_same = n.dev_same; pick_same = n.pick_same }
-idle_in lost (Lent (MovingLent l)) dev old_dev pick old_pick found = let n = unless_none (is_closed l.phase) lost (parked_states l.parked) dev old_dev pick old_pick found in record { none = n.none; dev_same = n.dev_same; pick_same = n.pick_same }
+idle_in lost (Lent (MovingLent l)) dev old_dev pick old_pick found = let n = unless_none (is_closed l.phase) lost (parked_states l.machine) dev old_dev pick old_pick found in record { none = n.none; dev_same = n.dev_same; pick_same = n.pick_same }

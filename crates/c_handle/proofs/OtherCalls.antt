@@ -147,15 +147,15 @@ sends (Lent (StillLent p)) (Lent (StillLent next)) most status h = same_kept (Le
 sends (Lent (MovingLent p)) (Lent (MovingLent next)) most status h = lent_kept p next (some_same (send_refusal p.phase) p next most status h)
 sends _ _ most status h = absurd h
 
-parked_kept : (p next : LiveParkedSeen) → next.parked ≡ p.parked → IsKept (Lent (MovingLent p)) (Lent (MovingLent next))
-parked_kept p next same = (ap parked_states same, subst (λ (q : ParkedSeen). AreFew q.versions) (sym same))
+parked_kept : (p next : LiveParkedSeen) → next.machine ≡ p.machine → IsKept (Lent (MovingLent p)) (Lent (MovingLent next))
+parked_kept p next same = (ap parked_states same, subst (λ (q : ParkedSeen). AreFew q.memory) (sym same))
 
 hands : (k next : State) (page status : ℕ) (bytes : List ℕ) → HandsKept k page bytes status next → IsKept k next
 hands (Still m) (Still next) page status bytes h = seen_kept m next h.1
 hands (Moving l) (Moving next) page status bytes h = same_kept (Moving l) (Moving next) (ap Moving h.1)
 hands (Arriving r) (Arriving next) page status bytes h = same_kept (Arriving r) (Arriving next) (ap Arriving h.1)
 hands (Lent (StillLent p)) (Lent (StillLent next)) page status bytes h = same_kept (Lent (StillLent p)) (Lent (StillLent next)) (ap (λ x. Lent (StillLent x)) h.1)
-hands (Lent (MovingLent p)) (Lent (MovingLent next)) page status bytes h = parked_kept p next (hands_same (page_refusal (send_refusal p.phase) (length p.parked.versions) page) p next page status bytes h)
+hands (Lent (MovingLent p)) (Lent (MovingLent next)) page status bytes h = parked_kept p next (hands_same (page_refusal (send_refusal p.phase) (length p.machine.memory) page) p next page status bytes h)
 hands _ _ page status bytes h = absurd h
 
 ends : (k next : State) (status : ℕ) → EndsKept k status next → IsKept k next
@@ -205,7 +205,7 @@ takes told (Moving l) (Moving next) status got old_got buf new_buf h = read_kept
 takes told (Arriving r) (Arriving next) status got old_got buf new_buf h = same_kept (Arriving r) (Arriving next) (ap Arriving h.1)
 takes told (Lent (StillLent p)) (Lent (StillLent next)) status got old_got buf new_buf h = same_kept (Lent (StillLent p)) (Lent (StillLent next)) (ap (λ x. Lent (StillLent x)) h.1)
 takes told (Lent (MovingLent l)) (Lent (MovingLent next)) status got old_got buf new_buf h =
-    (ap (λ (x : LiveParkedSeen). devices_of (Lent (MovingLent x))) h.rest, subst (λ (x : LiveParkedSeen). AreFew x.parked.versions) (sym h.rest))
+    (ap (λ (x : LiveParkedSeen). devices_of (Lent (MovingLent x))) h.rest, subst (λ (x : LiveParkedSeen). AreFew x.machine.memory) (sym h.rest))
 takes told _ _ status got old_got buf new_buf h = absurd h
 
 -- RAM that is lent, and taken back.
@@ -214,7 +214,7 @@ states_of new old same = ap (map (λ (d : DeviceSeen). d.state)) same
 
 loan_same : (k next : State) (ram : Slot) → IsLoan k ram next → IsKept k next
 loan_same (Still m) (Lent (StillLent p)) ram h = (states_of p.devices m.devices h.devices_are, subst AreFew (sym h.lent.versions_are))
-loan_same (Moving l) (Lent (MovingLent p)) ram h = (states_of p.parked.devices l.machine.devices h.parked.parked.devices_are, subst AreFew (sym h.parked.parked.lent.versions_are))
+loan_same (Moving l) (Lent (MovingLent p)) ram h = (states_of p.machine.devices l.machine.devices h.parked.parked.devices_are, subst AreFew (sym h.parked.parked.lent.versions_are))
 loan_same _ _ ram h = absurd h
 
 lends : (o : Option ℕ) (k next : State) (ram new_ram : Slot) (status : ℕ) → Unless o (IsUnlent k ram status new_ram next) (LendsIfOver k ram status new_ram next) → IsKept k next
@@ -231,9 +231,9 @@ few_raised versions pages few = few_stay versions (raise_each versions pages) (l
 
 back_same : (k next : State) (ram : Slot) (pages : List ℕ) → IsBack k ram pages next → IsKept k next
 back_same (Lent (StillLent p)) (Still next) ram pages h =
-    (ap (λ (x : Seen). (state_of x).devices) h, λ few. subst (λ (x : Seen). AreFew x.memory.versions) (sym h) (few_raised p.versions pages few))
+    (ap (λ (x : Seen). (state_of x).devices) h, λ few. subst (λ (x : Seen). AreFew x.memory.versions) (sym h) (few_raised p.memory pages few))
 back_same (Lent (MovingLent l)) (Moving next) ram pages h =
-    (ap (λ (x : LiveSeen). (state_of x.machine).devices) h, λ few. subst (λ (x : LiveSeen). AreFew x.machine.memory.versions) (sym h) (few_raised l.parked.versions pages few))
+    (ap (λ (x : LiveSeen). (state_of x.machine).devices) h, λ few. subst (λ (x : LiveSeen). AreFew x.machine.memory.versions) (sym h) (few_raised l.machine.memory pages few))
 back_same _ _ ram pages h = absurd h
 
 returns : (o : Option ℕ) (k next : State) (ram new_ram : Slot) (pages : List ℕ) (needs : Bool) (status reason : ℕ)
@@ -247,7 +247,7 @@ marked_same (Still m) (Still next) pages h = (ap (λ (x : Seen). (state_of x).de
 marked_same (Moving l) (Moving next) pages h =
     (ap (λ (x : LiveSeen). (state_of x.machine).devices) h, λ few. subst (λ (x : LiveSeen). AreFew x.machine.memory.versions) (sym h) (few_raised l.machine.memory.versions pages few))
 marked_same (Lent (StillLent p)) (Lent (StillLent next)) pages h = same_kept (Lent (StillLent p)) (Lent (StillLent next)) (ap (λ x. Lent (StillLent x)) h)
-marked_same (Lent (MovingLent p)) (Lent (MovingLent next)) pages h = parked_kept p next (ap (λ (q : LiveParkedSeen). q.parked) h)
+marked_same (Lent (MovingLent p)) (Lent (MovingLent next)) pages h = parked_kept p next (ap (λ (q : LiveParkedSeen). q.machine) h)
 marked_same _ _ pages h = absurd h
 
 marks : (o : Option ℕ) (k next : State) (pages : List ℕ) (needs : Bool) (status other : ℕ) → Unless o (λ reason. (status ≡ reason) × (next ≡ k)) (HasMarked k pages status next ⊎ ((needs ≡ true) × ((status ≡ other) × (next ≡ k)))) → IsKept k next

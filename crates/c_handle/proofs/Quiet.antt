@@ -107,14 +107,14 @@ itself_parked p = record { versions = refl; machine = λ m is bytes count. refl 
 
 quiet_lent_by : (o : Option MigError) (l next : LiveParkedSeen) (e : Event) (reply : LiveReply) (before : ℕ) → ArePlainIn (Lent (MovingLent l)) → 1 ≤ live_status reply → live_status reply < 64
     → MatchOption o (GuestsParked l e reply next) (λ x. (reply ≡ live.Mig x) × (next ≡ l)) → IsSameSentLent l next × (live_number reply before ≡ before)
-quiet_lent_by None l next e (live.Guest reply) before plain some few after = (record { parked = quiet_parked l.parked next.parked e reply plain after.applied some few; rest = after.rest }, no_number reply before some few)
+quiet_lent_by None l next e (live.Guest reply) before plain some few after = (record { parked = quiet_parked l.machine next.machine e reply plain after.applied some few; rest = after.rest }, no_number reply before some few)
 quiet_lent_by None l next e (live.Begun k) before plain some few after = absurd after
 quiet_lent_by None l next e (live.Copied item) before plain some few after = absurd after
 quiet_lent_by None l next e live.RoundDone before plain some few after = absurd after
 quiet_lent_by None l next e live.RoundOpen before plain some few after = absurd after
 quiet_lent_by None l next e (live.Stopped pages sectors) before plain some few after = absurd after
 quiet_lent_by None l next e (live.Mig x) before plain some few after = absurd after
-quiet_lent_by (Some x) l next e reply before plain some few after = (rw (after.1) (record { parked = itself_parked l.parked; rest = refl }), rw (after.0) refl)
+quiet_lent_by (Some x) l next e reply before plain some few after = (rw (after.1) (record { parked = itself_parked l.machine; rest = refl }), rw (after.0) refl)
 
 quiet_loan : (x next : LoanSeen) (e : Event) (status number before : ℕ) → ArePlainIn (Lent x) → Tells (Lent x) e status number before (Lent next) → 1 ≤ status → status < 64 → IsSameLoan x next × (number ≡ before)
 quiet_loan (StillLent p) (StillLent next) e status number before plain told some few =
@@ -129,7 +129,7 @@ quiet_loan (MovingLent l) (StillLent next) e status number before plain told som
 
 pub same_loan : (x next : LoanSeen) → next ≡ x → IsSameLoan x next
 same_loan (StillLent p) next same = rw same (itself_parked p)
-same_loan (MovingLent l) next same = rw same (record { parked = itself_parked l.parked; rest = refl })
+same_loan (MovingLent l) next same = rw same (record { parked = itself_parked l.machine; rest = refl })
 
 pub refused_tells_nothing : RefusedChangesNothing → RefusedTellsNothing
 refused_tells_nothing law (Still m) (Still next) e status number before plain told some few =

@@ -80,8 +80,8 @@ shape_moving k l dev d told is there made = ap (λ (x : State). slice_get (shape
 pub shape_still_lent : (k : State) (p : ParkedSeen) (dev : ℕ) (d : DeviceState) (told : Shape) → k ≡ Lent (StillLent p) → slice_get (parked_states p) dev ≡ Some d → told ≡ made_as d.kind → slice_get (shapes_in k) dev ≡ Some told
 shape_still_lent k p dev d told is there made = ap (λ (x : State). slice_get (shapes_in x) dev) is ∙ shape_at (parked_states p) dev d told there made
 
-pub shape_moving_lent : (k : State) (l : LiveParkedSeen) (dev : ℕ) (d : DeviceState) (told : Shape) → k ≡ Lent (MovingLent l) → slice_get (parked_states l.parked) dev ≡ Some d → told ≡ made_as d.kind → slice_get (shapes_in k) dev ≡ Some told
-shape_moving_lent k l dev d told is there made = ap (λ (x : State). slice_get (shapes_in x) dev) is ∙ shape_at (parked_states l.parked) dev d told there made
+pub shape_moving_lent : (k : State) (l : LiveParkedSeen) (dev : ℕ) (d : DeviceState) (told : Shape) → k ≡ Lent (MovingLent l) → slice_get (parked_states l.machine) dev ≡ Some d → told ≡ made_as d.kind → slice_get (shapes_in k) dev ≡ Some told
+shape_moving_lent k l dev d told is there made = ap (λ (x : State). slice_get (shapes_in x) dev) is ∙ shape_at (parked_states l.machine) dev d told there made
 
 -- A machine that was not stopped refuses no event.
 pub going_for : (p : Phase) (e : Event) → stop_refusal p ≡ None → refusal_for p (Guest e) ≡ None
@@ -117,20 +117,20 @@ live_done None l next e (live.Stopped pages sectors) status none going fine told
 live_done None l next e (live.Mig x) status none going fine told does = absurd does
 
 -- While RAM is lent.
-parked_shapes : (p next : ParkedSeen) (e : Event) (reply : Reply) → 1 ≤ length p.versions → length p.versions ≤ 4294967295 → IsAppliedParked p e reply next → made_in (parked_states next) ≡ made_in (parked_states p)
+parked_shapes : (p next : ParkedSeen) (e : Event) (reply : Reply) → 1 ≤ length p.memory → length p.memory ≤ 4294967295 → IsAppliedParked p e reply next → made_in (parked_states next) ≡ made_in (parked_states p)
 parked_shapes p next e reply some few applied = (applied_at p next e reply some few applied).shape.devices
 
-pub same_pages : (p next : ParkedSeen) → next.versions ≡ p.versions → (1 ≤ length p.versions) × (length p.versions ≤ 4294967295) → (1 ≤ length next.versions) × (length next.versions ≤ 4294967295)
+pub same_pages : (p next : ParkedSeen) → next.memory ≡ p.memory → (1 ≤ length p.memory) × (length p.memory ≤ 4294967295) → (1 ≤ length next.memory) × (length next.memory ≤ 4294967295)
 same_pages p next same pages = subst (λ (v : List ℕ). (1 ≤ length v) × (length v ≤ 4294967295)) (sym same) pages
 
 parked_done : (o : Option MigError) (l next : LiveParkedSeen) (e : Event) (reply : LiveReply) (status : ℕ) → o ≡ None → stop_refusal l.phase ≡ None → HasPages (Lent (MovingLent l)) → IsFine (Lent (MovingLent l)) e → status ≡ live_status reply
     → MatchOption o (GuestsParked l e reply next) (λ x. (reply ≡ live.Mig x) × (next ≡ l)) → IsDoneBy (Lent (MovingLent l)) status (Lent (MovingLent next))
 parked_done (Some x) l next e reply status none going pages fine told does = absurd cc
 parked_done None l next e (live.Guest r) status none going pages fine told does = record {
-  status_is = told ∙ fine (back_with l.parked (zero_ram l.parked)) (back_with next.parked (zero_ram l.parked)) r refl (applied_at l.parked next.parked e r pages.0 pages.1 does.applied);
-  shapes = parked_shapes l.parked next.parked e r pages.0 pages.1 does.applied;
+  status_is = told ∙ fine (back_with l.machine (zero_ram l.machine)) (back_with next.machine (zero_ram l.machine)) r refl (applied_at l.machine next.machine e r pages.0 pages.1 does.applied);
+  shapes = parked_shapes l.machine next.machine e r pages.0 pages.1 does.applied;
   going = ap (λ (s : LiveParkedSeen). stop_refusal s.phase) does.rest ∙ going;
-  pages = same_pages l.parked next.parked does.applied.versions pages;
+  pages = same_pages l.machine next.machine does.applied.versions pages;
 }
 parked_done None l next e (live.Begun k) status none going pages fine told does = absurd does
 parked_done None l next e (live.Copied item) status none going pages fine told does = absurd does

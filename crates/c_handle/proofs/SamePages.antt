@@ -5,7 +5,9 @@ use Rattle.std.proofs.lemmas.Bool.Decides.{nat_tests}
 use Rattle.disk_calls.specs.declared.calls.Place.{Place}
 use Rattle.guestmem.specs.Memory.{IsMemory}
 use Rattle.machine.specs.Applied.{IsApplied}
-use Rattle.machine.specs.Parked.{IsAppliedParked, IsParked, ParkedSeen, machine_marked}
+use Rattle.machine.specs.Known as known
+use Rattle.machine.specs.Over.{AppliesOver}
+use Rattle.machine.specs.Parked.{IsParked, ParkedSeen, machine_marked}
 use Rattle.machine.specs.Seen.{Seen, state_of}
 use Rattle.machine.specs.Unsynced.{FailsFlushIf, makes_flush}
 use Rattle.machine.specs.declared.event.DiskAnswer.{DiskAnswer}
@@ -17,6 +19,7 @@ use Rattle.region.specs.declared.slot.Slot.{Slot}
 use Rattle.sender.proofs.AsTold.{served_shape}
 use Rattle.sender.proofs.Fresh.{same_as_it_is}
 use Rattle.sender.specs.Calls.{Serves}
+use Rattle.sender.specs.HereOrLent.{ServesOver}
 use Rattle.sender.specs.LiveState.{LiveSeen, now, refusal_for}
 use Rattle.sender.specs.Marks.{live_marked}
 use Rattle.sender.specs.Parked.{LiveParkedSeen, with_pages}
@@ -57,7 +60,7 @@ fits_at log places k was next fits is same = fits_as log (ram_in places k) (ram_
 served_size : (l next : LiveSeen) (e : LiveEvent) (reply : LiveReply) → Serves l e reply next → length next.machine.memory.bytes ≡ length l.machine.memory.bytes
 served_size l next e reply s = (served_shape (now l) l next e reply (same_as_it_is (now l)) s).ram
 
-parked_size : (o : Option MigError) (p next : LiveParkedSeen) (e : Event) (reply : LiveReply) → MatchOption o (GuestsParked p e reply next) (λ x. (reply ≡ live.Mig x) × (next ≡ p)) → next.parked.versions ≡ p.parked.versions
+parked_size : (o : Option MigError) (p next : LiveParkedSeen) (e : Event) (reply : LiveReply) → MatchOption o (GuestsParked p e reply next) (λ x. (reply ≡ live.Mig x) × (next ≡ p)) → next.machine.memory ≡ p.machine.memory
 parked_size None p next e (live.Guest reply) s = s.applied.versions
 parked_size None p next e (live.Begun k) s = absurd s
 parked_size None p next e (live.Copied item) s = absurd s
@@ -65,7 +68,7 @@ parked_size None p next e live.RoundDone s = absurd s
 parked_size None p next e live.RoundOpen s = absurd s
 parked_size None p next e (live.Stopped pages sectors) s = absurd s
 parked_size None p next e (live.Mig x) s = absurd s
-parked_size (Some x) p next e reply s = ap (λ (l : LiveParkedSeen). l.parked.versions) s.1
+parked_size (Some x) p next e reply s = ap (λ (l : LiveParkedSeen). l.machine.memory) s.1
 
 pub applied : (log : Option (List Bool)) (places : ℕ) (k : State) (m next : Seen) (e : Event) (reply : Reply) → FitsLog log (ram_in places k) → IsApplied m e reply next → k ≡ Still m → FitsLog log (length next.memory.bytes)
 applied log places k m next e reply fits a is = fits_at log places k (Still m) (Still next) fits is a.shape.ram
@@ -73,24 +76,27 @@ applied log places k m next e reply fits a is = fits_at log places k (Still m) (
 pub served : (log : Option (List Bool)) (places : ℕ) (k : State) (l next : LiveSeen) (e : LiveEvent) (reply : LiveReply) → FitsLog log (ram_in places k) → Serves l e reply next → k ≡ Moving l → FitsLog log (length next.machine.memory.bytes)
 served log places k l next e reply fits s is = fits_at log places k (Moving l) (Moving next) fits is (served_size l next e reply s)
 
-pub applied_lent : (log : Option (List Bool)) (places : ℕ) (k : State) (p next : ParkedSeen) (e : Event) (reply : Reply) → FitsLog log (ram_in places k) → IsAppliedParked p e reply next → k ≡ Lent (StillLent p) → FitsLog log (4096 * length next.versions)
-applied_lent log places k p next e reply fits a is = fits_at log places k (Lent (StillLent p)) (Lent (StillLent next)) fits is (ap (λ (v : List ℕ). 4096 * length v) a.versions)
+pub applied_lent : (log : Option (List Bool)) (places : ℕ) (k : State) (p next : ParkedSeen) (e : Event) (reply : Reply) → FitsLog log (ram_in places k) → AppliesOver known.Lent p e reply next → k ≡ Lent (StillLent p) → FitsLog log (4096 * length next.memory)
+applied_lent log places k p next e reply fits a is = fits_at log places k (Lent (StillLent p)) (Lent (StillLent next)) fits is (ap (λ (v : List ℕ). 4096 * length v) a.0)
 
-pub served_lent : (log : Option (List Bool)) (places : ℕ) (k : State) (p next : LiveParkedSeen) (e : Event) (reply : LiveReply) → FitsLog log (ram_in places k) → ServesParked p e reply next → k ≡ Lent (MovingLent p) → FitsLog log (4096 * length next.parked.versions)
+pub guest_lent : (log : Option (List Bool)) (places : ℕ) (k : State) (p next : LiveParkedSeen) (e : Event) (reply : LiveReply) → FitsLog log (ram_in places k) → ServesOver known.Lent p e reply next → k ≡ Lent (MovingLent p) → FitsLog log (4096 * length next.machine.memory)
+guest_lent log places k p next e reply fits s is = fits_at log places k (Lent (MovingLent p)) (Lent (MovingLent next)) fits is (ap (λ (v : List ℕ). 4096 * length v) s.0)
+
+pub served_lent : (log : Option (List Bool)) (places : ℕ) (k : State) (p next : LiveParkedSeen) (e : Event) (reply : LiveReply) → FitsLog log (ram_in places k) → ServesParked p e reply next → k ≡ Lent (MovingLent p) → FitsLog log (4096 * length next.machine.memory)
 served_lent log places k p next e reply fits s is = fits_at log places k (Lent (MovingLent p)) (Lent (MovingLent next)) fits is (ap (λ (v : List ℕ). 4096 * length v) (parked_size (refusal_for p.phase (Guest e)) p next e reply s))
 
 -- Answers of disks outside.
-met_size : (found : Option ℕ) (answer : DiskAnswer) (p next : ParkedSeen) (dev : ℕ) → MeetsParked found answer p dev next → next.versions ≡ p.versions
-met_size None answer p next dev meets = ap (λ (q : ParkedSeen). q.versions) meets
+met_size : (found : Option ℕ) (answer : DiskAnswer) (p next : ParkedSeen) (dev : ℕ) → MeetsParked found answer p dev next → next.memory ≡ p.memory
+met_size None answer p next dev meets = ap (λ (q : ParkedSeen). q.memory) meets
 met_size (Some k) answer p next dev meets = meets.1.versions
 
-met_live_size : (found : Option ℕ) (answer : DiskAnswer) (l next : LiveParkedSeen) (dev : ℕ) → MeetsLiveParked found answer l dev next → next.parked.versions ≡ l.parked.versions
-met_live_size None answer l next dev meets = ap (λ (q : LiveParkedSeen). q.parked.versions) meets
+met_live_size : (found : Option ℕ) (answer : DiskAnswer) (l next : LiveParkedSeen) (dev : ℕ) → MeetsLiveParked found answer l dev next → next.machine.memory ≡ l.machine.memory
+met_live_size None answer l next dev meets = ap (λ (q : LiveParkedSeen). q.machine.memory) meets
 met_live_size (Some k) answer l next dev meets = parked_size (refusal_for l.phase (Guest (Disk dev (k + 1) answer))) l next (Disk dev (k + 1) answer) meets.0 meets.1
 
-met_lent_size : (place : Place) (answer : DiskAnswer) (x next : LoanSeen) → MeetsLent place answer x next → (parked_in next).versions ≡ (parked_in x).versions
+met_lent_size : (place : Place) (answer : DiskAnswer) (x next : LoanSeen) → MeetsLent place answer x next → (parked_in next).memory ≡ (parked_in x).memory
 met_lent_size place answer (StillLent p) (StillLent next) meets = met_size (asker_lent p place) answer p next place.dev meets
-met_lent_size place answer (MovingLent l) (MovingLent next) meets = met_live_size (asker_lent l.parked place) answer l next place.dev meets
+met_lent_size place answer (MovingLent l) (MovingLent next) meets = met_live_size (asker_lent l.machine place) answer l next place.dev meets
 met_lent_size place answer (StillLent p) (MovingLent next) meets = absurd meets
 met_lent_size place answer (MovingLent l) (StillLent next) meets = absurd meets
 
@@ -162,23 +168,23 @@ pub told : (log : Option (List Bool)) (places : ℕ) (k : State) (l next : LiveS
 told log places k l next digest status fits t is = fits_at log places k (Moving l) (Moving next) fits is (told_size (is_owed l.digest) l next digest status t)
 
 taken_size : (told : Bool) (places : ℕ) (x next : LoanSeen) (status got old_got : ℕ) (buf new_buf : List ℕ) → TakesLent told x status got old_got buf new_buf next → ram_in places (Lent next) ≡ ram_in places (Lent x)
-taken_size told places (StillLent p) (StillLent next) status got old_got buf new_buf t = ap (λ (p : ParkedSeen). 4096 * length p.versions) t.1
-taken_size told places (MovingLent l) (MovingLent next) status got old_got buf new_buf t = ap (λ (l : LiveParkedSeen). 4096 * length l.parked.versions) t.rest
+taken_size told places (StillLent p) (StillLent next) status got old_got buf new_buf t = ap (λ (p : ParkedSeen). 4096 * length p.memory) t.1
+taken_size told places (MovingLent l) (MovingLent next) status got old_got buf new_buf t = ap (λ (l : LiveParkedSeen). 4096 * length l.machine.memory) t.rest
 taken_size told places (StillLent p) (MovingLent next) status got old_got buf new_buf t = absurd t
 taken_size told places (MovingLent l) (StillLent next) status got old_got buf new_buf t = absurd t
 
 pub taken_lent : (told : Bool) (log : Option (List Bool)) (places : ℕ) (k : State) (x next : LoanSeen) (status got old_got : ℕ) (buf new_buf : List ℕ) → FitsLog log (ram_in places k) → TakesLent told x status got old_got buf new_buf next → k ≡ Lent x → FitsLog log (ram_in places (Lent next))
 taken_lent told log places k x next status got old_got buf new_buf fits t is = fits_at log places k (Lent x) (Lent next) fits is (taken_size told places x next status got old_got buf new_buf t)
 
-pub handed_in : (log : Option (List Bool)) (places : ℕ) (k : State) (p next : LiveParkedSeen) (page status : ℕ) (bytes : List ℕ) → FitsLog log (ram_in places k) → HandsPage p page bytes status next → k ≡ Lent (MovingLent p) → FitsLog log (4096 * length next.parked.versions)
+pub handed_in : (log : Option (List Bool)) (places : ℕ) (k : State) (p next : LiveParkedSeen) (page status : ℕ) (bytes : List ℕ) → FitsLog log (ram_in places k) → HandsPage p page bytes status next → k ≡ Lent (MovingLent p) → FitsLog log (4096 * length next.machine.memory)
 handed_in log places k p next page status bytes fits h is =
-    fits_at log places k (Lent (MovingLent p)) (Lent (MovingLent next)) fits is (ap (λ (q : ParkedSeen). 4096 * length q.versions) (hands_same (page_refusal (send_refusal p.phase) (length p.parked.versions) page) p next page status bytes h))
+    fits_at log places k (Lent (MovingLent p)) (Lent (MovingLent next)) fits is (ap (λ (q : ParkedSeen). 4096 * length q.memory) (hands_same (page_refusal (send_refusal p.phase) (length p.machine.memory) page) p next page status bytes h))
 
-pub sent_lent : (log : Option (List Bool)) (places : ℕ) (k : State) (p next : LiveParkedSeen) (most status : ℕ) → FitsLog log (ram_in places k) → SendsSomeLent p most status next → k ≡ Lent (MovingLent p) → FitsLog log (4096 * length next.parked.versions)
+pub sent_lent : (log : Option (List Bool)) (places : ℕ) (k : State) (p next : LiveParkedSeen) (most status : ℕ) → FitsLog log (ram_in places k) → SendsSomeLent p most status next → k ≡ Lent (MovingLent p) → FitsLog log (4096 * length next.machine.memory)
 sent_lent log places k p next most status fits s is =
     fits_at log places k (Lent (MovingLent p)) (Lent (MovingLent next)) fits is (ap (λ (v : List ℕ). 4096 * length v) (some_same (send_refusal p.phase) p next most status s).versions)
 
-pub ended_lent : (log : Option (List Bool)) (places : ℕ) (k : State) (p next : LiveParkedSeen) (status : ℕ) → FitsLog log (ram_in places k) → HasEndedLent p status next → k ≡ Lent (MovingLent p) → FitsLog log (4096 * length next.parked.versions)
+pub ended_lent : (log : Option (List Bool)) (places : ℕ) (k : State) (p next : LiveParkedSeen) (status : ℕ) → FitsLog log (ram_in places k) → HasEndedLent p status next → k ≡ Lent (MovingLent p) → FitsLog log (4096 * length next.machine.memory)
 ended_lent log places k p next status fits h is = fits_at log places k (Lent (MovingLent p)) (Lent (MovingLent next)) fits is (ap (λ (v : List ℕ). 4096 * length v) (ended_same p next status h).versions)
 
 saved_size : (short : Bool) (m next : Seen) (status len old_len : ℕ) (buf new_buf : List ℕ) → SavesIf short m status len old_len buf new_buf next → length next.memory.bytes ≡ length m.memory.bytes
@@ -195,11 +201,11 @@ marked log places k m next pages fits are is = fits_at log places k (Still m) (S
 pub marked_moving : (log : Option (List Bool)) (places : ℕ) (k : State) (l next : LiveSeen) (pages : List ℕ) → FitsLog log (ram_in places k) → next ≡ live_marked l pages → k ≡ Moving l → FitsLog log (length next.machine.memory.bytes)
 marked_moving log places k l next pages fits are is = fits_at log places k (Moving l) (Moving next) fits is (ap (λ (l : LiveSeen). length l.machine.memory.bytes) are)
 
-pub marked_still_lent : (log : Option (List Bool)) (places : ℕ) (k : State) (p next : ParkedSeen) → FitsLog log (ram_in places k) → next ≡ p → k ≡ Lent (StillLent p) → FitsLog log (4096 * length next.versions)
-marked_still_lent log places k p next fits same is = fits_at log places k (Lent (StillLent p)) (Lent (StillLent next)) fits is (ap (λ (q : ParkedSeen). 4096 * length q.versions) same)
+pub marked_still_lent : (log : Option (List Bool)) (places : ℕ) (k : State) (p next : ParkedSeen) → FitsLog log (ram_in places k) → next ≡ p → k ≡ Lent (StillLent p) → FitsLog log (4096 * length next.memory)
+marked_still_lent log places k p next fits same is = fits_at log places k (Lent (StillLent p)) (Lent (StillLent next)) fits is (ap (λ (q : ParkedSeen). 4096 * length q.memory) same)
 
-pub marked_lent : (log : Option (List Bool)) (places : ℕ) (k : State) (p next : LiveParkedSeen) (pages : List ℕ) → FitsLog log (ram_in places k) → next ≡ record p { dirty = with_pages p.dirty pages } → k ≡ Lent (MovingLent p) → FitsLog log (4096 * length next.parked.versions)
-marked_lent log places k p next pages fits are is = fits_at log places k (Lent (MovingLent p)) (Lent (MovingLent next)) fits is (ap (λ (l : LiveParkedSeen). 4096 * length l.parked.versions) are)
+pub marked_lent : (log : Option (List Bool)) (places : ℕ) (k : State) (p next : LiveParkedSeen) (pages : List ℕ) → FitsLog log (ram_in places k) → next ≡ record p { dirty = with_pages p.dirty pages } → k ≡ Lent (MovingLent p) → FitsLog log (4096 * length next.machine.memory)
+marked_lent log places k p next pages fits are is = fits_at log places k (Lent (MovingLent p)) (Lent (MovingLent next)) fits is (ap (λ (l : LiveParkedSeen). 4096 * length l.machine.memory) are)
 
 -- From one state into another.
 begun_size : (places : ℕ) (k next : State) (status : ℕ) → BeginsKept k status next → ram_in places next ≡ ram_in places k
@@ -258,11 +264,11 @@ aborted log places k next status fits a = fits_as log (ram_in places k) (ram_in 
 pub same_ram : (log : Option (List Bool)) (places : ℕ) (k next : State) → FitsLog log (ram_in places k) → ((n : ℕ) → ram_in n next ≡ ram_in n k) → FitsLog log (ram_in places next)
 same_ram log places k next fits same = fits_as log (ram_in places k) (ram_in places next) fits (same places)
 
-pub lent_still : (places : ℕ) (m : Seen) (region : Region) (p : ParkedSeen) → IsMemory m.memory → IsParked m region p → 4096 * length p.versions ≡ length m.memory.bytes
+pub lent_still : (places : ℕ) (m : Seen) (region : Region) (p : ParkedSeen) → IsMemory m.memory → IsParked m region p → 4096 * length p.memory ≡ length m.memory.bytes
 lent_still places m region p sound parked = ap (λ (v : List ℕ). 4096 * length v) parked.lent.versions_are ∙ sym sound.pages
 
-pub lent_moving : (places : ℕ) (l : LiveSeen) (region : Region) (p : LiveParkedSeen) → IsLiveLoan l region p → 4096 * length p.parked.versions ≡ length l.machine.memory.bytes
-lent_moving places l region p loan = lent_still places l.machine region p.parked loan.sound loan.parked.parked
+pub lent_moving : (places : ℕ) (l : LiveSeen) (region : Region) (p : LiveParkedSeen) → IsLiveLoan l region p → 4096 * length p.machine.memory ≡ length l.machine.memory.bytes
+lent_moving places l region p loan = lent_still places l.machine region p.machine loan.sound loan.parked.parked
 
 back_size : (places : ℕ) (k next : State) (ram new_ram : Slot) (pages : List ℕ) (status : ℕ) → IsReturnable k (length ram.content) pages → HasComeBack k ram pages status new_ram next → ram_in places next ≡ ram_in places k
 back_size places (Lent (StillLent p)) (Still next) ram new_ram pages status may b = ap (λ (m : Seen). length m.memory.bytes) b.back ∙ may.0

@@ -12,5 +12,5 @@ use Rattle.c_handle.proofs.SamePages.{served, served_lent}
 pub served_so : (log : Option (List Bool)) (places : ℕ) (k : State) (l next : LiveSeen) (e : LiveEvent) (status number before : ℕ) → FitsLog log (ram_in places k) → IsServed l e status number before next → k ≡ Moving l → FitsLog log (length next.machine.memory.bytes)
 served_so log places k l next e status number before fits s is = served log places k l next e s.reply fits s.serves is
 
-pub served_lent_so : (log : Option (List Bool)) (places : ℕ) (k : State) (p next : LiveParkedSeen) (e : Event) (status number before : ℕ) → FitsLog log (ram_in places k) → IsServedLent p e status number before next → k ≡ Lent (MovingLent p) → FitsLog log (4096 * length next.parked.versions)
+pub served_lent_so : (log : Option (List Bool)) (places : ℕ) (k : State) (p next : LiveParkedSeen) (e : Event) (status number before : ℕ) → FitsLog log (ram_in places k) → IsServedLent p e status number before next → k ≡ Lent (MovingLent p) → FitsLog log (4096 * length next.machine.memory)
 served_lent_so log places k p next e status number before fits s is = served_lent log places k p next e s.reply fits s.serves is

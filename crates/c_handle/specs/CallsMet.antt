@@ -44,7 +44,7 @@ abbrev pub HasRam : State → Type 0
 HasRam (Still m) = AreFew m.memory.versions
 HasRam (Moving l) = AreFew l.machine.memory.versions
 HasRam (Arriving r) = Unit {0}
-HasRam (Lent x) = AreFew (parked_in x).versions
+HasRam (Lent x) = AreFew (parked_in x).memory
 
 -- The desk of a device of a handle: its outstanding requests, and its calls that are out.
 abbrev pub IsDeskIn : KeptSeen → ℕ → ℕ → Desk → Type 0

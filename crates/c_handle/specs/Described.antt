@@ -57,11 +57,11 @@ sent_as d phases.Failed = record d { state = is_send_failed; fault = mig_status 
 
 -- As above, where its RAM is lent.
 abbrev pub told_parked : ParkedSeen → Description
-told_parked p = record (told_machine (base_of (map (λ d. d.state) p.devices)) (length p.versions) (map (λ d. made_as d.state.kind) p.devices)) { lent = 1 }
+told_parked p = record (told_machine (base_of (map (λ d. d.state) p.devices)) (length p.memory) (map (λ d. made_as d.state.kind) p.devices)) { lent = 1 }
 
 abbrev pub told_lent : LoanSeen → Description
 told_lent (StillLent p) = told_parked p
-told_lent (MovingLent l) = sent_as (told_parked l.parked) l.phase
+told_lent (MovingLent l) = sent_as (told_parked l.machine) l.phase
 
 abbrev pub loan_phase : LoanSeen → Option Phase
 loan_phase (StillLent p) = None

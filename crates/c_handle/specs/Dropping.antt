@@ -15,7 +15,7 @@ use Rattle.c_handle.specs.declared.serving.TheConstants.{NO_BYTE}
 -- A write drops requests that may have asked something of a disk outside. A machine that was stopped takes no write.
 abbrev pub loan_drops : LoanSeen → ℕ → ℕ → ℕ → ℕ → Bool
 loan_drops (StillLent p) dev off width value = machines.drops_in (slice_get (parked_states p) dev) off width value
-loan_drops (MovingLent l) dev off width value = not (is_closed l.phase) && machines.drops_in (slice_get (parked_states l.parked) dev) off width value
+loan_drops (MovingLent l) dev off width value = not (is_closed l.phase) && machines.drops_in (slice_get (parked_states l.machine) dev) off width value
 
 abbrev pub drops_in : State → ℕ → ℕ → ℕ → ℕ → Bool
 drops_in (Still m) dev off width value = machines.drops_of (state_of m) dev off width value

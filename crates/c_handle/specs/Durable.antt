@@ -88,7 +88,7 @@ disk_refusal_unless false devices dev = disk_refusal (slice_get devices dev)
 
 abbrev pub loan_refusal : LoanSeen → ℕ → Option ℕ
 loan_refusal (StillLent p) dev = disk_refusal (slice_get (parked_states p) dev)
-loan_refusal (MovingLent l) dev = disk_refusal_unless (is_closed l.phase) (parked_states l.parked) dev
+loan_refusal (MovingLent l) dev = disk_refusal_unless (is_closed l.phase) (parked_states l.machine) dev
 
 abbrev pub loss_refusal : State → ℕ → Option ℕ
 loss_refusal (Still m) dev = disk_refusal (slice_get (state_of m).devices dev)

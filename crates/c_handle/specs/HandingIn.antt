@@ -38,7 +38,7 @@ AsksNext pages phase due status page old = Unless (send_refusal phase) (Refuses 
 abbrev pub NextKept : State → ℕ → ℕ → ℕ → Type 0
 NextKept k status page old =
     let refused = Refuses status page old in
-    OfEachState refused (λ m. refused (mig_status NotBegun)) (λ l. AsksNext (pages_of (now l)) l.phase l.due status page old) (λ p. refused (mig_status NotBegun)) (λ l. AsksNext (length l.parked.versions) l.phase l.due status page old) k
+    OfEachState refused (λ m. refused (mig_status NotBegun)) (λ l. AsksNext (pages_of (now l)) l.phase l.due status page old) (λ p. refused (mig_status NotBegun)) (λ l. AsksNext (length l.machine.memory) l.phase l.due status page old) k
 
 -- The status of a page that was handed in.
 abbrev pub handed_status : Result (Unit {0}) MigError → ℕ
@@ -65,7 +65,7 @@ page_refusal None pages page = if not (nat_lt page pages) then Some (code_of Out
 
 abbrev pub HandsPage : LiveParkedSeen → ℕ → List ℕ → ℕ → LiveParkedSeen → Type 0
 HandsPage p page bytes status next =
-    Unless (page_refusal (send_refusal p.phase) (length p.parked.versions) page) (λ reason. (status ≡ reason) × (next ≡ p)) (HandsNext p page bytes status next ⊎ IsNotNext p page status next)
+    Unless (page_refusal (send_refusal p.phase) (length p.machine.memory) page) (λ reason. (status ≡ reason) × (next ≡ p)) (HandsNext p page bytes status next ⊎ IsNotNext p page status next)
 
 -- RAM is here, or the machine was stopped.
 abbrev pub here_status : Phase → ℕ

@@ -30,7 +30,7 @@ pub data LoanSeen : Type 0 where
 -- All of it but the bytes of its RAM.
 abbrev pub parked_in : LoanSeen → ParkedSeen
 parked_in (StillLent p) = p
-parked_in (MovingLent l) = l.parked
+parked_in (MovingLent l) = l.machine
 
 -- A machine that is not being migrated, one that is being migrated while it runs, one that is arriving, or one whose RAM is lent.
 pub data State : Type 0 where
@@ -148,7 +148,7 @@ first_telling flags = if asks_told flags then Some tellings.NotDue else None
 abbrev pub ram_in : ℕ → State → ℕ
 ram_in places (Still m) = length m.memory.bytes
 ram_in places (Moving l) = length l.machine.memory.bytes
-ram_in places (Lent x) = PAGE_SIZE * length (parked_in x).versions
+ram_in places (Lent x) = PAGE_SIZE * length (parked_in x).memory
 ram_in places (Arriving r) = PAGE_SIZE * places
 
 abbrev pub are_mapped : Held → Bool

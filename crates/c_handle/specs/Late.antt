@@ -15,7 +15,7 @@ use Rattle.c_handle.specs.SendStatus.{mig_status}
 
 -- How many pages RAM has, also while it is lent.
 abbrev pub all_pages : State → ℕ
-all_pages (Lent x) = length (parked_in x).versions
+all_pages (Lent x) = length (parked_in x).memory
 all_pages k = length (memory_in k).versions
 
 -- Why no page is named.

@@ -67,7 +67,7 @@ Lends k ram status new_ram after = OnHandle (Refuses status new_ram ram) (λ old
 
 -- How many pages the RAM has that is lent.
 abbrev pub lent_pages : State → ℕ
-lent_pages (Lent x) = length (parked_in x).versions
+lent_pages (Lent x) = length (parked_in x).memory
 lent_pages _ = 0
 
 -- Why RAM is not taken back: there is none out, or it is of another length, or pages are named that are not there.
@@ -79,19 +79,19 @@ return_refusal_of count bytes pages =
 
 abbrev pub back_refusal_of : State → ℕ → Pages → Option ℕ
 back_refusal_of (Arriving r) bytes pages = Some no_machine
-back_refusal_of (Lent x) bytes pages = return_refusal_of (length (parked_in x).versions) bytes pages
+back_refusal_of (Lent x) bytes pages = return_refusal_of (length (parked_in x).memory) bytes pages
 back_refusal_of _ bytes pages = Some not_lent
 
 -- This many bytes are the RAM that is lent, and each number is that of one of its pages.
 abbrev pub IsReturnable : State → ℕ → List ℕ → Type 0
-IsReturnable (Lent x) bytes pages = (bytes ≡ PAGE_SIZE * length (parked_in x).versions) × (are_pages (length (parked_in x).versions) pages ≡ true)
+IsReturnable (Lent x) bytes pages = (bytes ≡ PAGE_SIZE * length (parked_in x).memory) × (are_pages (length (parked_in x).memory) pages ≡ true)
 IsReturnable _ bytes pages = ⊥
 
 -- The machine has the RAM of the region again, and these pages were written: their versions have risen, and where it is being
 -- migrated they are dirty.
 abbrev pub IsBackWith : LoanSeen → Region → List ℕ → State → Type 0
-IsBackWith (StillLent p) ram pages (Still next) = next ≡ back_with p (given_back ram.content (address ram) p.versions pages)
-IsBackWith (MovingLent l) ram pages (Moving next) = next ≡ live_back l (given_back ram.content (address ram) l.parked.versions pages) pages
+IsBackWith (StillLent p) ram pages (Still next) = next ≡ back_with p (given_back ram.content (address ram) p.memory pages)
+IsBackWith (MovingLent l) ram pages (Moving next) = next ≡ live_back l (given_back ram.content (address ram) l.machine.memory pages) pages
 IsBackWith _ ram pages _ = ⊥
 
 abbrev pub IsBack : State → Slot → List ℕ → State → Type 0

@@ -136,7 +136,7 @@ SendsBy None most p status next = SectorsUpTo most p status next
 
 pub record SendsSectors (p : LiveParkedSeen) (most status : ℕ) (next : LiveParkedSeen) : Type 0 where
   pub page : Option ℕ
-  pub is_next : IsNextPage (length p.parked.versions) p.due page
+  pub is_next : IsNextPage (length p.machine.memory) p.due page
   pub sends : SendsBy page most p status next
 
 abbrev pub SendsSomeLent : LiveParkedSeen → ℕ → ℕ → LiveParkedSeen → Type 0
@@ -227,7 +227,7 @@ pub record IsLeft (l : LiveSeen) (status : ℕ) (left : SendLeft) : Type 0 where
 -- As above, while its RAM is lent: as far as its pages were named.
 pub record IsLeftLent (l : LiveParkedSeen) (status : ℕ) (left : SendLeft) : Type 0 where
   pub status_is : status ≡ done
-  pub counted : AreCounted (length l.parked.versions) l.due l.dirty left
+  pub counted : AreCounted (length l.machine.memory) l.due l.dirty left
   pub stop_bytes : IsMostByStop (is_closed l.phase) (IsStopBytesLent l) left.stop_bytes
   pub reserved : left.reserved ≡ replicate 3 0
 

@@ -48,7 +48,7 @@ FindsUnless false lost devices status dev old_dev pick old_pick = FindsWorkOf lo
 abbrev pub FindsIn : List Bool → State → ℕ → ℕ → ℕ → ℕ → ℕ → Type 0
 FindsIn lost state status dev old_dev pick old_pick =
     OfEachState (RefusesBoth status dev old_dev pick old_pick) (λ m. FindsWorkOf lost (state_of m).devices status dev old_dev pick old_pick) (λ l. FindsUnless (is_closed l.phase) lost (state_of l.machine).devices status dev old_dev pick old_pick)
-    (λ p. FindsWorkOf lost (parked_states p) status dev old_dev pick old_pick) (λ l. FindsUnless (is_closed l.phase) lost (parked_states l.parked) status dev old_dev pick old_pick) state
+    (λ p. FindsWorkOf lost (parked_states p) status dev old_dev pick old_pick) (λ l. FindsUnless (is_closed l.phase) lost (parked_states l.machine) status dev old_dev pick old_pick) state
 
 abbrev pub FindsWork : KeptSeen → ℕ → ℕ → ℕ → ℕ → ℕ → Type 0
 FindsWork k status dev old_dev pick old_pick = FindsIn k.lost k.state status dev old_dev pick old_pick

@@ -60,7 +60,7 @@ MeetsLiveParked (Some k) answer l dev next = (reply : LiveReply) × ServesParked
 
 abbrev pub MeetsLent : Place → DiskAnswer → LoanSeen → LoanSeen → Type 0
 MeetsLent place answer (StillLent p) (StillLent next) = MeetsParked (asker_lent p place) answer p place.dev next
-MeetsLent place answer (MovingLent l) (MovingLent next) = MeetsLiveParked (asker_lent l.parked place) answer l place.dev next
+MeetsLent place answer (MovingLent l) (MovingLent next) = MeetsLiveParked (asker_lent l.machine place) answer l place.dev next
 MeetsLent place answer _ _ = ⊥
 
 abbrev pub Meets : Place → DiskAnswer → State → Option (List Bool) → State → Option (List Bool) → Type 0

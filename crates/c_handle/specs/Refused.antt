@@ -29,12 +29,12 @@ pub record IsSameSent (l next : LiveSeen) : Type 0 where
 
 -- While RAM is lent: it is the same machine, whatever RAM holds meanwhile.
 pub record IsSameLent (p next : ParkedSeen) : Type 0 where
-  pub versions : next.versions ≡ p.versions
+  pub versions : next.memory ≡ p.memory
   pub machine : WhateverRam p (λ m. state_of (back_with next m) ≡ state_of (back_with p m))
 
 pub record IsSameSentLent (l next : LiveParkedSeen) : Type 0 where
-  pub parked : IsSameLent l.parked next.parked
-  pub rest : next ≡ record l { parked = next.parked }
+  pub parked : IsSameLent l.machine next.machine
+  pub rest : next ≡ record l { machine = next.machine }
 
 abbrev pub IsSameLoan : LoanSeen → LoanSeen → Type 0
 IsSameLoan (StillLent p) (StillLent next) = IsSameLent p next

@@ -60,7 +60,7 @@ shapes_in (Lent x) = made_in (parked_states (parked_in x))
 
 -- RAM that is lent has pages, as many as RAM may have.
 abbrev pub HasPages : State → Type 0
-HasPages (Lent x) = (1 ≤ length (parked_in x).versions) × (length (parked_in x).versions ≤ PAGES_GREATEST)
+HasPages (Lent x) = (1 ≤ length (parked_in x).memory) × (length (parked_in x).memory ≤ PAGES_GREATEST)
 HasPages _ = Unit {0}
 
 -- Why no device is reset: there is no machine, or it was stopped, and takes no event.

@@ -34,7 +34,7 @@ IsRoomOf (Some d) status room old = IsRoom (room_of d.kind) status room old
 abbrev pub RoomsKept : State → ℕ → ℕ → ℕ → ℕ → Type 0
 RoomsKept k dev status room old =
     OfEachState (Refuses status room old) (λ m. IsRoomOf (slice_get (state_of m).devices dev) status room old) (λ l. IsRoomOf (slice_get (state_of l.machine).devices dev) status room old)
-    (λ p. IsRoomOf (slice_get (parked_states p) dev) status room old) (λ l. IsRoomOf (slice_get (parked_states l.parked) dev) status room old) k
+    (λ p. IsRoomOf (slice_get (parked_states p) dev) status room old) (λ l. IsRoomOf (slice_get (parked_states l.machine) dev) status room old) k
 
 abbrev pub Rooms : Option KeptSeen → ℕ → ℕ → ℕ → ℕ → Type 0
 Rooms k dev status room old = OfHandle (Refuses status room old) (λ state. RoomsKept state dev status room old) k

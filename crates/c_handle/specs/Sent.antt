@@ -127,7 +127,7 @@ round_text reply = sent_in (a_round_end reply)
 
 -- The address at which RAM begins, while it is lent.
 abbrev pub lent_base : LiveParkedSeen → ℕ
-lent_base p = base_of (map (λ d. d.state) p.parked.devices)
+lent_base p = base_of (map (λ d. d.state) p.machine.devices)
 
 -- These events of the guest are added to the history, nothing is written meanwhile, and no pages but these are still to be named. By the
 -- history RAM holds what this region holds.
@@ -141,7 +141,7 @@ pub record GoesOnLentSent (m : MachineState) (h : History) (taken : List ℕ) (e
 -- are to be named too.
 abbrev pub LentStepsStaySent : Type 0
 LentStepsStaySent = (m : MachineState) (h : History) (taken pages : List ℕ) (wrote seen : List ℕ) (dev pick : ℕ) (reply : Reply) (effect : Effect) (before : Region) (p next : LiveParkedSeen) → IsSentLent m h taken pages before p
-    → StepsBeside p seen dev pick reply effect next → KeepsWord before (with_content before seen) (length p.parked.versions) wrote
+    → StepsBeside p seen dev pick reply effect next → KeepsWord before (with_content before seen) (length p.machine.memory) wrote
     → GoesOnLentSent m h taken (page_writes (lent_base p) wrote seen ++ Step dev pick ∷ []) (pages ++ wrote) (with_content before (set_all seen effect.writes)) next
 
 -- As above, and these bytes are written meanwhile.
@@ -163,7 +163,7 @@ FailedHandingsStaySent = (m : MachineState) (h : History) (taken pages : List �
 
 -- A sector that is sent while RAM is lent adds its record, as it lies on the disk; one that is not adds nothing but its refusal.
 abbrev pub LentSectorsStaySent : Type 0
-LentSectorsStaySent = (m : MachineState) (h : History) (taken pages : List ℕ) (dev n : ℕ) (content : Sector) (before : Region) (p next : LiveParkedSeen) → IsSentLent m h taken pages before p → sector_on (slice_get (parked_sectors p.parked) dev) n ≡ Some content
+LentSectorsStaySent = (m : MachineState) (h : History) (taken pages : List ℕ) (dev n : ℕ) (content : Sector) (before : Region) (p next : LiveParkedSeen) → IsSentLent m h taken pages before p → sector_on (slice_get (parked_sectors p.machine) dev) n ≡ Some content
     → CopiesLent p (r.Copied (items.Sector dev n)) next → SendsOnLent m h taken [] (spelled_record (sector dev n content)) pages before next
 
 abbrev pub UnsentSectorsStaySent : Type 0
@@ -182,9 +182,9 @@ LentMarksStaySent = (m : MachineState) (h : History) (taken pages marks : List �
 -- RAM that is given back by a caller that wrote into no page but these is as if the guest had written them by calls of the machine: so
 -- these writes are added to the history. What the caller names is still to be named no longer.
 abbrev pub LentComesBackSent : Type 0
-LentComesBackSent = (m : MachineState) (h : History) (taken pages : List ℕ) (before after : Region) (written named rest : List ℕ) (p : LiveParkedSeen) → IsSentLent m h taken pages before p → KeepsWord before after (length p.parked.versions) written
+LentComesBackSent = (m : MachineState) (h : History) (taken pages : List ℕ) (before after : Region) (written named rest : List ℕ) (p : LiveParkedSeen) → IsSentLent m h taken pages before p → KeepsWord before after (length p.machine.memory) written
     → AreAmong named written → AreAmong (pages ++ written) (named ++ rest)
-    → GoesOnSent m h taken (page_writes (lent_base p) written after.content) rest (live_back p (given_back after.content (address after) p.parked.versions named) named)
+    → GoesOnSent m h taken (page_writes (lent_base p) written after.content) rest (live_back p (given_back after.content (address after) p.machine.memory named) named)
 
 -- So is a mark: it adds writes of the pages that it names with the bytes that lie there.
 abbrev pub MarksStaySent : Type 0

@@ -1,6 +1,6 @@
 //! The devices of a machine, whether its RAM is here or lent: what is asked of them needs none.
 
-use machine::{DeviceState, Disk, Machine, Parked, Work};
+use machine::{DeviceState, Disk, GuestRam, MachineOver, Work};
 
 /// A machine, or one whose RAM is lent.
 pub(crate) trait Devices {
@@ -21,27 +21,10 @@ pub(crate) trait Devices {
         ensures { result ≡ next_work_with_lost (states self.now) lost.now last };
 }
 
-impl<D: Disk> Devices for Machine<D> {
-    ghost use Rattle.machine.specs.Seen.{state_of};
+impl<D: Disk, M: GuestRam> Devices for MachineOver<D, M> {
+    ghost use Rattle.machine.specs.Seen.{states_of};
 
-    ghost states = { λ m. (state_of m).devices };
-
-    fn device(&self, dev: u8) -> Option<&DeviceState> {
-        if dev as usize >= self.shapes().len() {
-            return None;
-        }
-        Some(self.state(dev))
-    }
-
-    fn next_step(&self, last: Work, lost: &[bool]) -> Option<Work> {
-        self.next_work_with_lost(last, lost)
-    }
-}
-
-impl<D: Disk> Devices for Parked<D> {
-    ghost use Rattle.machine.specs.Parked.{parked_states};
-
-    ghost states = { parked_states };
+    ghost states = { λ m. states_of m };
 
     fn device(&self, dev: u8) -> Option<&DeviceState> {
         if dev as usize >= self.shapes().len() {

@@ -28,7 +28,7 @@ fn drops_in(kept: &Kept, dev: u8, off: u32, width: u8, value: u32) -> bool
         },
         still_lent(parked) => parked.drops_requests(dev, off, width, value),
         moving_lent(live) => {
-            !has_stopped(live.phase()) && live.parked().drops_requests(dev, off, width, value)
+            !has_stopped(live.phase()) && live.machine().drops_requests(dev, off, width, value)
         },
         arriving(_) => false,
     )

@@ -6,8 +6,7 @@
 ghost use Rattle.std.specs.Prelude.{◌≡◌, length};
 ghost use Rattle.c_handle.specs.HandingIn.{AsksNext, HandsKept, HandsPage, IsTold, NextKept, here_status, page_refusal};
 ghost use Rattle.c_handle.specs.Migrated.{send_refusal};
-ghost use Rattle.machine.specs.Layout.{pages_of};
-ghost use Rattle.sender.specs.LiveState.{now};
+ghost use Rattle.sender.specs.HereOrLent.{pages_in};
 
 use crate::kept::{Kept, by_state};
 use crate::migrating::send_refusal;
@@ -16,7 +15,7 @@ use crate::status::mig_status;
 use c_machine::status::{
     DONE, NOT_LENT, NOT_NEXT, NOT_SENDING, OUT_OF_RAM, ROUND_DONE, SECTORS, STOPPED,
 };
-use machine::Disk;
+use machine::{Disk, GuestRam};
 use sender::{LiveOver, LiveParked, NextDue, Phase};
 use wire::Digesting;
 
@@ -28,24 +27,14 @@ pub fn send_next(kept: &Kept, page: &mut u32) -> u32
         still(_) => NOT_SENDING,
         moving(live) => next_status(live, page),
         still_lent(_) => NOT_SENDING,
-        moving_lent(live) => next_status_lent(live, page),
+        moving_lent(live) => next_status(live, page),
     )
 }
 
+/// The same whether its RAM is here or lent.
 #[tactic(auto, using(crate::proofs::HandingIn::next_refused, crate::proofs::HandingIn::next_told))]
-fn next_status<D: Disk, W: Digesting>(live: &LiveOver<D, W>, page: &mut u32) -> u32
-    ensures { AsksNext (pages_of (now live.now)) live.now.phase live.now.due result page.new page.old }
-{
-    if let Some(status) = send_refusal(live.phase()) {
-        return status;
-    }
-    tell_next(live.next_item(), page)
-}
-
-/// As above, while its RAM is lent.
-#[tactic(auto, using(crate::proofs::HandingIn::next_refused, crate::proofs::HandingIn::next_told))]
-fn next_status_lent<D: Disk, W: Digesting>(live: &LiveParked<D, W>, page: &mut u32) -> u32
-    ensures { AsksNext (length live.now.parked.versions) live.now.phase live.now.due result page.new page.old }
+fn next_status<D: Disk, W: Digesting, M: GuestRam>(live: &LiveOver<D, W, M>, page: &mut u32) -> u32
+    ensures { AsksNext (pages_in (M.known live.now.machine.memory)) live.now.phase live.now.due result page.new page.old }
 {
     if let Some(status) = send_refusal(live.phase()) {
         return status;

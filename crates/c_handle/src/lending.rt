@@ -25,7 +25,7 @@ use c_machine::status::{
     BAD_RAM, DONE, LENT, NO_MACHINE, NO_MEMORY, NOT_KNOWN, NOT_LENT, NOT_YOURS, STOPPED,
 };
 use c_machine::{Pages, put_back, taken_ram};
-use guestmem::{NoLog, PAGE_SIZE};
+use guestmem::{NoLog, PAGE_SIZE, Ram};
 use machine::{Disk, Machine, Parked};
 use region::{Region, Slot};
 use sender::{LiveOver, LiveParked};
@@ -122,8 +122,8 @@ fn lent_still<D: Disk>(machine: Machine<D>) -> Result<(Region, Parked<D>), Machi
 
 /// Lends the RAM of a machine that is being migrated.
 fn lent_live<D: Disk, W: Digesting>(
-    live: LiveOver<D, W>,
-) -> Result<(Region, LiveParked<D, W>), LiveOver<D, W>>
+    live: LiveOver<D, W, Ram>,
+) -> Result<(Region, LiveParked<D, W>), LiveOver<D, W, Ram>>
     ensures lent { IfOk result (λ r. IsLiveLoan live r.0 r.1) }
     ensures own { IfErr result (λ l. live.machine.memory.place ≡ None) }
     ensures same { IfErr result (λ l. l ≡ live) }
@@ -248,8 +248,8 @@ fn back_in<D: Disk>(old: Contents<D>, ram: &mut Slot, pages: &[u32]) -> Contents
 }
 
 fn back_from<D: Disk>(loan: Loan<D>, region: Region, pages: &[u32]) -> Contents<D>
-    requires size { length region.content ≡ PAGE_SIZE * length (parked_in (loan_of loan)).versions }
-    requires below { are_pages (length (parked_in (loan_of loan)).versions) pages.now ≡ true }
+    requires size { length region.content ≡ PAGE_SIZE * length (parked_in (loan_of loan)).memory }
+    requires below { are_pages (length (parked_in (loan_of loan)).memory) pages.now ≡ true }
     ensures back { IsBackWith (loan_of loan) region pages.now (state_in result) }
     ensures told { told_in result ≡ loan_told loan }
 {

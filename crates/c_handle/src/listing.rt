@@ -67,7 +67,7 @@ fn durable_in(kept: &Kept, dev: u8, call: DiskCall) -> u8
         still(machine) => durable_of(machine, dev, call),
         moving(live) => durable_of(live.machine(), dev, call),
         still_lent(parked) => durable_of(parked, dev, call),
-        moving_lent(live) => durable_of(live.parked(), dev, call),
+        moving_lent(live) => durable_of(live.machine(), dev, call),
         arriving(_) => 0,
     )
 }

@@ -37,8 +37,8 @@ impl<D: Disk> Loan<D> {
     {
         match self {
             Loan::Still(parked) => parked,
-            Loan::Moving(live) => live.parked(),
-            Loan::Told(live) => live.parked(),
+            Loan::Moving(live) => live.machine(),
+            Loan::Told(live) => live.machine(),
         }
     }
 

@@ -19,7 +19,7 @@ ghost use Rattle.sender.specs.Logged.{ServesLogged};
 ghost use Rattle.c_handle.specs.Kept.{FitsLog, first_log};
 
 use c_machine::asks_log;
-use guestmem::NoMemory;
+use guestmem::{NoMemory, Ram};
 use machine::{Disk, Machine, PageLog, Refusal, Reply, Stepped};
 use sender::{LiveOver, MigError};
 use std::alloc::Global;
@@ -81,7 +81,7 @@ pub(crate) fn stepped<D: Disk>(
 
 /// As above, for a machine that is being migrated.
 pub(crate) fn live_stepped<D: Disk, W: Digesting>(
-    live: &mut LiveOver<D, W>,
+    live: &mut LiveOver<D, W, Ram>,
     dev: u8,
     pick: u8,
     output: &mut Output,
@@ -137,7 +137,7 @@ pub(crate) fn gave<D: Disk>(
 
 /// As above, for a machine that is being migrated.
 pub(crate) fn live_gave<D: Disk, W: Digesting>(
-    live: &mut LiveOver<D, W>,
+    live: &mut LiveOver<D, W, Ram>,
     dev: u8,
     pick: u8,
     bytes: &[u8],
@@ -156,7 +156,7 @@ pub(crate) fn live_gave<D: Disk, W: Digesting>(
 
 /// As `written`, for a machine that is being migrated.
 pub(crate) fn live_written<D: Disk, W: Digesting>(
-    live: &mut LiveOver<D, W>,
+    live: &mut LiveOver<D, W, Ram>,
     addr: u64,
     bytes: &[u8],
     log: &mut Option<PageLog>,

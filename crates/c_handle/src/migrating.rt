@@ -4,7 +4,7 @@ ghost use Rattle.std.specs.Prelude.{◌≡◌, IfErr, IfOk, Some, [], drop, fals
 ghost use Rattle.dirtylog.specs.Members.{HasNone};
 ghost use Rattle.disk_calls.specs.Calls.{is_any_out};
 ghost use Rattle.sender.specs.LiveState.{HasPlaces};
-ghost use Rattle.sender.specs.StopBytes.{IsStopBytes, IsStopBytesLent};
+ghost use Rattle.sender.specs.HereOrLent.{IsStopBytesOver};
 ghost use Rattle.wire.specs.Sinks.{Covers, over_writer};
 ghost use Rattle.wire.specs.Telling.{is_owed};
 ghost use Rattle.c_handle.specs.Digest.{BeginsAs, TellsIf, TellsKept, told_begun};
@@ -23,7 +23,8 @@ use c_machine::status::{
     CALLS_OUT, DONE, LENT, NO_MACHINE, NO_MEMORY, NOT_ASKED, NOT_KNOWN, NOT_SENDING, ROUND_DONE,
     ROUND_OPEN, SEND_FAILED, STOPPED,
 };
-use machine::{Disk, Machine};
+use guestmem::Ram;
+use machine::{Disk, GuestRam, Machine};
 use sender::{End, Left, LiveOver, LiveParked, LiveTold, LiveWaiting, Phase, Stopped};
 use std::alloc::Global;
 use std::mem;
@@ -152,8 +153,8 @@ fn begun_told<D: Disk>(alloc: Global, machine: Machine<D>) -> Result<LiveTold<D>
 /// The first call of a migration.
 #[tactic(auto, using(crate::proofs::Migration::not_begun))]
 fn first_begun<D: Disk, W: Digesting + Drop>(
-    live: LiveOver<D, W>,
-) -> Result<LiveOver<D, W>, Machine<D>>
+    live: LiveOver<D, W, Ram>,
+) -> Result<LiveOver<D, W, Ram>, Machine<D>>
     requires fresh { live.phase ≡ Phase.Fresh }
     requires empty { HasNone live.due × HasNone live.dirty }
     requires digest { Covers live.digest [] }
@@ -172,7 +173,7 @@ fn first_begun<D: Disk, W: Digesting + Drop>(
 
 /// A call to begin for a machine that is already being migrated.
 #[tactic(auto, using(crate::proofs::Migration::begun_again))]
-fn begun_again<D: Disk, W: Digesting>(live: LiveOver<D, W>) -> (LiveOver<D, W>, u32)
+fn begun_again<D: Disk, W: Digesting>(live: LiveOver<D, W, Ram>) -> (LiveOver<D, W, Ram>, u32)
     ensures { IsAnswered live result.1 result.0 }
 {
     let mut live = live;
@@ -199,7 +200,7 @@ pub fn send_some(kept: &mut Kept, most: u32) -> u32
 
 /// Sends the least due item, at most `most` times, while there is one.
 #[tactic(auto, using(crate::proofs::Migration::some_refused, crate::proofs::Migration::some_sent))]
-fn some_status<D: Disk, W: Digesting>(live: &mut LiveOver<D, W>, most: u32) -> u32
+fn some_status<D: Disk, W: Digesting>(live: &mut LiveOver<D, W, Ram>, most: u32) -> u32
     ensures { SendsSome live.old most result live.new }
 {
     if let Some(status) = send_refusal(live.phase()) {
@@ -209,7 +210,7 @@ fn some_status<D: Disk, W: Digesting>(live: &mut LiveOver<D, W>, most: u32) -> u
 }
 
 #[tactic(auto, using(crate::proofs::Migration::none_left, crate::proofs::Migration::one_sent, crate::proofs::Migration::one_refused, crate::proofs::Migration::all_sent, crate::proofs::Migration::none_at_end))]
-fn send_up_to<D: Disk, W: Digesting>(live: &mut LiveOver<D, W>, most: u32) -> u32
+fn send_up_to<D: Disk, W: Digesting>(live: &mut LiveOver<D, W, Ram>, most: u32) -> u32
     ensures { SendsUpTo most live.old result live.new }
 {
     let mut left = most;
@@ -256,7 +257,7 @@ pub fn send_round(kept: &mut Kept) -> u32
 }
 
 #[tactic(auto, using(crate::proofs::Migration::ended))]
-fn round_status<D: Disk, W: Digesting>(live: &mut LiveOver<D, W>) -> u32
+fn round_status<D: Disk, W: Digesting>(live: &mut LiveOver<D, W, Ram>) -> u32
     ensures { HasEnded live.old result live.new }
 {
     live.recall();
@@ -283,7 +284,7 @@ pub fn stop(kept: &mut Kept, pages: &mut u64, sectors: &mut u64) -> u32
 
 fn stop_unless<D: Disk, W: Digesting>(
     out: bool,
-    live: &mut LiveOver<D, W>,
+    live: &mut LiveOver<D, W, Ram>,
     pages: &mut u64,
     sectors: &mut u64,
 ) -> u32
@@ -297,7 +298,7 @@ fn stop_unless<D: Disk, W: Digesting>(
 
 #[tactic(auto, using(crate::proofs::Migration::stopped))]
 fn stop_status<D: Disk, W: Digesting>(
-    live: &mut LiveOver<D, W>,
+    live: &mut LiveOver<D, W, Ram>,
     pages: &mut u64,
     sectors: &mut u64,
 ) -> u32
@@ -363,33 +364,24 @@ pub fn left(kept: &Kept, left: &mut SendLeft) -> u32
     )
 }
 
-fn tell_left<D: Disk, W: Digesting>(live: &LiveOver<D, W>, left: &mut SendLeft) -> u32
+fn tell_left<D: Disk, W: Digesting>(live: &LiveOver<D, W, Ram>, left: &mut SendLeft) -> u32
     ensures { IsLeft live.now result left.new }
 {
     let items = live.left();
     left_status(items, most_by_stop(live), left)
 }
 
-/// The most bytes that a stop would still write: none where it was made.
-fn most_by_stop<D: Disk, W: Digesting>(live: &LiveOver<D, W>) -> u64
-    ensures { IsMostByStop (is_closed live.now.phase) (IsStopBytes live.now) result }
-{
-    if has_stopped(live.phase()) {
-        return 0;
-    }
-    live.most_by_stop()
-}
-
+/// As above, while its RAM is lent.
 fn tell_left_lent<D: Disk, W: Digesting>(live: &LiveParked<D, W>, left: &mut SendLeft) -> u32
     ensures { IsLeftLent live.now result left.new }
 {
     let items = live.left();
-    left_status(items, most_by_stop_lent(live), left)
+    left_status(items, most_by_stop(live), left)
 }
 
-/// As above, while its RAM is lent.
-fn most_by_stop_lent<D: Disk, W: Digesting>(live: &LiveParked<D, W>) -> u64
-    ensures { IsMostByStop (is_closed live.now.phase) (IsStopBytesLent live.now) result }
+/// The most bytes that a stop would still write: none where it was made. The same whether its RAM is here or lent.
+fn most_by_stop<D: Disk, W: Digesting, M: GuestRam>(live: &LiveOver<D, W, M>) -> u64
+    ensures { IsMostByStop (is_closed live.now.phase) (IsStopBytesOver M.known live.now) result }
 {
     if has_stopped(live.phase()) {
         return 0;

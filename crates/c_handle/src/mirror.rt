@@ -188,7 +188,7 @@ fn push_page<D: Disk>(
 
 /// As `push_still`, for a machine that is being migrated.
 fn push_moving<D: Disk, W: Digesting>(
-    live: &mut LiveOver<D, W>,
+    live: &mut LiveOver<D, W, Ram>,
     pages: &[u32],
     ram: &[u8],
     seen: &mut [u64],
@@ -208,7 +208,7 @@ fn push_moving<D: Disk, W: Digesting>(
 
 #[tactic(auto, using(crate::proofs::PageLogs::may_all))]
 fn push_live_page<D: Disk, W: Digesting>(
-    live: &mut LiveOver<D, W>,
+    live: &mut LiveOver<D, W, Ram>,
     n: u32,
     ram: &[u8],
     seen: &mut [u64],

@@ -26,6 +26,7 @@ use crate::resetting::{state_refusal, stop_refusal};
 use blk::{DiskCall, SECTOR_SIZE, What};
 use c_machine::status::{CALL, DONE, IDLE, LENT, NOT_OUT, TOO_LONG, TOO_SMALL};
 use disk_calls::{Handed, Place, counts};
+use guestmem::Ram;
 use machine::{Disk, Machine, OutsideCall, PageLog, Parked};
 use sender::{LiveOver, LiveParked};
 use wire::Digesting;
@@ -297,7 +298,7 @@ fn counts_kept(kept: &Kept, place: Place) -> bool
         still(machine) => counts_of(machine, lost, place),
         moving(live) => counts_of(live.machine(), lost, place),
         still_lent(parked) => counts_of(parked, lost, place),
-        moving_lent(live) => counts_of(live.parked(), lost, place),
+        moving_lent(live) => counts_of(live.machine(), lost, place),
         arriving(_) => true,
     )
 }
@@ -406,7 +407,7 @@ fn meet_still<D: Disk>(
 
 /// As above, for a machine that is being migrated.
 fn meet_moving<D: Disk, W: Digesting>(
-    live: &mut LiveOver<D, W>,
+    live: &mut LiveOver<D, W, Ram>,
     place: Place,
     asker: Option<usize>,
     given: Given<'_>,
@@ -450,11 +451,11 @@ fn meet_lent<D: Disk>(loan: &mut Loan<D>, place: Place, calls: &CallsOut, given:
             meet_parked(parked, place, asker, given)
         }
         Loan::Moving(live) => {
-            let asker = calls.asker(live.parked(), place);
+            let asker = calls.asker(live.machine(), place);
             meet_live_parked(live, place, asker, given)
         }
         Loan::Told(live) => {
-            let asker = calls.asker(live.parked(), place);
+            let asker = calls.asker(live.machine(), place);
             meet_live_parked(live, place, asker, given)
         }
     }
@@ -496,13 +497,13 @@ fn meet_live_parked<D: Disk, W: Digesting>(
 )
     requires none { puts_bytes (answer_in given) ≡ false }
     requires there { place.dev < DEVICES_MAX }
-    requires asked { asker ≡ asker_lent lent.old.parked place }
+    requires asked { asker ≡ asker_lent lent.old.machine place }
     ensures { MeetsLiveParked asker (answer_in given.entry) lent.old place.dev lent.new }
 {
     let Some(k) = asker else {
         return;
     };
-    lent.parked().recall();
+    lent.machine().recall();
     let (dev, pick) = (place.dev as u8, k as u8 + 1);
     match given {
         Given::Bytes(_) => unreachable!(),

@@ -87,8 +87,8 @@ fn device_count(kept: &Kept) -> usize
             parked.shapes().len()
         },
         moving_lent(live) => {
-            live.parked().recall();
-            live.parked().shapes().len()
+            live.machine().recall();
+            live.machine().shapes().len()
         },
         arriving(_) => 0,
     )
@@ -104,7 +104,7 @@ fn shape_of(kept: &Kept, dev: u8) -> Shape
         still(machine) => machine.state(dev).shape(),
         moving(live) => live.machine().state(dev).shape(),
         still_lent(parked) => parked.state(dev).shape(),
-        moving_lent(live) => live.parked().state(dev).shape(),
+        moving_lent(live) => live.machine().state(dev).shape(),
         arriving(_) => unreachable!(),
     )
 }

@@ -18,7 +18,7 @@ pub fn room(kept: &Kept, dev: u8, room: &mut usize) -> u32
         still(machine) => room_status(machine, dev, room),
         moving(live) => room_status(live.machine(), dev, room),
         still_lent(parked) => room_status(parked, dev, room),
-        moving_lent(live) => room_status(live.parked(), dev, room),
+        moving_lent(live) => room_status(live.machine(), dev, room),
     )
 }
 

@@ -16,6 +16,7 @@ use crate::logging;
 use crate::logging::live_written;
 use crate::stepping::reply_status;
 use c_machine::status::{CALLS_OUT, DONE, answer_status, done_status, written_status};
+use guestmem::Ram;
 use machine::{Disk, Machine, PageLog};
 use sender::{LiveOver, LiveParked};
 use wire::Digesting;
@@ -24,7 +25,7 @@ use wire::Digesting;
 const NO_BYTE: u32 = 256;
 
 /// The driver reads a register.
-#[tactic(auto, using(crate::proofs::ByState::each_still, crate::proofs::ByState::each_moving, crate::proofs::ByState::each_still_lent, crate::proofs::ByState::each_moving_lent, crate::proofs::ByKept::told, crate::proofs::ByKept::served, crate::proofs::ByKept::few_told, crate::proofs::ByParked::told, crate::proofs::ByParked::served, crate::proofs::ByParked::few_told, crate::proofs::SamePages::applied, crate::proofs::SamePages::served, crate::proofs::SamePages::applied_lent, crate::proofs::SamePages::served_lent))]
+#[tactic(auto, using(crate::proofs::ByState::each_still, crate::proofs::ByState::each_moving, crate::proofs::ByState::each_still_lent, crate::proofs::ByState::each_moving_lent, crate::proofs::ByKept::told, crate::proofs::ByKept::served, crate::proofs::ByKept::few_told, crate::proofs::ByParked::told_read, crate::proofs::ByParked::served_read, crate::proofs::ByParked::few_told, crate::proofs::SamePages::applied, crate::proofs::SamePages::served, crate::proofs::SamePages::applied_lent, crate::proofs::SamePages::guest_lent))]
 pub fn read_register(kept: &mut Kept, dev: u8, off: u32, width: u8, value: &mut u32) -> u32
     ensures told { Tells kept.old.state (events.RegRead dev off width) result value.new value.old kept.new.state }
     ensures kind { kept.new ≡ record kept.old { state = kept.new.state } }
@@ -37,7 +38,7 @@ pub fn read_register(kept: &mut Kept, dev: u8, off: u32, width: u8, value: &mut 
         },
         still_lent(parked) => answer_status(parked.read_register(dev, off, width), value),
         moving_lent(live) => {
-            live.parked().recall();
+            live.machine().recall();
             reply_status(live.read_register(dev, off, width), value)
         },
     )
@@ -68,7 +69,7 @@ pub fn write_register(
 }
 
 /// As above, whatever is out; `out` becomes the byte, and stays where none comes out.
-#[tactic(auto, using(crate::proofs::ByState::each_still, crate::proofs::ByState::each_moving, crate::proofs::ByState::each_still_lent, crate::proofs::ByState::each_moving_lent, crate::proofs::ByKept::told, crate::proofs::ByKept::served, crate::proofs::ByKept::few_told, crate::proofs::ByParked::told, crate::proofs::ByParked::served, crate::proofs::ByParked::few_told, crate::proofs::SamePages::applied, crate::proofs::SamePages::served, crate::proofs::SamePages::applied_lent, crate::proofs::SamePages::served_lent))]
+#[tactic(auto, using(crate::proofs::ByState::each_still, crate::proofs::ByState::each_moving, crate::proofs::ByState::each_still_lent, crate::proofs::ByState::each_moving_lent, crate::proofs::ByKept::told, crate::proofs::ByKept::served, crate::proofs::ByKept::few_told, crate::proofs::ByParked::told_write, crate::proofs::ByParked::served_write, crate::proofs::ByParked::few_told, crate::proofs::SamePages::applied, crate::proofs::SamePages::served, crate::proofs::SamePages::applied_lent, crate::proofs::SamePages::guest_lent))]
 pub(crate) fn written(
     kept: &mut Kept,
     dev: u8,
@@ -88,7 +89,7 @@ pub(crate) fn written(
         },
         still_lent(parked) => written_status(parked.write_register(dev, off, width, value), out),
         moving_lent(live) => {
-            live.parked().recall();
+            live.machine().recall();
             reply_status(live.write_register(dev, off, width, value), out)
         },
     )
@@ -146,7 +147,7 @@ fn write_still<D: Disk>(
 
 #[tactic(auto, using(crate::proofs::PageLogs::may_all, crate::proofs::ByKept::written, crate::proofs::ByKept::few_logged))]
 fn write_moving<D: Disk, W: Digesting>(
-    live: &mut LiveOver<D, W>,
+    live: &mut LiveOver<D, W, Ram>,
     addr: u64,
     bytes: &[u8],
     log: &mut Option<PageLog>,
@@ -172,7 +173,7 @@ pub fn input(kept: &mut Kept, dev: u8, bytes: &[u8], count: &mut usize) -> u32
     status
 }
 
-#[tactic(auto, using(crate::proofs::ByState::each_still, crate::proofs::ByState::each_moving, crate::proofs::ByState::each_still_lent, crate::proofs::ByState::each_moving_lent, crate::proofs::ByKept::told, crate::proofs::ByKept::served, crate::proofs::ByKept::few_told, crate::proofs::ByParked::told, crate::proofs::ByParked::served, crate::proofs::ByParked::few_told, crate::proofs::SamePages::applied, crate::proofs::SamePages::served, crate::proofs::SamePages::applied_lent, crate::proofs::SamePages::served_lent))]
+#[tactic(auto, using(crate::proofs::ByState::each_still, crate::proofs::ByState::each_moving, crate::proofs::ByState::each_still_lent, crate::proofs::ByState::each_moving_lent, crate::proofs::ByKept::told, crate::proofs::ByKept::served, crate::proofs::ByKept::few_told, crate::proofs::ByParked::told_input, crate::proofs::ByParked::served_input, crate::proofs::ByParked::few_told, crate::proofs::SamePages::applied, crate::proofs::SamePages::served, crate::proofs::SamePages::applied_lent, crate::proofs::SamePages::guest_lent))]
 fn put_in(kept: &mut Kept, dev: u8, bytes: &[u8], accepted: &mut u32) -> u32
     ensures told { Tells kept.old.state (events.Input dev bytes.now) result accepted.new accepted.old kept.new.state }
     ensures kind { kept.new ≡ record kept.old { state = kept.new.state } }
@@ -185,14 +186,14 @@ fn put_in(kept: &mut Kept, dev: u8, bytes: &[u8], accepted: &mut u32) -> u32
         },
         still_lent(parked) => answer_status(parked.input(dev, bytes), accepted),
         moving_lent(live) => {
-            live.parked().recall();
+            live.machine().recall();
             reply_status(live.input(dev, bytes), accepted)
         },
     )
 }
 
 /// The host sets the size of a console.
-#[tactic(auto, using(crate::proofs::ByState::each_still, crate::proofs::ByState::each_moving, crate::proofs::ByState::each_still_lent, crate::proofs::ByState::each_moving_lent, crate::proofs::ByKept::told_so, crate::proofs::ByParked::told_so, crate::proofs::SamePages::applied, crate::proofs::ServedPages::served_so, crate::proofs::SamePages::applied_lent, crate::proofs::ServedPages::served_lent_so))]
+#[tactic(auto, using(crate::proofs::ByState::each_still, crate::proofs::ByState::each_moving, crate::proofs::ByState::each_still_lent, crate::proofs::ByState::each_moving_lent, crate::proofs::ByKept::told_so, crate::proofs::ByParked::told_resize, crate::proofs::SamePages::applied, crate::proofs::ServedPages::served_so, crate::proofs::SamePages::applied_lent, crate::proofs::ServedPages::served_lent_so))]
 pub fn resize(kept: &mut Kept, dev: u8, cols: u16, rows: u16) -> u32
     ensures told { TellsSo kept.old.state (events.Resize dev cols rows) result kept.new.state }
     ensures kind { kept.new ≡ record kept.old { state = kept.new.state } }
@@ -208,7 +209,7 @@ pub fn resize(kept: &mut Kept, dev: u8, cols: u16, rows: u16) -> u32
 /// As above, for a machine that is being migrated.
 #[tactic(auto, using(crate::proofs::ByKept::resized, crate::proofs::ByKept::few_told))]
 fn resize_moving<D: Disk, W: Digesting>(
-    live: &mut LiveOver<D, W>,
+    live: &mut LiveOver<D, W, Ram>,
     dev: u8,
     cols: u16,
     rows: u16,
@@ -229,12 +230,12 @@ fn resize_moving_lent<D: Disk, W: Digesting>(
 ) -> u32
     ensures { IsServedLent live.old (events.Resize dev cols rows) result 0 0 live.new }
 {
-    live.parked().recall();
+    live.machine().recall();
     reply_status(live.resize(dev, cols, rows), &mut 0)
 }
 
 /// The host drops what it put in and the guest has not taken.
-#[tactic(auto, using(crate::proofs::ByState::each_still, crate::proofs::ByState::each_moving, crate::proofs::ByState::each_still_lent, crate::proofs::ByState::each_moving_lent, crate::proofs::ByKept::told_so, crate::proofs::ByParked::told_so, crate::proofs::SamePages::applied, crate::proofs::ServedPages::served_so, crate::proofs::SamePages::applied_lent, crate::proofs::ServedPages::served_lent_so))]
+#[tactic(auto, using(crate::proofs::ByState::each_still, crate::proofs::ByState::each_moving, crate::proofs::ByState::each_still_lent, crate::proofs::ByState::each_moving_lent, crate::proofs::ByKept::told_so, crate::proofs::ByParked::told_drop, crate::proofs::SamePages::applied, crate::proofs::ServedPages::served_so, crate::proofs::SamePages::applied_lent, crate::proofs::ServedPages::served_lent_so))]
 pub fn drop_input(kept: &mut Kept, dev: u8) -> u32
     ensures told { TellsSo kept.old.state (events.Drop dev) result kept.new.state }
     ensures kind { kept.new ≡ record kept.old { state = kept.new.state } }
@@ -249,7 +250,7 @@ pub fn drop_input(kept: &mut Kept, dev: u8) -> u32
 
 /// As above, for a machine that is being migrated.
 #[tactic(auto, using(crate::proofs::ByKept::dropped, crate::proofs::ByKept::few_told))]
-fn drop_moving<D: Disk, W: Digesting>(live: &mut LiveOver<D, W>, dev: u8) -> u32
+fn drop_moving<D: Disk, W: Digesting>(live: &mut LiveOver<D, W, Ram>, dev: u8) -> u32
     ensures { IsServed live.old (Guest (events.Drop dev)) result 0 0 live.new }
 {
     live.recall();
@@ -261,6 +262,6 @@ fn drop_moving<D: Disk, W: Digesting>(live: &mut LiveOver<D, W>, dev: u8) -> u32
 fn drop_moving_lent<D: Disk, W: Digesting>(live: &mut LiveParked<D, W>, dev: u8) -> u32
     ensures { IsServedLent live.old (events.Drop dev) result 0 0 live.new }
 {
-    live.parked().recall();
+    live.machine().recall();
     reply_status(live.drop_input(dev), &mut 0)
 }

@@ -22,6 +22,7 @@ use crate::syncing::{fail_kept, owed_lost};
 use blk::SyncOwed;
 use c_machine::SENT_MAX;
 use c_machine::status::{IDLE, STOPPED, TOO_SMALL, status_of, step_status};
+use guestmem::Ram;
 use machine::{Disk, Kind, Machine, Reply, Stepped};
 use sender::{LiveOver, MigError};
 use wire::Digesting;
@@ -56,7 +57,7 @@ fn step_in(kept: &mut Kept, dev: u8, pick: u8, buf: &mut [u8], number: &mut u32)
 /// As above, for a machine that is being migrated.
 #[tactic(auto, using(crate::proofs::PageLogs::may_all, crate::proofs::ByKept::live_stepped, crate::proofs::ByKept::live_not_stepped))]
 fn live_step_status<D: Disk, W: Digesting>(
-    live: &mut LiveOver<D, W>,
+    live: &mut LiveOver<D, W, Ram>,
     dev: u8,
     pick: u8,
     output: &mut Output,

@@ -22,6 +22,7 @@ use crate::mirror::has_stopped;
 use crate::status::mig_status;
 use blk::SyncOwed;
 use c_machine::status::{DISK_FAILED, DONE, IDLE, NO_DEVICE, NO_MACHINE, STOPPED, WRONG_KIND};
+use guestmem::Ram;
 use machine::{Disk, Kind, Machine};
 use sender::LiveOver;
 use wire::Digesting;
@@ -51,7 +52,7 @@ fn owed<D: Disk>(machine: &Machine<D>, dev: u8, pick: u8) -> SyncOwed
 }
 
 /// As above, for a machine that is being migrated. One that was stopped makes no steps.
-fn owed_live<D: Disk, W: Digesting>(live: &LiveOver<D, W>, dev: u8, pick: u8) -> SyncOwed
+fn owed_live<D: Disk, W: Digesting>(live: &LiveOver<D, W, Ram>, dev: u8, pick: u8) -> SyncOwed
     ensures { result ≡ owed_unless (is_closed live.now.phase) (state_of live.now.machine) dev pick }
 {
     if has_stopped(live.phase()) {
@@ -80,7 +81,7 @@ fn loss_refusal(kept: &Kept, dev: u8) -> Option<u32>
         still(machine) => disk_refusal(false, machine, dev),
         moving(live) => disk_refusal(has_stopped(live.phase()), live.machine(), dev),
         still_lent(parked) => disk_refusal(false, parked, dev),
-        moving_lent(live) => disk_refusal(has_stopped(live.phase()), live.parked(), dev),
+        moving_lent(live) => disk_refusal(has_stopped(live.phase()), live.machine(), dev),
         arriving(_) => Some(NO_MACHINE),
     )
 }
@@ -131,7 +132,7 @@ fn fail_flush<D: Disk>(machine: &mut Machine<D>, dev: u8, pick: u8) -> u32
 
 /// As above, for a machine that is being migrated.
 #[tactic(auto, using(crate::proofs::Failing::live_failed, crate::proofs::Failing::live_not_failed, crate::proofs::Failing::live_refused))]
-fn fail_live_flush<D: Disk, W: Digesting>(live: &mut LiveOver<D, W>, dev: u8, pick: u8) -> u32
+fn fail_live_flush<D: Disk, W: Digesting>(live: &mut LiveOver<D, W, Ram>, dev: u8, pick: u8) -> u32
     ensures { FailsUnless (is_closed live.old.phase) live.old dev pick result live.new }
 {
     live.recall();

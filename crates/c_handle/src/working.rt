@@ -44,7 +44,7 @@ fn next_call(kept: &Kept) -> Option<u8>
         still(machine) => kept.calls.next_device(machine),
         moving(live) => kept.calls.next_device(live.machine()),
         still_lent(parked) => kept.calls.next_device(parked),
-        moving_lent(live) => kept.calls.next_device(live.parked()),
+        moving_lent(live) => kept.calls.next_device(live.machine()),
         arriving(_) => None,
     )
 }
@@ -58,7 +58,7 @@ pub(crate) fn next_step(kept: &Kept, dev: &mut u8, pick: &mut u8) -> u32
         still(machine) => found_status(false, machine, lost, dev, pick),
         moving(live) => found_status(has_stopped(live.phase()), live.machine(), lost, dev, pick),
         still_lent(parked) => found_status(false, parked, lost, dev, pick),
-        moving_lent(live) => found_status(has_stopped(live.phase()), live.parked(), lost, dev, pick),
+        moving_lent(live) => found_status(has_stopped(live.phase()), live.machine(), lost, dev, pick),
     )
 }
 
