@@ -1,5 +1,5 @@
 -- What is told of a machine whose RAM is lent.
-use Rattle.std.proofs.Common.{◌≡◌, ◌≤◌, ◌*◌, ℕ, List, refl, length, replicate}
+use Rattle.std.proofs.Common.{◌≡◌, ◌≤◌, ◌*◌, ℕ, List, refl, subst, length, replicate}
 use Rattle.std.specs.Prelude.{None, Result, Ok, Err, IfOk, slice_get}
 use Rattle.std.proofs.lemmas.List.{length-replicate}
 use Rattle.blk.proofs.Zeros.{zero_bytes}
@@ -38,43 +38,43 @@ pub applied_at : (p next : ParkedSeen) (e : Event) (reply : Reply) → 1 ≤ len
 applied_at p next e reply some few a = (a.applied (zero_ram p) (record { pages = length-replicate (4096 * length p.memory) 0; some = some; few = few }) (zero_bytes (4096 * length p.memory)) refl).applied
 
 -- A call whose clauses are said of a machine here or lent.
-told : (p next : ParkedSeen) (e : Event) (reply : Reply) (status number n : ℕ) → IsQuiet e → AppliesOver Lent p e reply next → sectors_in next ≡ sectors_in p → calls_in next ≡ calls_in p → status ≡ status_of reply → number ≡ number_of reply n → IsToldLent p e status number n next
-told p next e reply status number n quiet h sectors calls is counted = record { reply = reply; applied = applied_parked p next e reply quiet h sectors calls; status_is = is; number_is = counted }
+told : (p next : ParkedSeen) (e : Event) (reply : Reply) (status number n : ℕ) → IsQuiet e → status ≡ status_of reply → number ≡ number_of reply n → AppliesOver Lent p e reply next → sectors_in next ≡ sectors_in p → calls_in next ≡ calls_in p → IsToldLent p e status number n next
+told p next e reply status number n quiet is counted h sectors calls = record { reply = reply; applied = applied_parked p next e reply quiet h sectors calls; status_is = is; number_is = counted }
 
-pub told_read : (p : ParkedSeen) (dev off width : ℕ) (reply : Reply) (status number n : ℕ) → AppliesOver Lent p (RegRead dev off width) reply p → status ≡ status_of reply → number ≡ number_of reply n → IsToldLent p (RegRead dev off width) status number n p
-told_read p dev off width reply status number n h is counted = told p p (RegRead dev off width) reply status number n tt h refl refl is counted
+pub told_read : (p : ParkedSeen) (dev off width : ℕ) (reply : Reply) (status number n : ℕ) → status ≡ status_of reply → number ≡ number_of reply n → AppliesOver Lent p (RegRead dev off width) reply p → IsToldLent p (RegRead dev off width) status number n p
+told_read p dev off width reply status number n is counted h = told p p (RegRead dev off width) reply status number n tt is counted h refl refl
 
-pub told_write : (p next : ParkedSeen) (dev off width value : ℕ) (reply : Reply) (status number n : ℕ) → AppliesOver Lent p (RegWrite dev off width value) reply next → sectors_in next ≡ sectors_in p → calls_in next ≡ calls_in p → status ≡ status_of reply → number ≡ number_of reply n
+pub told_write : (p next : ParkedSeen) (dev off width value : ℕ) (reply : Reply) (status number n : ℕ) → status ≡ status_of reply → number ≡ number_of reply n → AppliesOver Lent p (RegWrite dev off width value) reply next → sectors_in next ≡ sectors_in p → calls_in next ≡ calls_in p
     → IsToldLent p (RegWrite dev off width value) status number n next
-told_write p next dev off width value reply status number n h sectors calls is counted = told p next (RegWrite dev off width value) reply status number n tt h sectors calls is counted
+told_write p next dev off width value reply status number n is counted h sectors calls = told p next (RegWrite dev off width value) reply status number n tt is counted h sectors calls
 
-pub told_input : (p next : ParkedSeen) (dev : ℕ) (bytes : List ℕ) (reply : Reply) (status number n : ℕ) → AppliesOver Lent p (Input dev bytes) reply next → sectors_in next ≡ sectors_in p → calls_in next ≡ calls_in p → status ≡ status_of reply → number ≡ number_of reply n
+pub told_input : (p next : ParkedSeen) (dev : ℕ) (bytes : List ℕ) (reply : Reply) (status number n : ℕ) → status ≡ status_of reply → number ≡ number_of reply n → AppliesOver Lent p (Input dev bytes) reply next → sectors_in next ≡ sectors_in p → calls_in next ≡ calls_in p
     → IsToldLent p (Input dev bytes) status number n next
-told_input p next dev bytes reply status number n h sectors calls is counted = told p next (Input dev bytes) reply status number n tt h sectors calls is counted
+told_input p next dev bytes reply status number n is counted h sectors calls = told p next (Input dev bytes) reply status number n tt is counted h sectors calls
 
-pub told_resize : (p next : ParkedSeen) (dev cols rows : ℕ) (answer : Result (Unit {0}) Refusal) (status : ℕ) → AppliesOver Lent p (Resize dev cols rows) (done_reply answer) next → sectors_in next ≡ sectors_in p → calls_in next ≡ calls_in p → status ≡ status_of (done_reply answer)
+pub told_resize : (p next : ParkedSeen) (dev cols rows : ℕ) (answer : Result (Unit {0}) Refusal) (status : ℕ) → status ≡ status_of (done_reply answer) → AppliesOver Lent p (Resize dev cols rows) (done_reply answer) next → sectors_in next ≡ sectors_in p → calls_in next ≡ calls_in p
     → IsToldLent p (Resize dev cols rows) status 0 0 next
-told_resize p next dev cols rows answer status h sectors calls is = told p next (Resize dev cols rows) (done_reply answer) status 0 0 tt h sectors calls is (no_number answer)
+told_resize p next dev cols rows answer status is h sectors calls = told p next (Resize dev cols rows) (done_reply answer) status 0 0 tt is (no_number answer) h sectors calls
 
-pub told_drop : (p next : ParkedSeen) (dev : ℕ) (answer : Result (Unit {0}) Refusal) (status : ℕ) → AppliesOver Lent p (Drop dev) (done_reply answer) next → sectors_in next ≡ sectors_in p → calls_in next ≡ calls_in p → status ≡ status_of (done_reply answer) → IsToldLent p (Drop dev) status 0 0 next
-told_drop p next dev answer status h sectors calls is = told p next (Drop dev) (done_reply answer) status 0 0 tt h sectors calls is (no_number answer)
+pub told_drop : (p next : ParkedSeen) (dev : ℕ) (answer : Result (Unit {0}) Refusal) (status : ℕ) → status ≡ status_of (done_reply answer) → AppliesOver Lent p (Drop dev) (done_reply answer) next → sectors_in next ≡ sectors_in p → calls_in next ≡ calls_in p → IsToldLent p (Drop dev) status 0 0 next
+told_drop p next dev answer status is h sectors calls = told p next (Drop dev) (done_reply answer) status 0 0 tt is (no_number answer) h sectors calls
 
 -- Of one that is sent.
-served : (l next : LiveParkedSeen) (e : Event) (answer : Result Reply MigError) (status number n : ℕ) → IsQuiet e → ServesOver Lent l e (guest_reply answer) next → LeavesRest l answer next → status ≡ live_status (guest_reply answer) → number ≡ live_number (guest_reply answer) n
+served : (l next : LiveParkedSeen) (e : Event) (answer : Result Reply MigError) (status number n : ℕ) → IsQuiet e → LeavesRest l answer next → ServesOver Lent l e (guest_reply answer) next → status ≡ live_status (guest_reply answer) → number ≡ live_number (guest_reply answer) n
     → IsServedLent l e status number n next
-served l next e answer status number n quiet h left is counted = record { reply = guest_reply answer; serves = served_parked l next e answer quiet h left; status_is = is; number_is = counted }
+served l next e answer status number n quiet left h is counted = record { reply = guest_reply answer; serves = served_parked l next e answer quiet h left; status_is = is; number_is = counted }
 
-pub served_read : (l : LiveParkedSeen) (dev off width : ℕ) (answer : Result Reply MigError) (status number n : ℕ) → ServesOver Lent l (RegRead dev off width) (guest_reply answer) l → LeavesRest l answer l → status ≡ live_status (guest_reply answer) → number ≡ live_number (guest_reply answer) n
+pub served_read : (l : LiveParkedSeen) (dev off width : ℕ) (answer : Result Reply MigError) (status number n : ℕ) → LeavesRest l answer l → ServesOver Lent l (RegRead dev off width) (guest_reply answer) l → status ≡ live_status (guest_reply answer) → number ≡ live_number (guest_reply answer) n
     → IsServedLent l (RegRead dev off width) status number n l
-served_read l dev off width answer status number n h left is counted = served l l (RegRead dev off width) answer status number n tt h left is counted
+served_read l dev off width answer status number n left h is counted = served l l (RegRead dev off width) answer status number n tt left h is counted
 
-pub served_write : (l next : LiveParkedSeen) (dev off width value : ℕ) (answer : Result Reply MigError) (status number n : ℕ) → ServesOver Lent l (RegWrite dev off width value) (guest_reply answer) next → LeavesRest l answer next → status ≡ live_status (guest_reply answer)
+pub served_write : (l next : LiveParkedSeen) (dev off width value : ℕ) (answer : Result Reply MigError) (status number n : ℕ) → LeavesRest l answer next → ServesOver Lent l (RegWrite dev off width value) (guest_reply answer) next → status ≡ live_status (guest_reply answer)
     → number ≡ live_number (guest_reply answer) n → IsServedLent l (RegWrite dev off width value) status number n next
-served_write l next dev off width value answer status number n h left is counted = served l next (RegWrite dev off width value) answer status number n tt h left is counted
+served_write l next dev off width value answer status number n left h is counted = served l next (RegWrite dev off width value) answer status number n tt left h is counted
 
-pub served_input : (l next : LiveParkedSeen) (dev : ℕ) (bytes : List ℕ) (answer : Result Reply MigError) (status number n : ℕ) → ServesOver Lent l (Input dev bytes) (guest_reply answer) next → LeavesRest l answer next → status ≡ live_status (guest_reply answer)
+pub served_input : (l next : LiveParkedSeen) (dev : ℕ) (bytes : List ℕ) (answer : Result Reply MigError) (status number n : ℕ) → LeavesRest l answer next → ServesOver Lent l (Input dev bytes) (guest_reply answer) next → status ≡ live_status (guest_reply answer)
     → number ≡ live_number (guest_reply answer) n → IsServedLent l (Input dev bytes) status number n next
-served_input l next dev bytes answer status number n h left is counted = served l next (Input dev bytes) answer status number n tt h left is counted
+served_input l next dev bytes answer status number n left h is counted = served l next (Input dev bytes) answer status number n tt left h is counted
 
 -- The event with zeros in RAM.
 served_at : (l next : LiveParkedSeen) (e : Event) (reply : Reply) → 1 ≤ length l.machine.memory → length l.machine.memory ≤ 4294967295 → ServesOver Lent l e (live.Guest reply) next → IsApplied (back_with l.machine (zero_ram l.machine)) e reply (back_with next.machine (zero_ram l.machine))
@@ -89,10 +89,14 @@ IsSoundBack p = WhateverRam p (λ m. IsSound (state_of (back_with p m)))
 sound_at : (p : ParkedSeen) → 1 ≤ length p.memory → length p.memory ≤ 4294967295 → IsSoundBack p → IsSound (state_of (back_with p (zero_ram p)))
 sound_at p some few sound = sound (zero_ram p) (record { pages = length-replicate (4096 * length p.memory) 0; some = some; few = few }) (zero_bytes (4096 * length p.memory)) refl
 
-pub few_told : (l next : LiveParkedSeen) (e : Event) (answer : Result Reply MigError) → 1 ≤ length l.machine.memory → length l.machine.memory ≤ 4294967295 → WhateverRam l.machine (λ m. IsSound (state_of (back_with l.machine m))) → ServesOver Lent l e (guest_reply answer) next
+pub few_told : (p : ParkedSeen) (l next : LiveParkedSeen) (e : Event) (answer : Result Reply MigError) → p ≡ l.machine → 1 ≤ length p.memory → length p.memory ≤ 4294967295 → WhateverRam p (λ m. IsSound (state_of (back_with p m))) → ServesOver Lent l e (guest_reply answer) next
     → IfOk answer (λ reply. length (sent_in reply) ≤ 65536)
-few_told l next e (Ok reply) some few sound h = few_by (back_with l.machine (zero_ram l.machine)) (back_with next.machine (zero_ram l.machine)) e reply (sound_at l.machine some few sound) (served_at l next e reply some few h)
-few_told l next e (Err x) some few sound h = tt
+few_told p l next e (Ok reply) is some few sound h =
+    let some_here : 1 ≤ length l.machine.memory = subst (λ (q : ParkedSeen). 1 ≤ length q.memory) is some in
+    let few_here : length l.machine.memory ≤ 4294967295 = subst (λ (q : ParkedSeen). length q.memory ≤ 4294967295) is few in
+    let sound_here : IsSoundBack l.machine = subst IsSoundBack is sound in
+    few_by (back_with l.machine (zero_ram l.machine)) (back_with next.machine (zero_ram l.machine)) e reply (sound_at l.machine some_here few_here sound_here) (served_at l next e reply some_here few_here h)
+few_told p l next e (Err x) is some few sound h = tt
 
 -- A size and a drop have no number.
 without : (l next : LiveParkedSeen) (e : Event) (answer : Result Reply MigError) → 1 ≤ length l.machine.memory → length l.machine.memory ≤ 4294967295
@@ -103,10 +107,10 @@ without l next e (Err x) some few none h = refl
 pub resized : (l next : LiveParkedSeen) (dev cols rows : ℕ) (answer : Result Reply MigError) (status : ℕ) → 1 ≤ length l.machine.memory → length l.machine.memory ≤ 4294967295 → ServesOver Lent l (Resize dev cols rows) (guest_reply answer) next → LeavesRest l answer next
     → status ≡ live_status (guest_reply answer) → IsServedLent l (Resize dev cols rows) status 0 0 next
 resized l next dev cols rows answer status some few h left told =
-    served l next (Resize dev cols rows) answer status 0 0 tt h left told
+    served l next (Resize dev cols rows) answer status 0 0 tt left h told
     (without l next (Resize dev cols rows) answer some few (λ r applied. rw (applied.has.reply_is) (size_number dev (slice_get (parked_states l.machine) dev) (record { columns = cols; rows = rows }))) h)
 
 pub dropped : (l next : LiveParkedSeen) (dev : ℕ) (answer : Result Reply MigError) (status : ℕ) → 1 ≤ length l.machine.memory → length l.machine.memory ≤ 4294967295 → ServesOver Lent l (Drop dev) (guest_reply answer) next → LeavesRest l answer next
     → status ≡ live_status (guest_reply answer) → IsServedLent l (Drop dev) status 0 0 next
 dropped l next dev answer status some few h left told =
-    served l next (Drop dev) answer status 0 0 tt h left told (without l next (Drop dev) answer some few (λ r applied. rw (applied.has.reply_is) (drop_number dev (slice_get (parked_states l.machine) dev))) h)
+    served l next (Drop dev) answer status 0 0 tt left h told (without l next (Drop dev) answer some few (λ r applied. rw (applied.has.reply_is) (drop_number dev (slice_get (parked_states l.machine) dev))) h)

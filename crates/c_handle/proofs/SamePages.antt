@@ -5,9 +5,7 @@ use Rattle.std.proofs.lemmas.Bool.Decides.{nat_tests}
 use Rattle.disk_calls.specs.declared.calls.Place.{Place}
 use Rattle.guestmem.specs.Memory.{IsMemory}
 use Rattle.machine.specs.Applied.{IsApplied}
-use Rattle.machine.specs.Known as known
-use Rattle.machine.specs.Over.{AppliesOver}
-use Rattle.machine.specs.Parked.{IsParked, ParkedSeen, machine_marked}
+use Rattle.machine.specs.Parked.{IsAppliedParked, IsParked, ParkedSeen, machine_marked}
 use Rattle.machine.specs.Seen.{Seen, state_of}
 use Rattle.machine.specs.Unsynced.{FailsFlushIf, makes_flush}
 use Rattle.machine.specs.declared.event.DiskAnswer.{DiskAnswer}
@@ -19,7 +17,6 @@ use Rattle.region.specs.declared.slot.Slot.{Slot}
 use Rattle.sender.proofs.AsTold.{served_shape}
 use Rattle.sender.proofs.Fresh.{same_as_it_is}
 use Rattle.sender.specs.Calls.{Serves}
-use Rattle.sender.specs.HereOrLent.{ServesOver}
 use Rattle.sender.specs.LiveState.{LiveSeen, now, refusal_for}
 use Rattle.sender.specs.Marks.{live_marked}
 use Rattle.sender.specs.Parked.{LiveParkedSeen, with_pages}
@@ -76,11 +73,8 @@ applied log places k m next e reply fits a is = fits_at log places k (Still m) (
 pub served : (log : Option (List Bool)) (places : ℕ) (k : State) (l next : LiveSeen) (e : LiveEvent) (reply : LiveReply) → FitsLog log (ram_in places k) → Serves l e reply next → k ≡ Moving l → FitsLog log (length next.machine.memory.bytes)
 served log places k l next e reply fits s is = fits_at log places k (Moving l) (Moving next) fits is (served_size l next e reply s)
 
-pub applied_lent : (log : Option (List Bool)) (places : ℕ) (k : State) (p next : ParkedSeen) (e : Event) (reply : Reply) → FitsLog log (ram_in places k) → AppliesOver known.Lent p e reply next → k ≡ Lent (StillLent p) → FitsLog log (4096 * length next.memory)
-applied_lent log places k p next e reply fits a is = fits_at log places k (Lent (StillLent p)) (Lent (StillLent next)) fits is (ap (λ (v : List ℕ). 4096 * length v) a.0)
-
-pub guest_lent : (log : Option (List Bool)) (places : ℕ) (k : State) (p next : LiveParkedSeen) (e : Event) (reply : LiveReply) → FitsLog log (ram_in places k) → ServesOver known.Lent p e reply next → k ≡ Lent (MovingLent p) → FitsLog log (4096 * length next.machine.memory)
-guest_lent log places k p next e reply fits s is = fits_at log places k (Lent (MovingLent p)) (Lent (MovingLent next)) fits is (ap (λ (v : List ℕ). 4096 * length v) s.0)
+pub applied_lent : (log : Option (List Bool)) (places : ℕ) (k : State) (p next : ParkedSeen) (e : Event) (reply : Reply) → FitsLog log (ram_in places k) → IsAppliedParked p e reply next → k ≡ Lent (StillLent p) → FitsLog log (4096 * length next.memory)
+applied_lent log places k p next e reply fits a is = fits_at log places k (Lent (StillLent p)) (Lent (StillLent next)) fits is (ap (λ (v : List ℕ). 4096 * length v) a.versions)
 
 pub served_lent : (log : Option (List Bool)) (places : ℕ) (k : State) (p next : LiveParkedSeen) (e : Event) (reply : LiveReply) → FitsLog log (ram_in places k) → ServesParked p e reply next → k ≡ Lent (MovingLent p) → FitsLog log (4096 * length next.machine.memory)
 served_lent log places k p next e reply fits s is = fits_at log places k (Lent (MovingLent p)) (Lent (MovingLent next)) fits is (ap (λ (v : List ℕ). 4096 * length v) (parked_size (refusal_for p.phase (Guest e)) p next e reply s))

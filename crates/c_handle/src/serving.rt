@@ -7,7 +7,7 @@ ghost use Rattle.machine.specs.declared.event.Event.TheVariants as events;
 ghost use Rattle.c_handle.specs.Dropping.{WritesReg};
 ghost use Rattle.c_handle.specs.Kept.{FitsLog};
 ghost use Rattle.sender.specs.declared.event.LiveEvent.TheVariants.{Guest};
-ghost use Rattle.c_handle.specs.Told.{IsServed, IsServedLent, IsServedWrite, IsWritten, ReadsKept, Tells, TellsOr, TellsSo, WritesKept, lines_in};
+ghost use Rattle.c_handle.specs.Told.{IsServed, IsServedLent, IsServedWrite, IsToldLent, IsWritten, ReadsKept, Tells, TellsOr, TellsSo, WritesKept, lines_in};
 ghost use Rattle.c_handle.specs.declared.serving.TheConstants.{NO_BYTE};
 
 use crate::dropping::drops_out;
@@ -17,7 +17,7 @@ use crate::logging::live_written;
 use crate::stepping::reply_status;
 use c_machine::status::{CALLS_OUT, DONE, answer_status, done_status, written_status};
 use guestmem::Ram;
-use machine::{Disk, Machine, PageLog};
+use machine::{Disk, Machine, PageLog, Parked};
 use sender::{LiveOver, LiveParked};
 use wire::Digesting;
 
@@ -25,7 +25,7 @@ use wire::Digesting;
 const NO_BYTE: u32 = 256;
 
 /// The driver reads a register.
-#[tactic(auto, using(crate::proofs::ByState::each_still, crate::proofs::ByState::each_moving, crate::proofs::ByState::each_still_lent, crate::proofs::ByState::each_moving_lent, crate::proofs::ByKept::told, crate::proofs::ByKept::served, crate::proofs::ByKept::few_told, crate::proofs::ByParked::told_read, crate::proofs::ByParked::served_read, crate::proofs::ByParked::few_told, crate::proofs::SamePages::applied, crate::proofs::SamePages::served, crate::proofs::SamePages::applied_lent, crate::proofs::SamePages::guest_lent))]
+#[tactic(auto, using(crate::proofs::ByState::each_still, crate::proofs::ByState::each_moving, crate::proofs::ByState::each_still_lent, crate::proofs::ByState::each_moving_lent, crate::proofs::ByKept::told, crate::proofs::ByKept::served, crate::proofs::ByKept::few_told, crate::proofs::SamePages::applied, crate::proofs::SamePages::served, crate::proofs::ServedPages::told_lent_so, crate::proofs::ServedPages::served_lent_so))]
 pub fn read_register(kept: &mut Kept, dev: u8, off: u32, width: u8, value: &mut u32) -> u32
     ensures told { Tells kept.old.state (events.RegRead dev off width) result value.new value.old kept.new.state }
     ensures kind { kept.new ≡ record kept.old { state = kept.new.state } }
@@ -36,12 +36,30 @@ pub fn read_register(kept: &mut Kept, dev: u8, off: u32, width: u8, value: &mut 
             live.recall();
             reply_status(live.read_register(dev, off, width), value)
         },
-        still_lent(parked) => answer_status(parked.read_register(dev, off, width), value),
-        moving_lent(live) => {
-            live.machine().recall();
-            reply_status(live.read_register(dev, off, width), value)
-        },
+        still_lent(parked) => read_lent(parked, dev, off, width, value),
+        moving_lent(live) => read_moving_lent(live, dev, off, width, value),
     )
+}
+
+/// So it does while RAM is lent.
+fn read_lent<D: Disk>(parked: &Parked<D>, dev: u8, off: u32, width: u8, value: &mut u32) -> u32
+    ensures { IsToldLent parked.now (events.RegRead dev off width) result value.new value.old parked.now }
+{
+    answer_status(parked.read_register(dev, off, width), value)
+}
+
+/// And of a machine that is being migrated.
+fn read_moving_lent<D: Disk, W: Digesting>(
+    live: &LiveParked<D, W>,
+    dev: u8,
+    off: u32,
+    width: u8,
+    value: &mut u32,
+) -> u32
+    ensures { IsServedLent live.now (events.RegRead dev off width) result value.new value.old live.now }
+{
+    live.machine().recall();
+    reply_status(live.read_register(dev, off, width), value)
 }
 
 /// The driver writes a register. `byte` becomes the byte that comes out by it, or 256, where none does. A write that would drop a request whose
@@ -69,7 +87,7 @@ pub fn write_register(
 }
 
 /// As above, whatever is out; `out` becomes the byte, and stays where none comes out.
-#[tactic(auto, using(crate::proofs::ByState::each_still, crate::proofs::ByState::each_moving, crate::proofs::ByState::each_still_lent, crate::proofs::ByState::each_moving_lent, crate::proofs::ByKept::told, crate::proofs::ByKept::served, crate::proofs::ByKept::few_told, crate::proofs::ByParked::told_write, crate::proofs::ByParked::served_write, crate::proofs::ByParked::few_told, crate::proofs::SamePages::applied, crate::proofs::SamePages::served, crate::proofs::SamePages::applied_lent, crate::proofs::SamePages::guest_lent))]
+#[tactic(auto, using(crate::proofs::ByState::each_still, crate::proofs::ByState::each_moving, crate::proofs::ByState::each_still_lent, crate::proofs::ByState::each_moving_lent, crate::proofs::ByKept::told, crate::proofs::ByKept::served, crate::proofs::ByKept::few_told, crate::proofs::SamePages::applied, crate::proofs::SamePages::served, crate::proofs::ServedPages::told_lent_so, crate::proofs::ServedPages::served_lent_so))]
 pub(crate) fn written(
     kept: &mut Kept,
     dev: u8,
@@ -87,12 +105,38 @@ pub(crate) fn written(
             live.recall();
             reply_status(live.write_register(dev, off, width, value), out)
         },
-        still_lent(parked) => written_status(parked.write_register(dev, off, width, value), out),
-        moving_lent(live) => {
-            live.machine().recall();
-            reply_status(live.write_register(dev, off, width, value), out)
-        },
+        still_lent(parked) => write_lent(parked, dev, off, width, value, out),
+        moving_lent(live) => write_moving_lent(live, dev, off, width, value, out),
     )
+}
+
+/// So it is while RAM is lent.
+fn write_lent<D: Disk>(
+    parked: &mut Parked<D>,
+    dev: u8,
+    off: u32,
+    width: u8,
+    value: u32,
+    out: &mut u32,
+) -> u32
+    ensures { IsToldLent parked.old (events.RegWrite dev off width value) result out.new out.old parked.new }
+{
+    written_status(parked.write_register(dev, off, width, value), out)
+}
+
+/// And of a machine that is being migrated.
+fn write_moving_lent<D: Disk, W: Digesting>(
+    live: &mut LiveParked<D, W>,
+    dev: u8,
+    off: u32,
+    width: u8,
+    value: u32,
+    out: &mut u32,
+) -> u32
+    ensures { IsServedLent live.old (events.RegWrite dev off width value) result out.new out.old live.new }
+{
+    live.machine().recall();
+    reply_status(live.write_register(dev, off, width, value), out)
 }
 
 /// The guest reads RAM. It takes no memory, also for a machine that is being migrated.
@@ -173,7 +217,7 @@ pub fn input(kept: &mut Kept, dev: u8, bytes: &[u8], count: &mut usize) -> u32
     status
 }
 
-#[tactic(auto, using(crate::proofs::ByState::each_still, crate::proofs::ByState::each_moving, crate::proofs::ByState::each_still_lent, crate::proofs::ByState::each_moving_lent, crate::proofs::ByKept::told, crate::proofs::ByKept::served, crate::proofs::ByKept::few_told, crate::proofs::ByParked::told_input, crate::proofs::ByParked::served_input, crate::proofs::ByParked::few_told, crate::proofs::SamePages::applied, crate::proofs::SamePages::served, crate::proofs::SamePages::applied_lent, crate::proofs::SamePages::guest_lent))]
+#[tactic(auto, using(crate::proofs::ByState::each_still, crate::proofs::ByState::each_moving, crate::proofs::ByState::each_still_lent, crate::proofs::ByState::each_moving_lent, crate::proofs::ByKept::told, crate::proofs::ByKept::served, crate::proofs::ByKept::few_told, crate::proofs::SamePages::applied, crate::proofs::SamePages::served, crate::proofs::ServedPages::told_lent_so, crate::proofs::ServedPages::served_lent_so))]
 fn put_in(kept: &mut Kept, dev: u8, bytes: &[u8], accepted: &mut u32) -> u32
     ensures told { Tells kept.old.state (events.Input dev bytes.now) result accepted.new accepted.old kept.new.state }
     ensures kind { kept.new ≡ record kept.old { state = kept.new.state } }
@@ -184,16 +228,33 @@ fn put_in(kept: &mut Kept, dev: u8, bytes: &[u8], accepted: &mut u32) -> u32
             live.recall();
             reply_status(live.input(dev, bytes), accepted)
         },
-        still_lent(parked) => answer_status(parked.input(dev, bytes), accepted),
-        moving_lent(live) => {
-            live.machine().recall();
-            reply_status(live.input(dev, bytes), accepted)
-        },
+        still_lent(parked) => input_lent(parked, dev, bytes, accepted),
+        moving_lent(live) => input_moving_lent(live, dev, bytes, accepted),
     )
 }
 
+/// So it is while RAM is lent.
+fn input_lent<D: Disk>(parked: &mut Parked<D>, dev: u8, bytes: &[u8], accepted: &mut u32) -> u32
+    ensures { IsToldLent parked.old (events.Input dev bytes.now) result accepted.new accepted.old parked.new }
+{
+    answer_status(parked.input(dev, bytes), accepted)
+}
+
+/// And of a machine that is being migrated.
+fn input_moving_lent<D: Disk, W: Digesting>(
+    live: &mut LiveParked<D, W>,
+    dev: u8,
+    bytes: &[u8],
+    accepted: &mut u32,
+) -> u32
+    ensures { IsServedLent live.old (events.Input dev bytes.now) result accepted.new accepted.old live.new }
+{
+    live.machine().recall();
+    reply_status(live.input(dev, bytes), accepted)
+}
+
 /// The host sets the size of a console.
-#[tactic(auto, using(crate::proofs::ByState::each_still, crate::proofs::ByState::each_moving, crate::proofs::ByState::each_still_lent, crate::proofs::ByState::each_moving_lent, crate::proofs::ByKept::told_so, crate::proofs::ByParked::told_resize, crate::proofs::SamePages::applied, crate::proofs::ServedPages::served_so, crate::proofs::SamePages::applied_lent, crate::proofs::ServedPages::served_lent_so))]
+#[tactic(auto, using(crate::proofs::ByState::each_still, crate::proofs::ByState::each_moving, crate::proofs::ByState::each_still_lent, crate::proofs::ByState::each_moving_lent, crate::proofs::ByKept::told_so, crate::proofs::SamePages::applied, crate::proofs::ServedPages::served_so, crate::proofs::ServedPages::told_lent_so, crate::proofs::ServedPages::served_lent_so))]
 pub fn resize(kept: &mut Kept, dev: u8, cols: u16, rows: u16) -> u32
     ensures told { TellsSo kept.old.state (events.Resize dev cols rows) result kept.new.state }
     ensures kind { kept.new ≡ record kept.old { state = kept.new.state } }
@@ -201,7 +262,7 @@ pub fn resize(kept: &mut Kept, dev: u8, cols: u16, rows: u16) -> u32
     by_state!(&mut kept.held;
         still(machine) => done_status(machine.resize(dev, cols, rows)),
         moving(live) => resize_moving(live, dev, cols, rows),
-        still_lent(parked) => done_status(parked.resize(dev, cols, rows)),
+        still_lent(parked) => resize_lent(parked, dev, cols, rows),
         moving_lent(live) => resize_moving_lent(live, dev, cols, rows),
     )
 }
@@ -221,7 +282,7 @@ fn resize_moving<D: Disk, W: Digesting>(
 }
 
 /// So it is while its RAM is lent.
-#[tactic(auto, using(crate::proofs::ByParked::resized, crate::proofs::ByParked::few_told))]
+#[tactic(auto, using(crate::proofs::ByParked::resized))]
 fn resize_moving_lent<D: Disk, W: Digesting>(
     live: &mut LiveParked<D, W>,
     dev: u8,
@@ -234,8 +295,15 @@ fn resize_moving_lent<D: Disk, W: Digesting>(
     reply_status(live.resize(dev, cols, rows), &mut 0)
 }
 
+/// So it is of a machine that is not being migrated.
+fn resize_lent<D: Disk>(parked: &mut Parked<D>, dev: u8, cols: u16, rows: u16) -> u32
+    ensures { IsToldLent parked.old (events.Resize dev cols rows) result 0 0 parked.new }
+{
+    done_status(parked.resize(dev, cols, rows))
+}
+
 /// The host drops what it put in and the guest has not taken.
-#[tactic(auto, using(crate::proofs::ByState::each_still, crate::proofs::ByState::each_moving, crate::proofs::ByState::each_still_lent, crate::proofs::ByState::each_moving_lent, crate::proofs::ByKept::told_so, crate::proofs::ByParked::told_drop, crate::proofs::SamePages::applied, crate::proofs::ServedPages::served_so, crate::proofs::SamePages::applied_lent, crate::proofs::ServedPages::served_lent_so))]
+#[tactic(auto, using(crate::proofs::ByState::each_still, crate::proofs::ByState::each_moving, crate::proofs::ByState::each_still_lent, crate::proofs::ByState::each_moving_lent, crate::proofs::ByKept::told_so, crate::proofs::SamePages::applied, crate::proofs::ServedPages::served_so, crate::proofs::ServedPages::told_lent_so, crate::proofs::ServedPages::served_lent_so))]
 pub fn drop_input(kept: &mut Kept, dev: u8) -> u32
     ensures told { TellsSo kept.old.state (events.Drop dev) result kept.new.state }
     ensures kind { kept.new ≡ record kept.old { state = kept.new.state } }
@@ -243,7 +311,7 @@ pub fn drop_input(kept: &mut Kept, dev: u8) -> u32
     by_state!(&mut kept.held;
         still(machine) => done_status(machine.drop_input(dev)),
         moving(live) => drop_moving(live, dev),
-        still_lent(parked) => done_status(parked.drop_input(dev)),
+        still_lent(parked) => drop_lent(parked, dev),
         moving_lent(live) => drop_moving_lent(live, dev),
     )
 }
@@ -258,10 +326,17 @@ fn drop_moving<D: Disk, W: Digesting>(live: &mut LiveOver<D, W, Ram>, dev: u8) -
 }
 
 /// So it is while its RAM is lent.
-#[tactic(auto, using(crate::proofs::ByParked::dropped, crate::proofs::ByParked::few_told))]
+#[tactic(auto, using(crate::proofs::ByParked::dropped))]
 fn drop_moving_lent<D: Disk, W: Digesting>(live: &mut LiveParked<D, W>, dev: u8) -> u32
     ensures { IsServedLent live.old (events.Drop dev) result 0 0 live.new }
 {
     live.machine().recall();
     reply_status(live.drop_input(dev), &mut 0)
+}
+
+/// So it is of a machine that is not being migrated.
+fn drop_lent<D: Disk>(parked: &mut Parked<D>, dev: u8) -> u32
+    ensures { IsToldLent parked.old (events.Drop dev) result 0 0 parked.new }
+{
+    done_status(parked.drop_input(dev))
 }
