@@ -1,6 +1,7 @@
 -- A stream whose host tells its digest, part by part.
 use Rattle.std.proofs.Common.{◌≡◌, ◌≤◌, ◌+◌, ◌∙◌, ℕ, Bool, true, false, List, [], ◌∷◌, ◌++◌, length, take, drop, refl, sym, ap, subst, append_assoc, arith, inl, inr}
-use Rattle.std.specs.Prelude.{Option, Some, None}
+use Rattle.std.specs.Prelude.{Option, Some, None, Err}
+use Rattle.sha2.specs.Sha256.{sha256}
 use Rattle.std.proofs.Math.Seq.{take-add}
 use Rattle.std.proofs.lemmas.List.{append-nil, drop-drop, length-drop, take-append-drop}
 use Rattle.receiver.specs.declared.receiver.Fed.{Fed}
@@ -11,8 +12,8 @@ use Rattle.c_handle.specs.AdmissionSeen.{AdmissionSeen, Granted, Pending, Denied
 use Rattle.c_handle.specs.ArrivalSeen.{ArrivalSeen, AtHead, AtBody, Refused, Over}
 use Rattle.c_handle.specs.Arriving.{refused_before, taken_status}
 use Rattle.c_handle.specs.Awaited.{HasCome, IsClosed, RefusesUntouched, TellsOf, TellsWhole, stream_status}
-use Rattle.c_handle.specs.ToldArrival.{DueAfter, IsBefore, IsDueAt, digested}
-use Rattle.c_handle.specs.ToldFeeding.{FeedsFront, IsPast, RefusesPart, TakesFirst, TakesPart, TakesParts, TakingsCome, joined}
+use Rattle.c_handle.specs.ToldArrival.{ClosesRight, DueAfter, IsBefore, IsDueAt, MeetsRecordAt, digested}
+use Rattle.c_handle.specs.ToldFeeding.{ClosesTold, FeedsFront, IsPast, RefusesPart, TakesFirst, TakesPart, TakesParts, TakingsCome, joined}
 
 -- Parts, one after another.
 both : (ps qs : List (List ℕ)) (admission let_in after : AdmissionSeen) (r mid next : ArrivalSeen) → TakesParts ps admission r let_in mid → TakesParts qs let_in mid after next → TakesParts (ps ++ qs) admission r after next
@@ -162,3 +163,15 @@ admitted_fine (Denied first) after part h = cc
 admitted_fine (Pending allowed expected held) (Granted pages shapes) part h = refl
 admitted_fine (Pending allowed expected held) (Pending kept shapes bytes) part h = refl
 admitted_fine (Pending allowed expected held) (Denied first) part h = absurd h
+
+-- The record that closes the stream was refused.
+pub closed_badly : (admission let_in after : AdmissionSeen) (r next : ArrivalSeen) (digest piece : List ℕ) (status : ℕ) (error : RecvError) (told : Option ℕ) → told ≡ None → Admits admission piece told let_in → MeetsRecordAt r digest piece (Err error)
+    → (digest ≡ sha256 (digested r) → ClosesRight r piece (Err error) next) → IsClosed r next → status ≡ stream_status error → after ≡ Denied status → ClosesTold admission r digest piece status after next
+closed_badly admission let_in after r next digest piece status error told none admits meets right closed is denied =
+    let admitted : Admits admission piece None let_in = subst (λ (o : Option ℕ). Admits admission piece o let_in) none admits in
+    record {
+      right = λ same.
+      let c : ClosesRight r piece (Err error) next = right same in
+      inr (inl (record { let_in = let_in; admitted = admitted; error = error; why = c.refused.0; untouched = c.untouched; status_is = is; failed = closed; denied = denied }));
+      any = inl (record { let_in = let_in; admitted = admitted; compared = inr (record { error = error; meets = meets; status_is = is; closed = closed; denied = denied }) });
+    }

@@ -2,11 +2,11 @@
 
 ghost use Rattle.c_handle.specs.Migrated.{HasEndedLent, SectorsUpTo, SendsSomeLent};
 
-use crate::migrating::send_refusal;
+use crate::migrating::{ended_status, send_refusal};
 use crate::status::mig_status;
-use c_machine::status::{DONE, LENT, ROUND_DONE, ROUND_OPEN};
+use c_machine::status::{DONE, LENT, ROUND_DONE};
 use machine::Disk;
-use sender::{End, LiveParked, SectorAnswer};
+use sender::{LiveParked, SectorAnswer};
 use wire::Digesting;
 
 /// Sends the least due item, at most `most` times, while it is a sector.
@@ -44,13 +44,8 @@ fn sectors_up_to<D: Disk, W: Digesting>(live: &mut LiveParked<D, W>, most: u32) 
 }
 
 /// Ends a round.
-#[tactic(auto, using(crate::proofs::LentSending::ended))]
 pub(crate) fn round_status_lent<D: Disk, W: Digesting>(live: &mut LiveParked<D, W>) -> u32
     ensures { HasEndedLent live.old result live.new }
 {
-    match live.end_round() {
-        Ok(End::Begun(_)) => DONE,
-        Ok(End::RoundOpen) => ROUND_OPEN,
-        Err(error) => mig_status(error),
-    }
+    ended_status(live.end_round())
 }

@@ -3,6 +3,7 @@
 ghost use Rattle.std.specs.Prelude.{◌≡◌, IfErr, IfOk, Some, [], drop, false, take, true};
 ghost use Rattle.dirtylog.specs.Members.{HasNone};
 ghost use Rattle.disk_calls.specs.Calls.{is_any_out};
+ghost use Rattle.sender.specs.Calls.{ended_reply};
 ghost use Rattle.sender.specs.LiveState.{HasPlaces};
 ghost use Rattle.sender.specs.HereOrLent.{IsStopBytesOver};
 ghost use Rattle.wire.specs.Sinks.{Covers, over_writer};
@@ -10,6 +11,7 @@ ghost use Rattle.wire.specs.Telling.{is_owed};
 ghost use Rattle.c_handle.specs.Digest.{BeginsAs, TellsIf, TellsKept, told_begun};
 ghost use Rattle.c_handle.specs.Mirror.{is_closed};
 ghost use Rattle.c_handle.specs.Migrated.{AbortsKept, AreTold, BeginsKept, EndsKept, HasBegun, HasEnded, HasStopped, HasTaken, IsAnswered, IsLeft, IsLeftLent, IsMostByStop, LeavesKept, SendsKept, SendsSome, SendsUpTo, StopsKept, StopsUnless, TakesKept, send_refusal, told_aborted};
+ghost use Rattle.c_handle.specs.SendStatus.{live_status};
 ghost use Rattle.c_handle.specs.Kept.{are_mapped, are_told, held_state, state_in, telling_of, told_in};
 ghost use Rattle.c_handle.specs.Kept as states;
 
@@ -25,7 +27,7 @@ use c_machine::status::{
 };
 use guestmem::Ram;
 use machine::{Disk, GuestRam, Machine};
-use sender::{End, Left, LiveOver, LiveParked, LiveTold, LiveWaiting, Phase, Stopped};
+use sender::{End, Left, LiveOver, LiveParked, LiveTold, LiveWaiting, MigError, Phase, Stopped};
 use std::alloc::Global;
 use std::mem;
 use wire::{Digesting, Waiting};
@@ -256,12 +258,18 @@ pub fn send_round(kept: &mut Kept) -> u32
     )
 }
 
-#[tactic(auto, using(crate::proofs::Migration::ended))]
 fn round_status<D: Disk, W: Digesting>(live: &mut LiveOver<D, W, Ram>) -> u32
     ensures { HasEnded live.old result live.new }
 {
     live.recall();
-    match live.end_round() {
+    ended_status(live.end_round())
+}
+
+/// What the end of a round came to, whether RAM is here or lent.
+pub(crate) fn ended_status(ended: Result<End, MigError>) -> u32
+    ensures { result ≡ live_status (ended_reply ended) }
+{
+    match ended {
         Ok(End::Begun(_)) => DONE,
         Ok(End::RoundOpen) => ROUND_OPEN,
         Err(error) => mig_status(error),

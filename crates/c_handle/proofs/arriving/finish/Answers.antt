@@ -12,6 +12,12 @@ invariant_of-kept-else-status-ne-DONE c =
     let ends : FinishesState (held_state k.held) c.finished_in-next.result.1 (held_state c.replace.new.dest) = rw (c.replace.ensures.after, ← c.taken_out.ensures) c.finished_in-next.ensures.ends in
     ended_fits k.output.written k.asked.places (held_state k.held) (held_state c.replace.new.dest) c.finished_in-next.result.1 c.kept.invariant (sym c.outgrows.ensures ∙ c.if-outgrows.false) ends
 
+pub invariant_of-kept-then-status-ne-DONE-2 : goal.invariant_of-kept-then-status-ne-DONE-2
+invariant_of-kept-then-status-ne-DONE-2 c =
+    let k = c.kept.inside in
+    let ends : FinishesState (held_state k.held) c.finished_in-next.result.1 (held_state c.replace.new.dest) = rw (c.replace.ensures.after, ← c.taken_out.ensures) c.finished_in-next.ensures.ends in
+    ended_fits k.output.written k.asked.places (held_state k.held) (held_state c.replace.new.dest) c.finished_in-next.result.1 c.kept.invariant (sym c.outgrows.ensures ∙ c.if-outgrows.false) ends
+
 pub returns-then-status-ne-DONE-clause-finishes : goal.returns-then-status-ne-DONE-clause-finishes
 returns-then-status-ne-DONE-clause-finishes c =
     let k = c.kept.inside in
