@@ -171,7 +171,7 @@ closed_badly admission let_in after r next digest piece status error told none a
     let admitted : Admits admission piece None let_in = subst (λ (o : Option ℕ). Admits admission piece o let_in) none admits in
     record {
       right = λ same.
-      let c : ClosesRight r piece (Err error) next = right same in
-      inr (inl (record { let_in = let_in; admitted = admitted; error = error; why = c.refused.0; untouched = c.untouched; status_is = is; failed = closed; denied = denied }));
+          let c : ClosesRight r piece (Err error) next = right same in
+          inr (inl (record { let_in = let_in; admitted = admitted; error = error; why = c.refused.0; untouched = c.untouched; status_is = is; failed = closed; denied = denied }));
       any = inl (record { let_in = let_in; admitted = admitted; compared = inr (record { error = error; meets = meets; status_is = is; closed = closed; denied = denied }) });
     }
